@@ -1,0 +1,85 @@
+-- How the code holds a mesh and its blends while it works. Only contracts of functions that the crate keeps to itself cite this file.
+use Prim.Native.Nat.{ℕ, _+_, _*_, _-_, _/_, _%_, _<_, _≤_}
+use mathlib.Core.Path.{_≡_}
+use mathlib.Core.Bool.{Bool, true, cond, _&&_, _||_, not}
+use mathlib.Core.List.{List, [], _∷_}
+use lib.Dec.{ltb, leb, eqb}
+use lib.ListN.{length, getD, set, replicate}
+use Rattle.mesh.specs.Range.{each, only}
+use Rattle.mesh.specs.Triple.{triple}
+use Rattle.mesh.specs.Lines.{Direction, upright, level, Mesh}
+use Rattle.mesh.specs.Blends.{blend}
+use Rattle.mesh.specs.Sound.{proper, overSquare}
+use Rattle.mesh.specs.declared.Triple.{Triple}
+use Rattle.mesh.specs.declared.Blend.{Blend}
+
+-- Knots are 0 to 130, so a square table of 131 by 131 has a place for each pair of them.
+abbrev pub at : ℕ → ℕ → ℕ
+at i j = i * 131 + j
+
+abbrev pub Square : List ℕ → Type 0
+Square xs = length xs ≡ 17161
+
+-- the lines of one direction in bytes: the step from knot k, at knot z, is byte `at z k`, and is on where that is not 0
+unfoldable pub stepOn : List ℕ → ℕ → ℕ → Bool
+stepOn bytes z k = ltb z 131 && ltb k 131 && not (eqb (getD bytes (at z k) 0) 0)
+
+unfoldable pub bytesMesh : List ℕ → List ℕ → Mesh
+bytesMesh uprights levels upright = stepOn uprights
+bytesMesh uprights levels level = stepOn levels
+
+-- a triple rises within knots 0 to 130; so do both of a blend
+pub record Rises (t : Triple) : Type 0 where
+  pub low : t .l < t .m
+  pub high : t .m < t .r
+  pub most : t .r ≤ 130
+
+pub record Proper (B : Blend) : Type 0 where
+  pub across : Rises (B .across)
+  pub up : Rises (B .up)
+
+-- Blends by their anchors: the place of an anchor holds 0, or the support of the blend that has it.
+abbrev pub place : Blend → ℕ
+place B = at (B .across .m) (B .up .m)
+
+abbrev pub packed : Blend → ℕ
+packed B = ((B .across .l * 256 + B .across .r) * 256 + B .up .l) * 256 + B .up .r
+
+unfoldable pub unpacked : ℕ → ℕ → ℕ → Blend
+unpacked m n c = blend (triple (c / 16777216) m (c / 65536 % 256)) (triple (c / 256 % 256) n (c % 256))
+
+-- A blend is kept at its anchor's place. Place 0, which no anchor has, becomes 1 where two different blends meet.
+unfoldable pub keep : List ℕ → Blend → List ℕ
+keep places B =
+    cond (eqb (getD places (place B) 0) 0) (set places (place B) (packed B))
+    (cond (eqb (getD places (place B) 0) (packed B)) places (set places 0 1))
+
+unfoldable pub keepAll : List ℕ → List Blend → List ℕ
+keepAll places [] = places
+keepAll places (B ∷ bs) = keepAll (keep places B) bs
+
+abbrev pub empty : List ℕ
+empty = replicate 17161 0
+
+-- the blend at a place, if any; and all of them, in table order
+abbrev pub kept : List ℕ → ℕ → ℕ → List Blend
+kept places m n = cond (eqb (getD places (at m n) 0) 0) [] (unpacked m n (getD places (at m n) 0) ∷ [])
+
+unfoldable pub walk : ℕ → ℕ → List ℕ → List Blend
+walk w h places = each 1 (w + 1) (λ m. each 1 (h + 1) (λ n. kept places m n))
+
+-- what drawing a line from knot `from` to knot `to` at knot z does to the bytes of its direction
+pub record Drawn (before after : List ℕ) (z from to : ℕ) : Type 0 where
+  pub square : Square after
+  pub on : (y k : ℕ) → stepOn after y k ≡ (stepOn before y k || (eqb y z && leb from k && ltb k to))
+
+-- places that hold nothing but proper blends of a map of these sides
+pub record Holding (w h : ℕ) (places : List ℕ) : Type 0 where
+  pub square : Square places
+  pub holds : (m n : ℕ) → 1 ≤ m → m ≤ w + 1 → 1 ≤ n → n ≤ h + 1 → (getD places (at m n) 0 ≡ 0 → ⊥) →
+      proper w h (unpacked m n (getD places (at m n) 0)) ≡ true
+
+-- how many of the blends lie over each unit square of the domain
+abbrev pub Counted : ℕ → ℕ → List Blend → List ℕ → Type 0
+Counted w h bs counts =
+    (x y : ℕ) → 1 ≤ x → x ≤ w → 1 ≤ y → y ≤ h → getD counts (at x y) 0 ≡ length (only (overSquare x y) bs)

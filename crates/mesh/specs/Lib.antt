@@ -1,0 +1,9 @@
+pub mod Range
+pub mod Triple
+pub mod Lines
+pub mod Blends
+pub mod Order
+pub mod Sound
+pub mod Weight
+pub mod Bytes
+pub mod Examples

@@ -1,0 +1,66 @@
+-- Document 01, "Blends": a sound map; and what the functions on tables of blends answer.
+use Prim.Native.Nat.{ℕ, _+_, _-_}
+use mathlib.Core.Bool.{Bool, true, false, cond, _&&_, not}
+use mathlib.Core.List.{List, [], _∷_, _++_}
+use lib.Dec.{leb, eqb}
+use lib.ListN.{length, take, replicate}
+use Rattle.mesh.specs.Range.{every, all, only}
+use Rattle.mesh.specs.Triple.{triple, rising, spans, between}
+use Rattle.mesh.specs.Lines.{meshOf, allowed}
+use Rattle.mesh.specs.Blends.{blend, same, refine, firstFour}
+use Rattle.mesh.specs.declared.Blend.{Blend}
+use Rattle.mesh.specs.declared.Lines.{Lines}
+use Rattle.mesh.specs.declared.Table.{Table}
+use Rattle.mesh.specs.declared.Refined.{Refined}
+
+-- the unit square whose low corner is at knots (x, y) lies in the blend's support
+abbrev pub overSquare : ℕ → ℕ → Blend → Bool
+overSquare x y B = spans x (B .across) && spans y (B .up)
+
+-- "every unit square of the domain lies in the supports of exactly four live blends"
+unfoldable pub fourEverywhere : ℕ → ℕ → List Blend → Bool
+fourEverywhere w h bs = every 1 w (λ x. every 1 h (λ y. eqb (length (only (overSquare x y) bs)) 4))
+
+-- the anchor of B lies strictly inside the support of C, another blend
+abbrev pub nested : Blend → Blend → Bool
+nested B C = not (same B C) && between (B .across .m) (C .across) && between (B .up .m) (C .up)
+
+-- "no live blend's anchor lies strictly inside another's support"
+unfoldable pub noneNested : List Blend → Bool
+noneNested bs = all (λ B. all (λ C. not (nested B C)) bs) bs
+
+-- "A map is sound when …", of its sides and its live blends
+unfoldable pub sound : ℕ → ℕ → List Blend → Bool
+sound w h bs = fourEverywhere w h bs && noneNested bs
+
+-- both triples rise and lie within −1 to side + 1
+abbrev pub proper : ℕ → ℕ → Blend → Bool
+proper w h B = rising w (B .across) && rising h (B .up)
+
+-- a table of blends as a struct: its count, the blends, and zeros in all unused places
+abbrev pub none : Blend
+none = blend (triple 0 0 0) (triple 0 0 0)
+
+unfoldable pub table : List Blend → Table
+table bs = record { count = length bs; blends = bs ++ replicate (1024 - length bs) none }
+
+abbrev pub blendsOf : Table → List Blend
+blendsOf t = take (t .count) (t .blends)
+
+-- the answer on a list of blends in table order: their table, where they make a sound map and a table holds them
+unfoldable pub answer : ℕ → ℕ → List Blend → Refined
+answer w h bs =
+    cond (sound w h bs && leb (length bs) 1024)
+    (record { sound = true; table = table bs })
+    (record { sound = false; table = table [] })
+
+-- What is left of the blends of a table when the lines cut them; nothing where the lines or the blends are out of range.
+unfoldable pub refined : Lines → Table → Refined
+refined L t =
+    let found = answer (L .w) (L .h) (refine (L .w) (L .h) (meshOf L) (blendsOf t)) in
+    cond (allowed L && leb (t .count) 1024 && all (proper (L .w) (L .h)) (blendsOf t)) found
+    (record { sound = false; table = table [] })
+
+-- the live blends of a map, cut anew from the first four
+unfoldable pub liveTable : Lines → Refined
+liveTable L = refined L (table (firstFour (L .w) (L .h)))

@@ -1,0 +1,44 @@
+// Lines and blends: the first of the three layers.
+//
+// A knot is a line's position, kept shifted by one: knot k is document 01's coordinate k - 1, so that its -1 is 0.
+
+// One axis of a blend: its three knots, rising.
+pub struct Triple {
+    pub l: usize,
+    pub m: usize,
+    pub r: usize,
+}
+
+// A blend: its triples across and up. Its anchor is the two middles, its support the two outer pairs.
+pub struct Blend {
+    pub across: Triple,
+    pub up: Triple,
+}
+
+// A split as drawn, in document 01's own coordinates: direction 0 upright, 1 level; before run-out.
+pub struct Split {
+    pub direction: usize,
+    pub position: usize,
+    pub from: usize,
+    pub to: usize,
+}
+
+// The lines of a map: its sides W and H, and the first `count` of the splits.
+pub struct Lines {
+    pub w: usize,
+    pub h: usize,
+    pub count: usize,
+    pub splits: [Split; 60],
+}
+
+// Blends in table order; places from `count` on are zero.
+pub struct Table {
+    pub count: usize,
+    pub blends: [Blend; 1024],
+}
+
+// Whether the blends are those of a sound map, and if so their table; else an empty one.
+pub struct Refined {
+    pub sound: bool,
+    pub table: Table,
+}
