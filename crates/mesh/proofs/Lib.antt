@@ -1,3 +1,5 @@
 pub mod Tests
 pub mod Bytes
 pub mod Distinct
+pub mod Tables
+pub mod Places

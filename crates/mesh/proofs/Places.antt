@@ -1,0 +1,281 @@
+-- Blends kept by their anchors: what the places hold after some blends were kept, and that walking them gives the table.
+use Prim.Native.Nat.{ℕ, zero, suc, _+_, _-_, _*_, _/_, _%_, _≤_, _<_}
+use native.Mathlib.Omega.{arith}
+use mathlib.Core.Path.{_≡_, refl, sym, ap, subst, _∙_}
+use mathlib.Core.Logic.{_⊎_, inl, inr, ⊎-elim}
+use mathlib.Core.Bool.{Bool, true, false, cond, _&&_, not}
+use mathlib.Core.List.{List, [], _∷_, _++_, List·Memᴰ, List·Memᴰ·cases-cons, List·Memᴰ·not-nil}
+use mathlib.Core.List.List·Memᴰ.{List·Memᴰ·head, List·Memᴰ·tail}
+use borrow.Author.Tests.{not-true, eqb-true, eqb-false, eq-eqb, ne-eqb, ltb-true, leb-true, lt-ltb, le-leb}
+use lib.Dec.{eqb, ltb, leb}
+use lib.ListN.{length, getD, set, length-set, length-replicate, getD-replicate}
+use lib.Seq.{getD-set-same, getD-set-other}
+use Rattle.mesh.specs.Range.{each, only, all}
+use Rattle.mesh.specs.Triple.{triple, rising, between}
+use Rattle.mesh.specs.Blends.{blend, same, once, anchored, inTableOrder}
+use Rattle.mesh.specs.Sound.{proper, nested, noneNested, sound, fourEverywhere}
+use Rattle.mesh.specs.Bytes.{at, Square, place, packed, unpacked, keep, keepAll, empty, kept, walk, Holding}
+use Rattle.mesh.specs.declared.Triple.{Triple}
+use Rattle.mesh.specs.declared.Blend.{Blend}
+use Rattle.mesh.proofs.Tests.{either, true-not-false, and-both, and-of, false-of, all-at, only-mem, mem-only, cond-true, cond-false}
+use Rattle.mesh.proofs.Distinct.{Distinct}
+use Rattle.mesh.proofs.Tables.{Anchored, anchored-at, same-blend, once-mem, mem-once, once-distinct, only-distinct, singleton, nothing, each-same, mem-order}
+
+-- the facts of `rising` and `proper`
+pub record Rises (side : ℕ) (t : Triple) : Type 0 where
+  pub low : t .l < t .m
+  pub high : t .m < t .r
+  pub most : t .r ≤ side + 2
+
+pub rising-facts : (side : ℕ) (t : Triple) → rising side t ≡ true → Rises side t
+rising-facts side t e =
+    let a = and-both (ltb (t .l) (t .m) && ltb (t .m) (t .r)) (leb (t .r) (side + 2)) e in
+    let b = and-both (ltb (t .l) (t .m)) (ltb (t .m) (t .r)) (a .0) in
+    record { low = ltb-true _ _ (b .0); high = ltb-true _ _ (b .1); most = leb-true _ _ (a .1) }
+
+pub rising-of : (side : ℕ) (t : Triple) → Rises side t → rising side t ≡ true
+rising-of side t r = rw (lt-ltb (t .l) (t .m) (r .low), lt-ltb (t .m) (t .r) (r .high), le-leb (t .r) (side + 2) (r .most))
+
+pub record ProperIn (w h : ℕ) (B : Blend) : Type 0 where
+  pub across : Rises w (B .across)
+  pub up : Rises h (B .up)
+
+pub proper-facts : (w h : ℕ) (B : Blend) → proper w h B ≡ true → ProperIn w h B
+proper-facts w h B e =
+    let b = and-both (rising w (B .across)) (rising h (B .up)) e in
+    record { across = rising-facts w (B .across) (b .0); up = rising-facts h (B .up) (b .1) }
+
+pub proper-of : (w h : ℕ) (B : Blend) → ProperIn w h B → proper w h B ≡ true
+proper-of w h B p = and-of _ _ (rising-of w (B .across) (p .across)) (rising-of h (B .up) (p .up))
+
+pub proper-anchored : (w h : ℕ) (B : Blend) → ProperIn w h B → Anchored w h B
+proper-anchored w h B p =
+    let a = p .across in
+    let u = p .up in
+    record { left = omega arith; right = omega arith; bottom = omega arith; top = omega arith }
+
+-- a packed support unpacks
+divides : (a b c d : ℕ) → b < 256 → c < 256 → d < 256 → let x = ((a * 256 + b) * 256 + c) * 256 + d in
+    (x / 16777216 ≡ a) × (x / 65536 % 256 ≡ b) × (x / 256 % 256 ≡ c) × (x % 256 ≡ d)
+divides a b c d hb hc hd = (omega arith, omega arith, omega arith, omega arith)
+
+pub unpack-packed : (w h : ℕ) → w ≤ 128 → h ≤ 128 → (B : Blend) → ProperIn w h B → unpacked (B .across .m) (B .up .m) (packed B) ≡ B
+unfolding unpacked
+unpack-packed w h hw hh B p =
+    let a = p .across in
+    let u = p .up in
+    let e = divides (B .across .l) (B .across .r) (B .up .l) (B .up .r) (omega arith) (omega arith) (omega arith) in
+    λ i. record { across = record { l = e .0 i; m = B .across .m; r = e .1 i }; up = record { l = e .2 i; m = B .up .m; r = e .3 i } }
+
+pub packed-positive : (B : Blend) → 0 < B .up .r → packed B ≡ 0 → ⊥
+packed-positive B h e = omega arith
+
+-- `at` is one-to-one on knots
+pub at-inj : (i j k l : ℕ) → j < 131 → l < 131 → at i j ≡ at k l → (i ≡ k) × (j ≡ l)
+at-inj i j k l hj hl e = (omega arith, omega arith)
+
+-- What the places say of the blends that were kept.
+pub record Kept (w h : ℕ) (places : List ℕ) (ds : List Blend) : Type 0 where
+  pub square : Square places
+  pub good : (B : Blend) → List·Memᴰ B ds → ProperIn w h B
+  -- while no two different blends met, each blend is at its place, and nothing else is
+  pub found : getD places 0 0 ≡ 0 → (B : Blend) → List·Memᴰ B ds → getD places (place B) 0 ≡ packed B
+  pub from : getD places 0 0 ≡ 0 → (m n : ℕ) → 1 ≤ m → n < 131 → (getD places (at m n) 0 ≡ 0 → ⊥) →
+      (B : Blend) × List·Memᴰ B ds × (B .across .m ≡ m) × (B .up .m ≡ n)
+  -- otherwise two different ones have one anchor
+  pub met : (getD places 0 0 ≡ 0 → ⊥) →
+      (B C : Blend) × List·Memᴰ B ds × List·Memᴰ C ds × (B ≡ C → ⊥) × (B .across .m ≡ C .across .m) × (B .up .m ≡ C .up .m)
+
+nothing-kept : (w h : ℕ) → Kept w h empty []
+nothing-kept w h =
+    record {
+      square = length-replicate {A = ℕ} 17161 0;
+      good = λ B m. absurd (List·Memᴰ·not-nil m);
+      found = λ z B m. absurd (List·Memᴰ·not-nil m);
+      from = λ z m n lo hi ne. absurd (ne (in-empty (at m n)));
+      met = λ ne. absurd (ne (in-empty 0));
+    }
+  where
+    in-empty : (i : ℕ) → getD empty i 0 ≡ 0
+    in-empty i = ⊎-elim (λ t. getD-replicate 17161 i 0 0 (ltb-true i 17161 t)) (λ t. lib.ListN.List·getD-eq-default empty 0 (subst (λ (k : ℕ). k ≤ i) (sym (length-replicate {A = ℕ} 17161 0)) (borrow.Author.Tests.ltb-false i 17161 t))) (either (ltb i 17161))
+
+module _ (w h : ℕ) (hw : w ≤ 128) (hh : h ≤ 128) (T : List ℕ) (ds : List Blend) (K : Kept w h T ds) (B : Blend) (p : ProperIn w h B) where
+  in-square : place B < length T
+  in-square = let s = K .square in let a = p .across in let u = p .up in omega arith
+
+  not-first : place B ≡ 0 → ⊥
+  not-first e = let a = p .across in omega arith
+
+  positive : packed B ≡ 0 → ⊥
+  positive = packed-positive B (let u = p .up in omega arith)
+
+  all-good : (C : Blend) → List·Memᴰ C (B ∷ ds) → ProperIn w h C
+  all-good C m = ⊎-elim (λ q. subst (ProperIn w h) (sym q) p) (K .good C) (List·Memᴰ·cases-cons m)
+
+  flag : (v : ℕ) → getD (set T (place B) v) 0 0 ≡ getD T 0 0
+  flag v = getD-set-other T (place B) 0 v 0 (λ e. not-first (sym e))
+
+  -- the place is free
+  put : getD T (place B) 0 ≡ 0 → Kept w h (set T (place B) (packed B)) (B ∷ ds)
+  put free =
+      record {
+        square = length-set T (place B) (packed B) ∙ K .square;
+        good = all-good;
+        found = λ z C m. ⊎-elim (λ q. subst (λ (X : Blend). getD (set T (place B) (packed B)) (place X) 0 ≡ packed X) (sym q) (getD-set-same T (place B) (packed B) 0 in-square))
+            (λ k. let old = K .found (sym (flag (packed B)) ∙ z) C k in getD-set-other T (place B) (place C) (packed B) 0 (apart C (K .good C k) old) ∙ old) (List·Memᴰ·cases-cons m);
+        from = λ z m n lo hi ne.
+            ⊎-elim
+            (λ q. let e = at-inj m n (B .across .m) (B .up .m) hi (let u = p .up in omega arith) (eqb-true _ _ q) in (B, List·Memᴰ·head refl, sym (e .0), sym (e .1)))
+            (λ q. let r = K .from (sym (flag (packed B)) ∙ z) m n lo hi (λ e. ne (getD-set-other T (place B) (at m n) (packed B) 0 (eqb-false _ _ q) ∙ e)) in (r .0, List·Memᴰ·tail (r .1), r .2, r .3))
+            (either (eqb (at m n) (place B)));
+        met = λ ne. let r = K .met (λ e. ne (flag (packed B) ∙ e)) in (r .0, r .1, List·Memᴰ·tail (r .2), List·Memᴰ·tail (r .3), r .4, r .5, r .6);
+      }
+    where
+      apart : (C : Blend) → ProperIn w h C → getD T (place C) 0 ≡ packed C → place C ≡ place B → ⊥
+      apart C g e q = packed-positive C (let u = g .up in omega arith) (sym e ∙ ap (λ (i : ℕ). getD T i 0) q ∙ free)
+
+  -- the blend is there already
+  again : getD T (place B) 0 ≡ packed B → Kept w h T (B ∷ ds)
+  again e =
+      record {
+        square = K .square;
+        good = all-good;
+        found = λ z C m. ⊎-elim (λ q. subst (λ (X : Blend). getD T (place X) 0 ≡ packed X) (sym q) e) (K .found z C) (List·Memᴰ·cases-cons m);
+        from = λ z m n lo hi ne. let r = K .from z m n lo hi ne in (r .0, List·Memᴰ·tail (r .1), r .2, r .3);
+        met = λ ne. let r = K .met ne in (r .0, r .1, List·Memᴰ·tail (r .2), List·Memᴰ·tail (r .3), r .4, r .5, r .6);
+      }
+
+  -- another blend has the anchor
+  clash : (getD T (place B) 0 ≡ 0 → ⊥) → (getD T (place B) 0 ≡ packed B → ⊥) → Kept w h (set T 0 1) (B ∷ ds)
+  clash full differs =
+      record {
+        square = length-set T 0 1 ∙ K .square;
+        good = all-good;
+        found = λ z. absurd (raised z);
+        from = λ z. absurd (raised z);
+        met = λ ne. ⊎-elim new (λ q. let r = K .met (eqb-false _ _ q) in (r .0, r .1, List·Memᴰ·tail (r .2), List·Memᴰ·tail (r .3), r .4, r .5, r .6)) (either (eqb (getD T 0 0) 0));
+      }
+    where
+      raised : getD (set T 0 1) 0 0 ≡ 0 → ⊥
+      raised z = let s = K .square in let e = getD-set-same T 0 1 0 (omega arith) in omega arith
+
+      new : eqb (getD T 0 0) 0 ≡ true →
+          (X Y : Blend) × List·Memᴰ X (B ∷ ds) × List·Memᴰ Y (B ∷ ds) × (X ≡ Y → ⊥) × (X .across .m ≡ Y .across .m) × (X .up .m ≡ Y .up .m)
+      new q =
+          let z = eqb-true _ _ q in
+          let r = K .from z (B .across .m) (B .up .m) (let a = p .across in omega arith) (let u = p .up in omega arith) full in
+          (B, r .0, List·Memᴰ·head refl, List·Memᴰ·tail (r .1), λ e. differs (subst (λ (X : Blend). getD T (place X) 0 ≡ packed X) (sym e) (K .found z (r .0) (r .1))), sym (r .2), sym (r .3))
+
+  keep-one : Kept w h (keep T B) (B ∷ ds)
+  unfolding keep
+  keep-one =
+      ⊎-elim (λ e. rw e (put (eqb-true _ _ e)))
+      (λ e. rw e (⊎-elim (λ q. rw q (again (eqb-true _ _ q))) (λ q. rw q (clash (eqb-false _ _ e) (eqb-false _ _ q))) (either (eqb (getD T (place B) 0) (packed B)))))
+      (either (eqb (getD T (place B) 0) 0))
+
+-- the blends that were kept, the last one first
+abbrev seen : List Blend → List Blend → List Blend
+seen ds [] = ds
+seen ds (B ∷ bs) = seen (B ∷ ds) bs
+
+mem-seen : (ds bs : List Blend) (C : Blend) → List·Memᴰ C (seen ds bs) → List·Memᴰ C ds ⊎ List·Memᴰ C bs
+mem-seen ds [] C m = inl m
+mem-seen ds (B ∷ bs) C m =
+    ⊎-elim (λ k. ⊎-elim (λ q. inr (List·Memᴰ·head q)) (λ j. inl j) (List·Memᴰ·cases-cons k)) (λ k. inr (List·Memᴰ·tail k)) (mem-seen (B ∷ ds) bs C m)
+
+seen-mem : (ds bs : List Blend) (C : Blend) → List·Memᴰ C ds ⊎ List·Memᴰ C bs → List·Memᴰ C (seen ds bs)
+seen-mem ds [] C (inl m) = m
+seen-mem ds [] C (inr m) = absurd (List·Memᴰ·not-nil m)
+seen-mem ds (B ∷ bs) C (inl m) = seen-mem (B ∷ ds) bs C (inl (List·Memᴰ·tail m))
+seen-mem ds (B ∷ bs) C (inr m) =
+    ⊎-elim (λ q. seen-mem (B ∷ ds) bs C (inl (List·Memᴰ·head q))) (λ k. seen-mem (B ∷ ds) bs C (inr k)) (List·Memᴰ·cases-cons m)
+
+keep-seen : (w h : ℕ) → w ≤ 128 → h ≤ 128 → (T : List ℕ) (ds bs : List Blend) → Kept w h T ds →
+    ((C : Blend) → List·Memᴰ C bs → ProperIn w h C) → Kept w h (keepAll T bs) (seen ds bs)
+unfolding keepAll
+keep-seen w h hw hh T ds [] K p = K
+keep-seen w h hw hh T ds (B ∷ bs) K p =
+    keep-seen w h hw hh (keep T B) (B ∷ ds) bs (keep-one w h hw hh T ds K B (p B (List·Memᴰ·head refl))) (λ C m. p C (List·Memᴰ·tail m))
+
+module _ (w h : ℕ) (hw : w ≤ 128) (hh : h ≤ 128) (E : List ℕ) (blank : Kept w h E []) (ls : List Blend)
+    (p : (C : Blend) → List·Memᴰ C ls → ProperIn w h C) where
+  kept-all : Kept w h (keepAll E ls) (seen [] ls)
+  kept-all = keep-seen w h hw hh E [] ls blank p
+
+  of-list : (C : Blend) → List·Memᴰ C (seen [] ls) → List·Memᴰ C ls
+  of-list C m = ⊎-elim (λ k. absurd (List·Memᴰ·not-nil k)) (λ k. k) (mem-seen [] ls C m)
+
+  overlap : (B C : Blend) → (B ≡ C → ⊥) → B .across .m ≡ C .across .m → B .up .m ≡ C .up .m → ProperIn w h C → nested B C ≡ true
+  overlap B C ne q s pC =
+      let a = pC .across in
+      let u = pC .up in
+      rw (false-of (same B C) (λ e. ne (same-blend B C e)), q, s, lt-ltb _ _ (a .low), lt-ltb _ _ (a .high), lt-ltb _ _ (u .low), lt-ltb _ _ (u .high))
+
+  -- two different blends met: the map is not sound
+  pub met-unsound : (getD (keepAll E ls) 0 0 ≡ 0 → ⊥) → sound w h (inTableOrder w h (once ls)) ≡ false
+  unfolding sound noneNested
+  met-unsound ne =
+      let r = kept-all .met ne in
+      let mB = of-list (r .0) (r .2) in
+      let mC = of-list (r .1) (r .3) in
+      let inB = mem-order w h (once ls) (r .0) (mem-once ls (r .0) mB) (proper-anchored w h (r .0) (p (r .0) mB)) in
+      let inC = mem-order w h (once ls) (r .1) (mem-once ls (r .1) mC) (proper-anchored w h (r .1) (p (r .1) mC)) in
+      false-of _
+      (λ e.
+      let apart = and-both (fourEverywhere w h (inTableOrder w h (once ls))) (noneNested (inTableOrder w h (once ls))) e .1 in
+      let no = all-at (λ C. not (nested (r .0) C)) (inTableOrder w h (once ls)) (all-at (λ B. all (λ C. not (nested B C)) (inTableOrder w h (once ls))) (inTableOrder w h (once ls)) apart (r .0) inB) (r .1) inC in
+      true-not-false (nested (r .0) (r .1)) (overlap (r .0) (r .1) (r .4) (r .5) (r .6) (p (r .1) mC)) (not-true _ no))
+
+  -- while none met, a place that is taken holds a blend of the list, and each blend of the list is at its place
+  held : getD (keepAll E ls) 0 0 ≡ 0 → (m n : ℕ) (C : Blend) → List·Memᴰ C ls → C .across .m ≡ m → C .up .m ≡ n → getD (keepAll E ls) (at m n) 0 ≡ packed C
+  held z m n C k q s = subst (λ (i : ℕ). getD (keepAll E ls) i 0 ≡ packed C) (rw (q, s)) (kept-all .found z C (seen-mem [] ls C (inr k)))
+
+  holder : getD (keepAll E ls) 0 0 ≡ 0 → (m n : ℕ) → 1 ≤ m → n < 131 → (getD (keepAll E ls) (at m n) 0 ≡ 0 → ⊥) →
+      (B : Blend) × List·Memᴰ B ls × (B .across .m ≡ m) × (B .up .m ≡ n) × (unpacked m n (getD (keepAll E ls) (at m n) 0) ≡ B)
+  holder z m n lo hi ne =
+      let r = kept-all .from z m n lo hi ne in
+      let k = of-list (r .0) (r .1) in
+      (r .0, k, r .2, r .3, here (r .0) k (r .2) (r .3))
+    where
+      here : (B : Blend) → List·Memᴰ B ls → B .across .m ≡ m → B .up .m ≡ n → unpacked m n (getD (keepAll E ls) (at m n) 0) ≡ B
+      here B k q s = cc (unpack-packed w h hw hh B (p B k), held z m n B k q s)
+
+  -- so it holds what the table has at that anchor
+  at-place : getD (keepAll E ls) 0 0 ≡ 0 → (m n : ℕ) → 1 ≤ m → n < 131 → kept (keepAll E ls) m n ≡ only (anchored m n) (once ls)
+  at-place z m n lo hi = ⊎-elim free taken (either (eqb (getD (keepAll E ls) (at m n) 0) 0))
+    where
+      there : (C : Blend) → List·Memᴰ C (only (anchored m n) (once ls)) → List·Memᴰ C ls × (C .across .m ≡ m) × (C .up .m ≡ n)
+      there C k =
+          let o = only-mem (anchored m n) (once ls) C k in
+          let a = anchored-at m n C (o .1) in
+          (once-mem ls C (o .0), a .0, a .1)
+
+      free : eqb (getD (keepAll E ls) (at m n) 0) 0 ≡ true → kept (keepAll E ls) m n ≡ only (anchored m n) (once ls)
+      free e =
+          rw e
+          (sym (nothing (only (anchored m n) (once ls))
+          (λ C k. let c = there C k in packed-positive C (let u = p C (c .0) .up in omega arith) (sym (held z m n C (c .0) (c .1) (c .2)) ∙ eqb-true _ _ e))))
+
+      taken : eqb (getD (keepAll E ls) (at m n) 0) 0 ≡ false → kept (keepAll E ls) m n ≡ only (anchored m n) (once ls)
+      taken e =
+          let r = holder z m n lo hi (eqb-false _ _ e) in
+          let equal : (C : Blend) → List·Memᴰ C ls → C .across .m ≡ m → C .up .m ≡ n → C ≡ r .0 =
+          λ C k q s. cc (unpack-packed w h hw hh C (p C k), held z m n C k q s, r .4) in
+          cond-false _ _ _ e ∙ ap (λ (B : Blend). B ∷ []) (r .4) ∙
+          sym (singleton (r .0) (only (anchored m n) (once ls)) (only-distinct (anchored m n) (once ls) (once-distinct ls))
+          (λ C k. let c = there C k in equal C (c .0) (c .1) (c .2))
+          (mem-only (anchored m n) (once ls) (r .0) (mem-once ls (r .0) (r .1)) (and-of _ _ (eq-eqb (r .0 .across .m) m (r .2)) (eq-eqb (r .0 .up .m) n (r .3)))))
+
+  -- none met: walking the places gives the table
+  pub walk-table : getD (keepAll E ls) 0 0 ≡ 0 → walk w h (keepAll E ls) ≡ inTableOrder w h (once ls)
+  unfolding walk inTableOrder
+  walk-table z =
+      each-same 1 (w + 1) _ _ (λ m lo hi. each-same 1 (h + 1) _ _ (λ n lo2 hi2. at-place z m n lo (omega arith)))
+
+  -- and they hold nothing but proper blends
+  pub walk-holding : getD (keepAll E ls) 0 0 ≡ 0 → Holding w h (keepAll E ls)
+  walk-holding z =
+      record {
+        square = kept-all .square;
+        holds = λ m n lo hi lo2 hi2 ne. let r = holder z m n lo (omega arith) ne in ap (proper w h) (r .4) ∙ proper-of w h (r .0) (p (r .0) (r .1));
+      }
