@@ -3,3 +3,4 @@ pub mod Bytes
 pub mod Distinct
 pub mod Tables
 pub mod Places
+pub mod Few
