@@ -1,6 +1,6 @@
 -- Document 01, "Blends": cutting, and the live blends.
 use Prim.Native.Nat.{ℕ, zero, suc, _+_, _-_}
-use mathlib.Core.Bool.{Bool, true, false, cond, _&&_}
+use mathlib.Core.Bool.{Bool, true, false, cond, _&&_, _||_, not}
 use mathlib.Core.List.{List, [], _∷_, _++_}
 use lib.Dec.{eqb}
 use Rattle.mesh.specs.Range.{each, any, only, joined}
@@ -51,6 +51,10 @@ nearest line t =
 
 abbrev pub cutter : Mesh → Direction → Blend → ℕ
 cutter M d B = nearest (coversBlend M d B) (crossed d B)
+
+-- whether any line cuts the blend
+unfoldable pub isCut : Mesh → Blend → Bool
+isCut M B = not (eqb (cutter M upright B) 0) || not (eqb (cutter M level B) 0)
 
 -- "An upright cut hands its halves to the level cuts, and a level cut hands its halves back, until neither cuts."
 -- What is left of a blend, lines of direction d tried first. Each cut makes a support smaller, so `f` cuts in a row are enough where f is the blend's size.

@@ -4,7 +4,7 @@ use mathlib.Core.Bool.{Bool, true, false, cond, _&&_, _||_}
 use mathlib.Core.List.{List}
 use lib.Dec.{ltb, leb, eqb}
 use lib.ListN.{take}
-use Rattle.mesh.specs.Range.{every, all, any}
+use Rattle.mesh.specs.Range.{every, some, all, any}
 use Rattle.mesh.specs.declared.Split.{Split}
 use Rattle.mesh.specs.declared.Lines.{Lines}
 
@@ -68,6 +68,20 @@ covers M d z b n = every b n (M d z)
 -- whether the point at knot k lies on a line of the direction at knot z: "a crossing line's own end counts as on it"
 unfoldable pub onLine : Mesh → Direction → ℕ → ℕ → Bool
 onLine M d z k = M d z k || (ltb 0 k && M d z (k - 1))
+
+-- the direction that a number names
+abbrev pub direction : ℕ → Direction
+direction n = cond (eqb n 0) upright level
+
+-- "The split shares more than one point with a line at its position": one of its unit steps, as given, is on already
+unfoldable pub shares : Mesh → Split → Bool
+shares M s = some (s .from + 1) (s .to - s .from) (M (direction (s .direction)) (s .position + 1))
+
+-- both ends of the split lie on crossing lines
+unfoldable pub ended : Mesh → Split → Bool
+ended M s =
+    let across = other (direction (s .direction)) in
+    onLine M across (s .from + 1) (s .position + 1) && onLine M across (s .to + 1) (s .position + 1)
 
 -- the splits that a struct of lines holds
 abbrev pub splitsOf : Lines → List Split

@@ -8,6 +8,11 @@ abbrev pub every : ℕ → ℕ → (ℕ → Bool) → Bool
 every from zero test = true
 every from (suc n) test = test from && every (from + 1) n test
 
+-- whether it holds of some of them
+abbrev pub some : ℕ → ℕ → (ℕ → Bool) → Bool
+some from zero test = false
+some from (suc n) test = test from || some (from + 1) n test
+
 -- the lists of the `n` numbers from `from` on, joined in rising order
 abbrev pub each {ℓ} : {A : Type ℓ} → ℕ → ℕ → (ℕ → List A) → List A
 each from zero f = []
