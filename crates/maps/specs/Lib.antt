@@ -1,0 +1,6 @@
+pub mod Plain
+pub mod Values
+pub mod Splits
+pub mod Record
+pub mod Calls
+pub mod Cases

@@ -1,0 +1,64 @@
+-- Document 01, "Values, readings, splits" and "When a call says no": which splits are refused, and what an accepted one leaves.
+use Prim.Native.Nat.{ℕ, _+_, _-_}
+use mathlib.Core.Bool.{Bool, cond, _&&_, not}
+use mathlib.Core.List.{List, [], _∷_, _++_, map}
+use lib.Dec.{leb, eqb}
+use lib.ListN.{length}
+use Rattle.mesh.specs.declared.Split.{Split}
+use Rattle.mesh.specs.Range.{each, any, only}
+use Rattle.mesh.specs.Lines.{side, other, direction, inRange, shares, ended}
+use Rattle.mesh.specs.Blends.{isCut}
+use Rattle.mesh.specs.Sound.{sound}
+use Rattle.maps.specs.Plain.{Plain, meshOf, blends}
+use Rattle.maps.specs.Values.{carried}
+
+-- the map with the split drawn: "Old anchors keep their values; each new one takes the old map's reading there."
+abbrev pub withLine : Plain → Split → Plain
+withLine P s = record { w = P .w; h = P .h; splits = P .splits ++ s ∷ []; values = P .values }
+
+unfoldable pub drawn : Plain → Split → Plain
+drawn P s =
+    record { w = P .w; h = P .h; splits = P .splits ++ s ∷ []; values = map (carried (blends P) (P .values)) (blends (withLine P s)) }
+
+abbrev pub soundWith : Plain → Split → Bool
+soundWith P s = sound (P .w) (P .h) (blends (withLine P s))
+
+-- refusals 3 to 7, on the split as given; 0 where none applies
+unfoldable pub given : Plain → Split → ℕ
+given P s =
+    cond (not (inRange (P .w) (P .h) s)) 3
+    (cond (leb 60 (length (P .splits))) 4
+    (cond (shares (meshOf P) s) 5
+    (cond (not (ended (meshOf P) s)) 6
+    (cond (not (any (isCut (meshOf (withLine P s))) (blends P))) 7
+    0))))
+
+-- the number of an exact split: those, then 8, "The exact split leaves a map that is not sound"
+unfoldable pub exactNumber : Plain → Split → ℕ
+exactNumber P s =
+    let g = given P s in
+    let last : ℕ = cond (soundWith P s) 0 8 in
+    cond (eqb g 0) last g
+
+-- the same line with other ends
+abbrev pub reaching : Split → ℕ → ℕ → Split
+reaching s from length = record { direction = s .direction; position = s .position; from = from; to = from + length }
+
+-- the side that the split runs along
+abbrev pub run : Plain → Split → ℕ
+run P s = side (other (direction (s .direction))) (P .w) (P .h)
+
+-- all lines that contain the given one, by length "between 0 and the side", then by start
+unfoldable pub containing : Plain → Split → List Split
+containing P s =
+    let drawnLength = s .to - s .from in
+    each drawnLength (run P s - drawnLength + 1)
+    (λ n. each (s .to - n) (s .from + 1 - (s .to - n)) (λ from. only (λ c. leb (c .to) (run P s)) (reaching s from n ∷ [])))
+
+-- those that "have both ends on crossing lines, overlap nothing at their position by more than a point and leave a sound map"
+unfoldable pub candidate : Plain → Split → Bool
+candidate P c = ended (meshOf P) c && not (shares (meshOf P) c) && soundWith P c
+
+-- the line that a lengthened split takes, if there is one: "the one of least length …, then of lowest start"
+unfoldable pub chosen : Plain → Split → List Split
+chosen P s = lib.ListN.take 1 (only (candidate P) (containing P s))

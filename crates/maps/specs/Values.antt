@@ -1,0 +1,64 @@
+-- Document 01, "Values, readings, splits": readings and weights, in whole numbers.
+use Prim.Native.Nat.{ℕ, _+_, _-_, _*_, _/_, _≤_}
+use mathlib.Core.Bool.{Bool, cond, _&&_}
+use mathlib.Core.List.{List, [], _∷_, map}
+use lib.Dec.{leb, ltb, eqb}
+use lib.ListN.{length, getD}
+use Rattle.mesh.specs.declared.Triple.{Triple}
+use Rattle.mesh.specs.declared.Blend.{Blend}
+use Rattle.mesh.specs.Range.{only}
+use Rattle.mesh.specs.Triple.{Fraction}
+use Rattle.mesh.specs.Blends.{anchored}
+use Rattle.mesh.specs.Sound.{overSquare}
+use Rattle.mesh.specs.Weight.{Term, value}
+use Rattle.maps.specs.Plain.{Plain, blends}
+
+-- each blend with its value: the map as a sum of multiples of its blends
+abbrev pub paired : List Blend → List ℕ → List Term
+paired [] vs = []
+paired (B ∷ bs) [] = []
+paired (B ∷ bs) (v ∷ vs) = record { multiple = v; of = B } ∷ paired bs vs
+
+-- "rounded down"
+abbrev pub rounded : Fraction → ℕ
+rounded x = x .num / x .den
+
+-- "The reading at a whole point is the sum of value times weight, exact, then rounded down."
+unfoldable pub readingAt : List Blend → List ℕ → ℕ → ℕ → ℕ
+readingAt bs vs u v = rounded (value (paired bs vs) (u + 1) (v + 1) 1)
+
+-- "A point lies outside the domain."
+abbrev pub inDomain : Plain → ℕ → ℕ → Bool
+inDomain P u v = leb u (P .w) && leb v (P .h)
+
+-- the low corner of the unit square at a point: the point itself, "at a far side, one step back"
+abbrev pub corner : ℕ → ℕ → ℕ
+corner side u = cond (eqb u side) (u - 1) u
+
+-- the gap of a triple in which the unit step from knot x lies, and the hat at knot u over that gap
+abbrev pub gap : Triple → ℕ → ℕ
+gap t x = cond (ltb x (t .m)) (t .m - t .l) (t .r - t .m)
+
+abbrev pub share : Triple → ℕ → ℕ → ℕ
+share t x u = cond (ltb x (t .m)) (u - t .l) (t .r - u)
+
+-- "each with its weight as numerator and denominator, the denominator being the product of the two gaps, across and up, in which that square lies"
+unfoldable pub weightAt : ℕ → ℕ → ℕ → ℕ → Blend → Fraction
+weightAt x y u v B =
+    record { num = share (B .across) x u * share (B .up) y v; den = gap (B .across) x * gap (B .up) y }
+
+-- "the blends over the unit square whose low corner is the point", in table order
+abbrev pub over : Plain → ℕ → ℕ → List Blend
+over P u v = only (overSquare (corner (P .w) u + 1) (corner (P .h) v + 1)) (blends P)
+
+-- the value at an anchor: its place in the table, counted from 0, or the table's length where no blend has the anchor
+abbrev pub placeOf : List Blend → ℕ → ℕ → ℕ
+placeOf [] m n = 0
+placeOf (B ∷ bs) m n = let rest = placeOf bs m n + 1 in cond (anchored m n B) 0 rest
+
+-- "Old anchors keep their values; each new one takes the old map's reading there."
+unfoldable pub carried : List Blend → List ℕ → Blend → ℕ
+carried bs vs B =
+    let new = readingAt bs vs (B .across .m - 1) (B .up .m - 1) in
+    let i = placeOf bs (B .across .m) (B .up .m) in
+    cond (ltb i (length bs)) (getD vs i 0) new
