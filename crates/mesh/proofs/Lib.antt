@@ -2,3 +2,4 @@ pub mod Tests
 pub mod Bytes
 pub mod Distinct
 pub mod Scale
+pub mod Hats

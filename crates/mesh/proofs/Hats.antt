@@ -1,0 +1,192 @@
+-- The hat of one triple, as it stands and multiplied out. Nothing here knows how many axes there are.
+use Prim.Native.Nat.{ℕ, zero, suc, _+_, _*_, _-_, _<_, _≤_, min, max}
+use native.Mathlib.Omega.{arith}
+use native.Mathlib.Nat.{mul-pos, mul-le-mul-left, mul-le-mul-right, eq-of-mul-eq-mul-left}
+use mathlib.Core.Path.{_≡_, refl, sym, ap, _∙_}
+use mathlib.Core.Logic.{_⊎_, inl, inr, ⊎-elim}
+use mathlib.Core.Bool.{Bool, true, false, cond, _&&_, not}
+use borrow.Author.Tests.{ltb-true, leb-true, leb-false, eqb-false, lt-ltb, le-leb, not-true}
+use lib.Dec.{ltb, leb, eqb}
+use Rattle.mesh.specs.Triple.{Fraction, triple, hat, Side, lower, upper, half, inside, low, high, rising, spans, between}
+use Rattle.mesh.specs.declared.Triple.{Triple}
+use Rattle.mesh.proofs.Tests.{either, and-both, and-of, cond-true, cond-false}
+use Rattle.mesh.proofs.Scale.{Multiple, Scaled}
+
+pub record Rise (t : Triple) : Type 0 where
+  pub low : t .l < t .m
+  pub high : t .m < t .r
+
+-- knot z lies strictly inside, off the middle
+pub record Inside (z : ℕ) (t : Triple) : Type 0 where
+  pub low : t .l < z
+  pub high : z < t .r
+  pub off : z ≡ t .m → ⊥
+
+hat-left : (t : Triple) (p d : ℕ) → leb p (t .m * d) ≡ true → hat t p d ≡ record { num = p - t .l * d; den = (t .m - t .l) * d }
+unfolding hat
+hat-left t p d e = cond-true _ _ _ e
+
+hat-right : (t : Triple) (p d : ℕ) → leb p (t .m * d) ≡ false → hat t p d ≡ record { num = t .r * d - p; den = (t .r - t .m) * d }
+unfolding hat
+hat-right t p d e = cond-false _ _ _ e
+
+-- the halves on either side of the middle, without `min` and `max`
+pub half-below : (t : Triple) (z : ℕ) → z < t .m → (half lower z t ≡ triple (t .l) z (t .m)) × (half upper z t ≡ triple z (t .m) (t .r))
+unfolding half
+half-below t z h =
+    let e : min z (t .m) ≡ z = omega arith in
+    let f : max z (t .m) ≡ t .m = omega arith in
+    (rw (e, f), rw (e, f))
+
+pub half-above : (t : Triple) (z : ℕ) → t .m < z → (half lower z t ≡ triple (t .l) (t .m) z) × (half upper z t ≡ triple (t .m) z (t .r))
+unfolding half
+half-above t z h =
+    let e : min z (t .m) ≡ t .m = omega arith in
+    let f : max z (t .m) ≡ z = omega arith in
+    (rw (e, f), rw (e, f))
+
+-- Multiplied by the common multiple and by d, the hat at p / d is the lesser of two slopes, both cut off at 0.
+abbrev pub scaledHat : {n : ℕ} → Multiple n → Triple → ℕ → ℕ → ℕ
+scaledHat K t p d = min (K .part (t .m - t .l) * (p - t .l * d)) (K .part (t .r - t .m) * (t .r * d - p))
+
+-- a slope of K over a gap g, c = K / g, against its height at the middle, K * d
+slope-least : (c g K d u : ℕ) → c * g ≡ K → u ≤ g * d → c * u ≤ K * d
+slope-least c g K d u e le = omega (arith, mul-le-mul-left c le, ap (λ (x : ℕ). x * d) e)
+
+slope-most : (c g K d u : ℕ) → c * g ≡ K → g * d ≤ u → K * d ≤ c * u
+slope-most c g K d u e le = omega (arith, mul-le-mul-left c le, ap (λ (x : ℕ). x * d) e)
+
+-- the slopes' runs against the gap
+up-to : (a g b p d : ℕ) → a + g ≡ b → p ≤ b * d → p - a * d ≤ g * d
+up-to a g b p d e le = omega (arith, ap (λ (x : ℕ). x * d) e)
+
+past : (a g b p d : ℕ) → a + g ≡ b → b * d ≤ p → g * d ≤ p - a * d
+past a g b p d e le = omega (arith, ap (λ (x : ℕ). x * d) e)
+
+down-to : (a g b p d : ℕ) → a + g ≡ b → a * d ≤ p → b * d - p ≤ g * d
+down-to a g b p d e le = omega (arith, ap (λ (x : ℕ). x * d) e)
+
+before : (a g b p d : ℕ) → a + g ≡ b → p ≤ a * d → g * d ≤ b * d - p
+before a g b p d e le = omega (arith, ap (λ (x : ℕ). x * d) e)
+
+-- left of the middle the second ramp is 0; right of it the first is full
+flat : (c c′ p ld md rd : ℕ) → p ≤ md → c * (p - ld) + c′ * ((p - md) - (p - rd)) ≡ c * ((p - ld) - (p - md))
+flat c c′ p ld md rd le =
+    let e : (p - md) - (p - rd) ≡ 0 = omega arith in
+    let f : (p - ld) - (p - md) ≡ p - ld = omega arith in
+    rw (e, f) (omega arith)
+
+full : (c c′ K l g m g′ r p d : ℕ) → c * g ≡ K → c′ * g′ ≡ K → l + g ≡ m → m + g′ ≡ r → m * d ≤ p →
+    c′ * (r * d - p) + c′ * ((p - m * d) - (p - r * d)) ≡ c * ((p - l * d) - (p - m * d))
+full c c′ K l g m g′ r p d e e′ f f′ le =
+    let u : (p - l * d) - (p - m * d) ≡ g * d = omega (arith, ap (λ (x : ℕ). x * d) f) in
+    let v : (r * d - p) + ((p - m * d) - (p - r * d)) ≡ g′ * d = omega (arith, ap (λ (x : ℕ). x * d) f′) in
+    joined (r * d - p) ((p - m * d) - (p - r * d)) ((p - l * d) - (p - m * d)) v u
+  where
+    joined : (x y z : ℕ) → x + y ≡ g′ * d → z ≡ g * d → c′ * x + c′ * y ≡ c * z
+    joined x y z v u =
+        omega (arith, ap (λ (i : ℕ). c′ * i) v, ap (λ (i : ℕ). c * i) u, ap (λ (i : ℕ). i * d) e, ap (λ (i : ℕ). i * d) e′)
+
+-- ramps over neighbouring gaps, multiplied by them, telescope: R is the height of p over a knot
+telescope : (x y z K g g′ g″ ra rb rc : ℕ) → x * g ≡ K → y * g′ ≡ K → z * g″ ≡ K → rc ≤ rb → rb ≤ ra →
+    g″ * (z * (ra - rc)) ≡ g * (x * (ra - rb)) + g′ * (y * (rb - rc))
+telescope x y z K g g′ g″ ra rb rc e e′ e″ le le′ =
+    let s : ra - rc ≡ (ra - rb) + (rb - rc) = omega arith in
+    joined (ra - rc) (ra - rb) (rb - rc) s
+  where
+    joined : (u v w : ℕ) → u ≡ v + w → g″ * (z * u) ≡ g * (x * v) + g′ * (y * w)
+    joined u v w s =
+        omega (arith, ap (λ (i : ℕ). g″ * (z * i)) s, ap (λ (i : ℕ). i * v) e, ap (λ (i : ℕ). i * w) e′, ap (λ (i : ℕ). i * v) e″, ap (λ (i : ℕ). i * w) e″)
+
+-- the two-scale laws from the ramps: f is the hat, x and y its halves, r the ramps
+law-below : (g g′ g″ f x y rlz rzm rlm rmr : ℕ) → g″ ≡ g + g′ → f + rmr ≡ rlm → x + rzm ≡ rlz → y + rmr ≡ rzm →
+    g″ * rlm ≡ g * rlz + g′ * rzm → g″ * f ≡ g * x + g″ * y
+law-below g g′ g″ f x y rlz rzm rlm rmr e ef ex ey t =
+    omega (arith, ap (λ (i : ℕ). g″ * i) ef, ap (λ (i : ℕ). g * i) ex, ap (λ (i : ℕ). g″ * i) ey, ap (λ (i : ℕ). i * rzm) e)
+
+law-above : (g g′ g″ f x y rlm rmz rzr rmr : ℕ) → g″ ≡ g + g′ → f + rmr ≡ rlm → x + rmz ≡ rlm → y + rzr ≡ rmz →
+    g″ * rmr ≡ g * rmz + g′ * rzr → g″ * f ≡ g″ * x + g′ * y
+law-above g g′ g″ f x y rlm rmz rzr rmr e ef ex ey t =
+    omega (arith, ap (λ (i : ℕ). g″ * i) ef, ap (λ (i : ℕ). g″ * i) ex, ap (λ (i : ℕ). g′ * i) ey, ap (λ (i : ℕ). i * rmz) e)
+
+module _ {n : ℕ} (K : Multiple n) where
+  -- left of the middle the hat rises, right of it falls
+  pub hat-rises : (t : Triple) → Rise t → t .r ≤ n → (p d : ℕ) → p ≤ t .m * d → scaledHat K t p d ≡ K .part (t .m - t .l) * (p - t .l * d)
+  hat-rises t rise within p d le =
+      lesser _ _ _
+      (slope-least (K .part (t .m - t .l)) (t .m - t .l) (K .all) d _ (K .parts _ (omega arith) (omega arith)) (up-to (t .l) _ (t .m) p d (omega arith) le))
+      (slope-most (K .part (t .r - t .m)) (t .r - t .m) (K .all) d _ (K .parts _ (omega arith) (omega arith)) (before (t .m) _ (t .r) p d (omega arith) le))
+    where
+      lesser : (u v w : ℕ) → u ≤ w → w ≤ v → min u v ≡ u
+      lesser u v w a b = omega arith
+
+  pub hat-falls : (t : Triple) → Rise t → t .r ≤ n → (p d : ℕ) → t .m * d ≤ p → scaledHat K t p d ≡ K .part (t .r - t .m) * (t .r * d - p)
+  hat-falls t rise within p d le =
+      lesser _ _ _
+      (slope-most (K .part (t .m - t .l)) (t .m - t .l) (K .all) d _ (K .parts _ (omega arith) (omega arith)) (past (t .l) _ (t .m) p d (omega arith) le))
+      (slope-least (K .part (t .r - t .m)) (t .r - t .m) (K .all) d _ (K .parts _ (omega arith) (omega arith)) (down-to (t .m) _ (t .r) p d (omega arith) le))
+    where
+      lesser : (u v w : ℕ) → w ≤ u → v ≤ w → min u v ≡ v
+      lesser u v w a b = omega arith
+
+  -- the multiplied hat is the hat
+  pub scaled-hat : (t : Triple) → Rise t → t .r ≤ n → (p d : ℕ) → Scaled (K .all * d) (hat t p d) (scaledHat K t p d)
+  scaled-hat t rise within p d =
+      ⊎-elim
+      (λ e. rw (hat-left t p d e, hat-rises t rise within p d (leb-true _ _ e)) (turned _ _ _ _ d (K .parts _ (omega arith) (omega arith))))
+      (λ e. let le : t .m * d < p = leb-false _ _ e in
+      rw (hat-right t p d e, hat-falls t rise within p d (omega arith)) (turned _ _ _ _ d (K .parts _ (omega arith) (omega arith))))
+      (either (leb p (t .m * d)))
+    where
+      turned : (c g K u d : ℕ) → c * g ≡ K → c * u * (g * d) ≡ u * (K * d)
+      turned c g K u d e = omega (arith, ap (λ (x : ℕ). x * (u * d)) e)
+
+  -- The ramp from 0 at a to all * d at b, flat outside. A hat is a ramp up less the next one, and ramps that follow on each other add up by their gaps.
+  ramp : ℕ → ℕ → ℕ → ℕ → ℕ
+  ramp a b p d = K .part (b - a) * ((p - a * d) - (p - b * d))
+
+  hat-ramps : (t : Triple) → Rise t → t .r ≤ n → (p d : ℕ) → scaledHat K t p d + ramp (t .m) (t .r) p d ≡ ramp (t .l) (t .m) p d
+  unfolding ramp
+  hat-ramps t rise within p d =
+      ⊎-elim
+      (λ e. let le : p ≤ t .m * d = leb-true _ _ e in
+      rw (hat-rises t rise within p d le) (flat _ _ _ _ _ _ le))
+      (λ e. let le : t .m * d < p = leb-false _ _ e in
+      let le′ : t .m * d ≤ p = omega arith in
+      rw (hat-falls t rise within p d le′) (full _ _ (K .all) (t .l) (t .m - t .l) (t .m) (t .r - t .m) (t .r) p d (K .parts _ (omega arith) (omega arith)) (K .parts _ (omega arith) (omega arith)) (omega arith) (omega arith) le′))
+      (either (leb p (t .m * d)))
+
+  ramps-join : (a b c : ℕ) → a < b → b < c → c ≤ n → (p d : ℕ) →
+      (c - a) * ramp a c p d ≡ (b - a) * ramp a b p d + (c - b) * ramp b c p d
+  unfolding ramp
+  ramps-join a b c ab bc within p d =
+      telescope _ _ _ (K .all) _ _ _ _ _ _ (K .parts _ (omega arith) (omega arith)) (K .parts _ (omega arith) (omega arith)) (K .parts _ (omega arith) (omega arith))
+      (further b c (omega arith)) (further a b (omega arith))
+    where
+      further : (i j : ℕ) → i ≤ j → p - j * d ≤ p - i * d
+      further i j le = omega (arith, mul-le-mul-right d le)
+
+  -- "(m - l) hat(l, m, r) = (z - l) hat(l, z, m) + (m - l) hat(z, m, r)" for l < z < m, and mirrored
+  pub two-scale-below : (t : Triple) (z : ℕ) → Rise t → t .r ≤ n → t .l < z → z < t .m → (p d : ℕ) →
+      (t .m - t .l) * scaledHat K t p d ≡
+      (z - t .l) * scaledHat K (half lower z t) p d + (t .m - t .l) * scaledHat K (half upper z t) p d
+  two-scale-below t z rise within lz zm p d =
+      let e = half-below t z zm in
+      rw (e .0, e .1)
+      (law-below (z - t .l) (t .m - z) (t .m - t .l) _ _ _ (ramp (t .l) z p d) (ramp z (t .m) p d) (ramp (t .l) (t .m) p d) (ramp (t .m) (t .r) p d)
+      (omega arith) (hat-ramps t rise within p d)
+      (hat-ramps (triple (t .l) z (t .m)) (record { low = lz; high = zm }) (omega arith) p d)
+      (hat-ramps (triple z (t .m) (t .r)) (record { low = zm; high = rise .high }) within p d)
+      (ramps-join (t .l) z (t .m) lz zm (omega arith) p d))
+
+  pub two-scale-above : (t : Triple) (z : ℕ) → Rise t → t .r ≤ n → t .m < z → z < t .r → (p d : ℕ) →
+      (t .r - t .m) * scaledHat K t p d ≡
+      (t .r - t .m) * scaledHat K (half lower z t) p d + (t .r - z) * scaledHat K (half upper z t) p d
+  two-scale-above t z rise within mz zr p d =
+      let e = half-above t z mz in
+      rw (e .0, e .1)
+      (law-above (z - t .m) (t .r - z) (t .r - t .m) _ _ _ (ramp (t .l) (t .m) p d) (ramp (t .m) z p d) (ramp z (t .r) p d) (ramp (t .m) (t .r) p d)
+      (omega arith) (hat-ramps t rise within p d)
+      (hat-ramps (triple (t .l) (t .m) z) (record { low = rise .low; high = mz }) (omega arith) p d)
+      (hat-ramps (triple (t .m) z (t .r)) (record { low = mz; high = zr }) within p d)
+      (ramps-join (t .m) z (t .r) mz zr (omega arith) p d))
