@@ -5,7 +5,7 @@ use native.Mathlib.Nat.{mul-pos, mul-le-mul-left, mul-le-mul-right, eq-of-mul-eq
 use mathlib.Core.Path.{_≡_, refl, sym, ap, _∙_}
 use mathlib.Core.Logic.{_⊎_, inl, inr, ⊎-elim}
 use mathlib.Core.Bool.{Bool, true, false, cond, _&&_, not}
-use borrow.Author.Tests.{ltb-true, leb-true, leb-false, eqb-false, lt-ltb, le-leb, not-true}
+use borrow.Author.Tests.{ltb-true, ltb-false, leb-true, leb-false, eqb-false, lt-ltb, le-leb, not-true}
 use lib.Dec.{ltb, leb, eqb}
 use Rattle.mesh.specs.Triple.{Fraction, triple, hat, Side, lower, upper, half, inside, low, high, rising, spans, between}
 use Rattle.mesh.specs.declared.Triple.{Triple}
@@ -190,3 +190,40 @@ module _ {n : ℕ} (K : Multiple n) where
       (hat-ramps (triple (t .l) (t .m) z) (record { low = rise .low; high = mz }) (omega arith) p d)
       (hat-ramps (triple (t .m) z (t .r)) (record { low = mz; high = zr }) within p d)
       (ramps-join (t .m) z (t .r) mz zr (omega arith) p d))
+
+  -- on either side: a multiple of the hat is a sum of multiples of its halves
+  pub two-scale : (t : Triple) (z : ℕ) → Rise t → t .r ≤ n → Inside z t →
+      (a b c : ℕ) × (0 < a) × ((p d : ℕ) → a * scaledHat K t p d ≡ b * scaledHat K (half lower z t) p d + c * scaledHat K (half upper z t) p d)
+  two-scale t z rise within ins =
+      ⊎-elim
+      (λ e. let h : z < t .m = ltb-true _ _ e in
+      (t .m - t .l, z - t .l, t .m - t .l, omega arith, two-scale-below t z rise within (ins .low) h))
+      (λ e. let h : t .m ≤ z = ltb-false _ _ e in
+      let off : z ≡ t .m → ⊥ = ins .off in
+      (t .r - t .m, t .r - t .m, t .r - z, omega arith, two-scale-above t z rise within (omega arith) (ins .high)))
+      (either (ltb z (t .m)))
+
+  -- all at the middle, 0 from the ends on
+  pub scaled-middle : (t : Triple) → Rise t → t .r ≤ n → scaledHat K t (t .m) 1 ≡ K .all
+  scaled-middle t rise within =
+      let e : t .m - t .l * 1 ≡ t .m - t .l = omega arith in
+      hat-rises t rise within (t .m) 1 (omega arith) ∙ rw e (K .parts _ (omega arith) (omega arith))
+
+  pub scaled-outside : (t : Triple) (p d : ℕ) → (p ≤ t .l * d) ⊎ (t .r * d ≤ p) → scaledHat K t p d ≡ 0
+  scaled-outside t p d h =
+      ⊎-elim
+      (λ (le : p ≤ t .l * d). let e : p - t .l * d ≡ 0 = omega arith in rw e (omega arith))
+      (λ (le : t .r * d ≤ p). let e : t .r * d - p ≡ 0 = omega arith in rw e (omega arith)) h
+
+  -- on the domain of side w the first two hats add up to one
+  pub first-two : (w : ℕ) → 1 ≤ w → w + 2 ≤ n → (p d : ℕ) → d ≤ p → p ≤ (w + 1) * d →
+      scaledHat K (low w) p d + scaledHat K (high w) p d ≡ K .all * d
+  first-two w side within p d le ge =
+      let f = hat-falls (low w) (record { low = omega arith; high = omega arith }) (omega arith) p d (omega arith) in
+      let r = hat-rises (high w) (record { low = omega arith; high = omega arith }) within p d ge in
+      rw (f, r) (both (K .part (w + 1 - 1)) (w + 1 - 1) (K .all) ((w + 1) * d - p) (p - 1 * d) d (K .parts _ (omega arith) (omega arith)) (run (w + 1 - 1) (omega arith)))
+    where
+      run : (g : ℕ) → g ≡ w → ((w + 1) * d - p) + (p - 1 * d) ≡ g * d
+      run g e = omega (arith, ap (λ (x : ℕ). x * d) e)
+      both : (c g K u v d : ℕ) → c * g ≡ K → u + v ≡ g * d → c * u + c * v ≡ K * d
+      both c g K u v d e s = omega (arith, ap (λ (x : ℕ). c * x) s, ap (λ (x : ℕ). x * d) e)
