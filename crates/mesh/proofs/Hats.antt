@@ -3,7 +3,7 @@ use Prim.Native.Nat.{ℕ, zero, suc, _+_, _*_, _-_, _<_, _≤_, min, max}
 use native.Mathlib.Omega.{arith}
 use native.Mathlib.Nat.{mul-pos, mul-le-mul-left, mul-le-mul-right, eq-of-mul-eq-mul-left}
 use mathlib.Core.Path.{_≡_, refl, sym, ap, _∙_}
-use mathlib.Core.Logic.{_⊎_, inl, inr, ⊎-elim}
+use mathlib.Core.Logic.{_⊎_, _↔_, inl, inr, ⊎-elim}
 use mathlib.Core.Bool.{Bool, true, false, cond, _&&_, not}
 use borrow.Author.Tests.{ltb-true, ltb-false, leb-true, leb-false, eqb-false, lt-ltb, le-leb, not-true}
 use lib.Dec.{ltb, leb, eqb}
@@ -22,6 +22,42 @@ pub record Inside (z : ℕ) (t : Triple) : Type 0 where
   pub high : z < t .r
   pub off : z ≡ t .m → ⊥
 
+-- what the tests say
+pub rising-rise : (side : ℕ) (t : Triple) → rising side t ≡ true → Rise t
+rising-rise side t e =
+    let a = and-both (ltb (t .l) (t .m) && ltb (t .m) (t .r)) (leb (t .r) (side + 2)) e in
+    let b = and-both (ltb (t .l) (t .m)) (ltb (t .m) (t .r)) (a .0) in
+    record { low = ltb-true _ _ (b .0); high = ltb-true _ _ (b .1) }
+
+pub rising-within : (side : ℕ) (t : Triple) → rising side t ≡ true → t .r ≤ side + 2
+rising-within side t e = leb-true _ _ (and-both (ltb (t .l) (t .m) && ltb (t .m) (t .r)) (leb (t .r) (side + 2)) e .1)
+
+pub rising-of : (side : ℕ) (t : Triple) → Rise t → t .r ≤ side + 2 → rising side t ≡ true
+rising-of side t rise within =
+    and-of _ _ (and-of _ _ (lt-ltb _ _ (rise .low)) (lt-ltb _ _ (rise .high))) (le-leb _ _ within)
+
+pub inside-of : (z : ℕ) (t : Triple) → inside z t ≡ true → Inside z t
+inside-of z t e =
+    let a = and-both (ltb (t .l) z && ltb z (t .r)) (not (eqb z (t .m))) e in
+    let b = and-both (ltb (t .l) z) (ltb z (t .r)) (a .0) in
+    record { low = ltb-true _ _ (b .0); high = ltb-true _ _ (b .1); off = eqb-false _ _ (not-true _ (a .1)) }
+
+-- a half rises too, within its triple, and is narrower
+pub half-rise : (t : Triple) (z : ℕ) → Rise t → Inside z t → (s : Side) → Rise (half s z t)
+unfolding half
+half-rise t z rise ins lower = record { low = omega arith; high = omega arith }
+half-rise t z rise ins upper = record { low = omega arith; high = omega arith }
+
+pub half-within : (t : Triple) (z : ℕ) → Rise t → Inside z t → (s : Side) → half s z t .r ≤ t .r
+unfolding half
+half-within t z rise ins lower = omega arith
+half-within t z rise ins upper = omega arith
+
+pub half-narrower : (t : Triple) (z : ℕ) → Rise t → Inside z t → (s : Side) → half s z t .r - half s z t .l < t .r - t .l
+unfolding half
+half-narrower t z rise ins lower = omega arith
+half-narrower t z rise ins upper = omega arith
+
 hat-left : (t : Triple) (p d : ℕ) → leb p (t .m * d) ≡ true → hat t p d ≡ record { num = p - t .l * d; den = (t .m - t .l) * d }
 unfolding hat
 hat-left t p d e = cond-true _ _ _ e
@@ -29,6 +65,55 @@ hat-left t p d e = cond-true _ _ _ e
 hat-right : (t : Triple) (p d : ℕ) → leb p (t .m * d) ≡ false → hat t p d ≡ record { num = t .r * d - p; den = (t .r - t .m) * d }
 unfolding hat
 hat-right t p d e = cond-false _ _ _ e
+
+hat-cases : (t : Triple) (p d : ℕ) (P : Fraction → Type 0) →
+    (p ≤ t .m * d → P (record { num = p - t .l * d; den = (t .m - t .l) * d })) →
+    (t .m * d < p → P (record { num = t .r * d - p; den = (t .r - t .m) * d })) → P (hat t p d)
+hat-cases t p d P f g =
+    ⊎-elim (λ e. rw (hat-left t p d e) (f (leb-true _ _ e))) (λ e. rw (hat-right t p d e) (g (leb-false _ _ e))) (either (leb p (t .m * d)))
+
+-- a hat's denominator
+pub hat-den : (t : Triple) → Rise t → (p d : ℕ) → 0 < d → 0 < hat t p d .den
+hat-den t rise p d pos = hat-cases t p d (λ x. 0 < x .den) (λ le. mul-pos (omega arith) pos) (λ gt. mul-pos (omega arith) pos)
+
+-- one at the middle
+pub hat-middle : (t : Triple) → hat t (t .m) 1 .num ≡ hat t (t .m) 1 .den
+hat-middle t = hat-cases t (t .m) 1 (λ x. x .num ≡ x .den) (λ le. omega arith) (λ gt. absurd (omega arith))
+
+-- 0 from the ends on, and above 0 between them
+pub hat-outside : (t : Triple) → Rise t → (p d : ℕ) → 0 < d → (p ≤ t .l * d) ⊎ (t .r * d ≤ p) → hat t p d .num ≡ 0
+hat-outside t rise p d pos h =
+    let a = mul-le-mul-right d (rise .low) in
+    let b = mul-le-mul-right d (rise .high) in
+    ⊎-elim
+    (λ (far : p ≤ t .l * d). hat-cases t p d (λ x. x .num ≡ 0) (λ le. omega arith) (λ gt. omega arith))
+    (λ (far : t .r * d ≤ p). hat-cases t p d (λ x. x .num ≡ 0) (λ le. omega arith) (λ gt. omega arith)) h
+
+pub hat-positive : (t : Triple) (p d : ℕ) → t .l * d < p → p < t .r * d → 0 < hat t p d .num
+hat-positive t p d lo hi = hat-cases t p d (λ x. 0 < x .num) (λ le. omega arith) (λ gt. omega arith)
+
+pub hat-between : (t : Triple) → Rise t → (p d : ℕ) → 0 < d → 0 < hat t p d .num → (t .l * d < p) × (p < t .r * d)
+hat-between t rise p d d-pos pos = (
+  ⊎-elim (λ e. ltb-true _ _ e) (λ e. absurd (nothing (inl (ltb-false _ _ e)))) (either (ltb (t .l * d) p)),
+  ⊎-elim (λ e. ltb-true _ _ e) (λ e. absurd (nothing (inr (ltb-false _ _ e)))) (either (ltb p (t .r * d))),
+)
+  where
+    nothing : (p ≤ t .l * d) ⊎ (t .r * d ≤ p) → ⊥
+    nothing h = omega (arith, hat-outside t rise p d d-pos h)
+
+-- strictly inside a unit step the hat is above 0 exactly when the step lies in l to r
+pub step-positive : (t : Triple) → Rise t → (x p d : ℕ) → x * d < p → p < (x + 1) * d → spans x t ≡ true ↔ 0 < hat t p d .num
+step-positive t rise x p d lo hi = (
+  λ e. let s = and-both (leb (t .l) x) (ltb x (t .r)) e in
+      let a : t .l ≤ x = leb-true _ _ (s .0) in
+      let b : x < t .r = ltb-true _ _ (s .1) in
+      hat-positive t p d (omega (arith, mul-le-mul-right d a)) (omega (arith, mul-le-mul-right d b)),
+  λ pos. let h = hat-between t rise p d (omega arith) pos in
+      and-of _ _ (le-leb (t .l) x (omega (arith, later (t .l) (x + 1) d (omega arith)))) (lt-ltb _ _ (later x (t .r) d (omega arith))),
+)
+  where
+    later : (a b d : ℕ) → a * d < b * d → a < b
+    later a b d lt = ⊎-elim (λ e. ltb-true _ _ e) (λ e. let le : b ≤ a = ltb-false _ _ e in absurd (omega (arith, mul-le-mul-right d le))) (either (ltb a b))
 
 -- the halves on either side of the middle, without `min` and `max`
 pub half-below : (t : Triple) (z : ℕ) → z < t .m → (half lower z t ≡ triple (t .l) z (t .m)) × (half upper z t ≡ triple z (t .m) (t .r))
@@ -225,5 +310,6 @@ module _ {n : ℕ} (K : Multiple n) where
     where
       run : (g : ℕ) → g ≡ w → ((w + 1) * d - p) + (p - 1 * d) ≡ g * d
       run g e = omega (arith, ap (λ (x : ℕ). x * d) e)
+
       both : (c g K u v d : ℕ) → c * g ≡ K → u + v ≡ g * d → c * u + c * v ≡ K * d
       both c g K u v d e s = omega (arith, ap (λ (x : ℕ). c * x) s, ap (λ (x : ℕ). x * d) e)

@@ -115,6 +115,9 @@ module _ {A : Type 0} where
   sum-single f (x ∷ xs) dist a m h =
       ⊎-elim
       (λ q. omega (arith, ap f q, sum-zero f xs (λ y n. h y (List·Memᴰ.List·Memᴰ·tail n) (λ r. dist .0 (Memᴰ·cast (sym (r ∙ q)) n)))))
-      (λ n. omega (arith, h x (List·Memᴰ.List·Memᴰ·head refl) (λ r. dist .0 (Memᴰ·cast r n)),
-      sum-single f xs (dist .1) a n (λ y k. h y (List·Memᴰ.List·Memᴰ·tail k))))
+      (λ n. omega (
+        arith,
+        h x (List·Memᴰ.List·Memᴰ·head refl) (λ r. dist .0 (Memᴰ·cast r n)),
+        sum-single f xs (dist .1) a n (λ y k. h y (List·Memᴰ.List·Memᴰ·tail k)),
+      ))
       (List·Memᴰ·cases-cons m)
