@@ -3,3 +3,4 @@ pub mod Bytes
 pub mod Distinct
 pub mod Scale
 pub mod Hats
+pub mod Weights

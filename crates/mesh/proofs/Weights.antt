@@ -1,0 +1,126 @@
+-- Weights of blends: what they are at anchors and over unit squares, that blends are reproduced by what is left of them, and that live blends add up to one.
+use Prim.Native.Nat.{ℕ, zero, suc, _+_, _*_, _-_, _<_, _≤_}
+use native.Mathlib.Omega.{arith}
+use native.Mathlib.Nat.{mul-pos, mul-le-mul-right, eq-of-mul-eq-mul-left}
+use mathlib.Core.Path.{_≡_, refl, sym, ap, _∙_}
+use mathlib.Core.Logic.{_⊎_, _↔_, inl, inr, ⊎-elim}
+use mathlib.Core.Bool.{Bool, true, false, _&&_, not}
+use mathlib.Core.List.{List, [], _∷_, map, List·Memᴰ, List·Memᴰ·not-nil}
+use borrow.Author.Tests.{ltb-false, eqb-true, not-true, not-false}
+use lib.Dec.{ltb, eqb}
+use Rattle.mesh.specs.Range.{all}
+use Rattle.mesh.specs.Triple.{Fraction, hat, Side, lower, upper, half, inside, low, high, rising, spans, between, sameTriple}
+use Rattle.mesh.specs.Lines.{Direction, upright, level, Mesh}
+use Rattle.mesh.specs.Blends.{blend, crossed, coversBlend, cuts, halve, size, same, firstFour}
+use Rattle.mesh.specs.Order.{Comes, here, cut, Left, Uncut}
+use Rattle.mesh.specs.Sound.{proper, overSquare, nested, noneNested}
+use Rattle.mesh.specs.Weight.{times, plus, whole, total, Equal, weight, Term, value, interpolated}
+use Rattle.mesh.specs.declared.Triple.{Triple}
+use Rattle.mesh.specs.declared.Blend.{Blend}
+use Rattle.mesh.proofs.Tests.{either, and-both, and-of, and-fails, all-at, true-not-false}
+use Rattle.mesh.proofs.Distinct.{Distinct}
+use Rattle.mesh.proofs.Scale.{Multiple, common, Scaled, scaled-times, scaled-total, scaled-more, scaled-multiple, scaled-equal, scaled-one, total-positive, sum, sum-same, sum-zero, sum-linear, sum-single}
+use Rattle.mesh.proofs.Hats.{Rise, Inside, rising-rise, rising-within, rising-of, inside-of, half-rise, half-within, half-narrower, hat-den, hat-middle, hat-outside, step-positive, scaledHat, scaled-hat, two-scale, scaled-middle, scaled-outside, first-two}
+
+-- a proper blend, axis by axis
+module _ (w h : ℕ) (B : Blend) (ok : proper w h B ≡ true) where
+  across-rises : rising w (B .across) ≡ true
+  across-rises = and-both (rising w (B .across)) (rising h (B .up)) ok .0
+
+  up-rises : rising h (B .up) ≡ true
+  up-rises = and-both (rising w (B .across)) (rising h (B .up)) ok .1
+
+  pub across-rise : Rise (B .across)
+  across-rise = rising-rise w (B .across) across-rises
+
+  pub up-rise : Rise (B .up)
+  up-rise = rising-rise h (B .up) up-rises
+
+  pub across-within : B .across .r ≤ w + 2
+  across-within = rising-within w (B .across) across-rises
+
+  pub up-within : B .up .r ≤ h + 2
+  up-within = rising-within h (B .up) up-rises
+
+  pub weight-den : (p q d : ℕ) → 0 < d → 0 < weight B p q d .den
+  weight-den p q d pos = mul-pos (hat-den (B .across) across-rise p d pos) (hat-den (B .up) up-rise q d pos)
+
+  -- strictly inside a unit square the weight is above 0 exactly when the square lies in the support
+  pub square-positive : (x y p q d : ℕ) → x * d < p → p < (x + 1) * d → y * d < q → q < (y + 1) * d → overSquare x y B ≡ true ↔ 0 < weight B p q d .num
+  square-positive x y p q d x-low x-high y-low y-high =
+      let a = step-positive (B .across) across-rise x p d x-low x-high in
+      let b = step-positive (B .up) up-rise y q d y-low y-high in (
+        λ e. let s = and-both (spans x (B .across)) (spans y (B .up)) e in mul-pos (a .0 (s .0)) (b .0 (s .1)),
+        λ pos. let f = factors (hat (B .across) p d .num) (hat (B .up) q d .num) pos in and-of _ _ (a .1 (f .0)) (b .1 (f .1)),
+      )
+    where
+      factors : (i j : ℕ) → 0 < i * j → (0 < i) × (0 < j)
+      factors zero j pos = absurd (omega arith)
+      factors (suc i) zero pos = absurd (omega arith)
+      factors (suc i) (suc j) pos = omega arith
+
+  -- the halves of a blend
+  pub halve-proper : (d : Direction) (s : Side) (z : ℕ) → inside z (crossed d B) ≡ true → proper w h (halve d s z B) ≡ true
+  unfolding halve
+  halve-proper upright s z e =
+      let i = inside-of z (B .across) e in
+      and-of _ _ (rising-of w _ (half-rise (B .across) z across-rise i s) (omega (arith, across-within, half-within (B .across) z across-rise i s))) up-rises
+  halve-proper level s z e =
+      let i = inside-of z (B .up) e in
+      and-of _ _ across-rises (rising-of h _ (half-rise (B .up) z up-rise i s) (omega (arith, up-within, half-within (B .up) z up-rise i s)))
+
+  pub halve-smaller : (d : Direction) (s : Side) (z : ℕ) → inside z (crossed d B) ≡ true → size (halve d s z B) < size B
+  unfolding halve
+  halve-smaller upright s z e = omega (arith, half-narrower (B .across) z across-rise (inside-of z (B .across) e) s)
+  halve-smaller level s z e = omega (arith, half-narrower (B .up) z up-rise (inside-of z (B .up) e) s)
+
+-- blends that the test calls equal are equal
+same-triple : (s t : Triple) → sameTriple s t ≡ true → s ≡ t
+same-triple s t e =
+    let a = and-both (eqb (s .l) (t .l) && eqb (s .m) (t .m)) (eqb (s .r) (t .r)) e in
+    let b = and-both (eqb (s .l) (t .l)) (eqb (s .m) (t .m)) (a .0) in
+    λ i. record { l = eqb-true (s .l) (t .l) (b .0) i; m = eqb-true (s .m) (t .m) (b .1) i; r = eqb-true (s .r) (t .r) (a .1) i }
+
+same-blend : (B C : Blend) → same B C ≡ true → B ≡ C
+same-blend B C e =
+    let a = and-both (sameTriple (B .across) (C .across)) (sameTriple (B .up) (C .up)) e in
+    λ i. record { across = same-triple (B .across) (C .across) (a .0) i; up = same-triple (B .up) (C .up) (a .1) i }
+
+-- the anchor of B is not strictly inside the support of C, another blend: on one axis it lies at an end or beyond
+abbrev pub Clear : Blend → Blend → Type 0
+Clear B C =
+    ((B .across .m ≤ C .across .l * 1) ⊎ (C .across .r * 1 ≤ B .across .m)) ⊎ ((B .up .m ≤ C .up .l * 1) ⊎ (C .up .r * 1 ≤ B .up .m))
+
+pub clear : (L : List Blend) → noneNested L ≡ true → (B C : Blend) → List·Memᴰ B L → List·Memᴰ C L → (B ≡ C → ⊥) → Clear B C
+unfolding noneNested
+clear L apart B C mB mC differ =
+    let no = not-true _ (all-at (λ (X : Blend). not (nested B X)) L (all-at (λ (X : Blend). all (λ (Y : Blend). not (nested X Y)) L) L apart B mB) C mC) in
+    ⊎-elim
+    (λ e. ⊎-elim (λ s. absurd (differ (same-blend B C (not-false _ s)))) (λ s. inl (outside (B .across .m) (C .across) s))
+    (and-fails (not (same B C)) (between (B .across .m) (C .across)) e))
+    (λ e. inr (outside (B .up .m) (C .up) e))
+    (and-fails (not (same B C) && between (B .across .m) (C .across)) (between (B .up .m) (C .up)) no)
+  where
+    outside : (z : ℕ) (t : Triple) → between z t ≡ false → (z ≤ t .l * 1) ⊎ (t .r * 1 ≤ z)
+    outside z t e =
+        ⊎-elim (λ s. let le : z ≤ t .l = ltb-false _ _ s in inl (omega arith)) (λ s. let le : t .r ≤ z = ltb-false _ _ s in inr (omega arith))
+        (and-fails (ltb (t .l) z) (ltb z (t .r)) e)
+
+-- a product is 0 where a factor is
+zero-left : (a b : ℕ) → a ≡ 0 → a * b ≡ 0
+zero-left a b e = omega (arith, ap (λ (x : ℕ). x * b) e)
+
+zero-right : (a b : ℕ) → b ≡ 0 → a * b ≡ 0
+zero-right a b e = omega (arith, ap (λ (x : ℕ). a * x) e)
+
+module _ (w h : ℕ) (L : List Blend) (apart : noneNested L ≡ true) (rise : (C : Blend) → List·Memᴰ C L → proper w h C ≡ true) where
+  -- at its own anchor a blend weighs one, at every other anchor 0
+  pub own-anchor : (C : Blend) → List·Memᴰ C L →
+      (weight C (C .across .m) (C .up .m) 1 .num ≡ weight C (C .across .m) (C .up .m) 1 .den) × (0 < weight C (C .across .m) (C .up .m) 1 .den)
+  own-anchor C m = (rw (hat-middle (C .across), hat-middle (C .up)), weight-den w h C (rise C m) (C .across .m) (C .up .m) 1 (omega arith))
+
+  pub other-anchor : (B C : Blend) → List·Memᴰ B L → List·Memᴰ C L → (B ≡ C → ⊥) → weight C (B .across .m) (B .up .m) 1 .num ≡ 0
+  other-anchor B C mB mC differ =
+      ⊎-elim (λ o. zero-left _ _ (hat-outside (C .across) (across-rise w h C (rise C mC)) (B .across .m) 1 (omega arith) o))
+      (λ o. zero-right _ _ (hat-outside (C .up) (up-rise w h C (rise C mC)) (B .up .m) 1 (omega arith) o))
+      (clear L apart B C mB mC differ)
