@@ -103,10 +103,12 @@ module _ {A : Type 0} where
   sum-zero f (x ∷ xs) h =
       omega (arith, h x (List·Memᴰ.List·Memᴰ·head refl), sum-zero f xs (λ y m. h y (List·Memᴰ.List·Memᴰ·tail m)))
 
-  -- sums of multiples
-  pub sum-linear : (a b : ℕ) (f g : A → ℕ) (xs : List A) → sum (λ x. a * f x + b * g x) xs ≡ a * sum f xs + b * sum g xs
-  sum-linear a b f g [] = omega arith
-  sum-linear a b f g (x ∷ xs) = omega (arith, sum-linear a b f g xs)
+  -- what holds of multiples at each entry holds of the sums
+  pub sum-linear : (a b c : ℕ) (f g k : A → ℕ) (xs : List A) →
+      ((x : A) → List·Memᴰ x xs → a * f x ≡ b * g x + c * k x) → a * sum f xs ≡ b * sum g xs + c * sum k xs
+  sum-linear a b c f g k [] h = omega arith
+  sum-linear a b c f g k (x ∷ xs) h =
+      omega (arith, h x (List·Memᴰ.List·Memᴰ·head refl), sum-linear a b c f g k xs (λ y m. h y (List·Memᴰ.List·Memᴰ·tail m)))
 
   -- a sum all of whose terms but one are 0
   pub sum-single : (f : A → ℕ) (xs : List A) → Distinct xs → (a : A) → List·Memᴰ a xs →

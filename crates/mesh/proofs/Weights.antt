@@ -124,3 +124,92 @@ module _ (w h : ℕ) (L : List Blend) (apart : noneNested L ≡ true) (rise : (C
       ⊎-elim (λ o. zero-left _ _ (hat-outside (C .across) (across-rise w h C (rise C mC)) (B .across .m) 1 (omega arith) o))
       (λ o. zero-right _ _ (hat-outside (C .up) (up-rise w h C (rise C mC)) (B .up .m) 1 (omega arith) o))
       (clear L apart B C mB mC differ)
+
+-- a sum of multiples, times one more factor
+times-right : (a b c f g k v : ℕ) → a * f ≡ b * g + c * k → a * (f * v) ≡ b * (g * v) + c * (k * v)
+times-right a b c f g k v e = omega (arith, ap (λ (x : ℕ). x * v) e)
+
+times-left : (a b c f g k u : ℕ) → a * f ≡ b * g + c * k → a * (u * f) ≡ b * (u * g) + c * (u * k)
+times-left a b c f g k u e = omega (arith, ap (λ (x : ℕ). u * x) e)
+
+-- a blend's weight, multiplied by (all * d) * (all * d)
+abbrev pub scaledWeight : {n : ℕ} → Multiple n → Blend → ℕ → ℕ → ℕ → ℕ
+scaledWeight K B p q d = scaledHat K (B .across) p d * scaledHat K (B .up) q d
+
+abbrev pub scaledValue : {n : ℕ} → Multiple n → List Term → ℕ → ℕ → ℕ → ℕ
+scaledValue K ts p q d = sum (λ (t : Term). t .multiple * scaledWeight K (t .of) p q d) ts
+
+-- A function on the points is reproduced by L when it is the sum over L of its values at the anchors times the blends.
+-- Such functions are all `all * all` times too large here, and so are the weights of L.
+abbrev pub Reproduced : {n : ℕ} → Multiple n → List Blend → (ℕ → ℕ → ℕ → ℕ) → Type 0
+Reproduced K L f =
+    (p q d : ℕ) → K .all * K .all * f p q d ≡ sum (λ (C : Blend). f (C .across .m) (C .up .m) 1 * scaledWeight K C p q d) L
+
+module _ {n : ℕ} (K : Multiple n) (L : List Blend) where
+  pub reproduced-none : Reproduced K L (λ p q d. 0)
+  reproduced-none p q d = omega (arith, sum-zero (λ (C : Blend). 0 * scaledWeight K C p q d) L (λ C m. omega arith))
+
+  -- a function some multiple of which is a sum of multiples of reproduced ones
+  pub reproduced-sum : (a b c : ℕ) (f g k : ℕ → ℕ → ℕ → ℕ) → 0 < a → ((p q d : ℕ) → a * f p q d ≡ b * g p q d + c * k p q d) →
+      Reproduced K L g → Reproduced K L k → Reproduced K L f
+  reproduced-sum a b c f g k pos law rg rk p q d =
+      eq-of-mul-eq-mul-left a pos _ _
+      (join _ _ _ _ _ _ _ (law p q d) (rg p q d) (rk p q d)
+      (sum-linear a b c (at f) (at g) (at k) L (λ C m. times-right _ _ _ _ _ _ _ (law (C .across .m) (C .up .m) 1))))
+    where
+      at : (ℕ → ℕ → ℕ → ℕ) → Blend → ℕ
+      at f C = f (C .across .m) (C .up .m) 1 * scaledWeight K C p q d
+
+      join : (K f g k sf sg sk : ℕ) → a * f ≡ b * g + c * k → K * g ≡ sg → K * k ≡ sk → a * sf ≡ b * sg + c * sk → a * (K * f) ≡ a * sf
+      join K f g k sf sg sk e eg ek es = omega (arith, ap (λ (x : ℕ). K * x) e, ap (λ (x : ℕ). b * x) eg, ap (λ (x : ℕ). c * x) ek)
+
+module _ {n : ℕ} (K : Multiple n) (w h : ℕ) (wide : w + 2 ≤ n) (tall : h + 2 ≤ n) where
+  pub scaled-weight : (B : Blend) → proper w h B ≡ true → (p q d : ℕ) → Scaled (K .all * d * (K .all * d)) (weight B p q d) (scaledWeight K B p q d)
+  scaled-weight B ok p q d =
+      let a = across-within w h B ok in
+      let b = up-within w h B ok in
+      scaled-times (K .all * d) (K .all * d) (hat (B .across) p d) (hat (B .up) q d) (scaledHat K (B .across) p d) (scaledHat K (B .up) q d)
+      (scaled-hat K (B .across) (across-rise w h B ok) (omega arith) p d) (scaled-hat K (B .up) (up-rise w h B ok) (omega arith) q d)
+
+  -- the two-scale law of a cut: a multiple of the blend is a sum of multiples of its halves
+  pub cut-law : (B : Blend) → proper w h B ≡ true → (d : Direction) (z : ℕ) → inside z (crossed d B) ≡ true →
+      (a b c : ℕ) × (0 < a) × ((p q e : ℕ) → a * scaledWeight K B p q e ≡
+      b * scaledWeight K (halve d lower z B) p q e + c * scaledWeight K (halve d upper z B) p q e)
+  unfolding halve
+  cut-law B ok upright z i =
+      let a = across-within w h B ok in
+      let t = two-scale K (B .across) z (across-rise w h B ok) (omega arith) (inside-of z (B .across) i) in
+      (t .0, t .1, t .2, t .3, λ p q e. times-right _ _ _ _ _ _ (scaledHat K (B .up) q e) (t .4 p e))
+  cut-law B ok level z i =
+      let b = up-within w h B ok in
+      let t = two-scale K (B .up) z (up-rise w h B ok) (omega arith) (inside-of z (B .up) i) in
+      (t .0, t .1, t .2, t .3, λ p q e. times-left _ _ _ _ _ _ (scaledHat K (B .across) p e) (t .4 q e))
+
+  -- the first four add up to one on the domain
+  pub first-four : 1 ≤ w → 1 ≤ h → (p q d : ℕ) → d ≤ p → p ≤ (w + 1) * d → d ≤ q → q ≤ (h + 1) * d →
+      sum (λ (B : Blend). scaledWeight K B p q d) (firstFour w h) ≡ K .all * d * (K .all * d)
+  first-four ws hs p q d p-low p-high q-low q-high =
+      product _ _ _ _ _ (first-two K w ws wide p d p-low p-high) (first-two K h hs tall q d q-low q-high)
+    where
+      product : (a b c e S : ℕ) → a + b ≡ S → c + e ≡ S → a * c + (a * e + (b * c + (b * e + 0))) ≡ S * S
+      product a b c e S x y = omega (arith, ap (λ (i : ℕ). i * (c + e)) x, ap (λ (i : ℕ). S * i) y)
+
+module _ (w h : ℕ) (L : List Blend) (distinct : Distinct L) (apart : noneNested L ≡ true) (rise : (C : Blend) → List·Memᴰ C L → proper w h C ≡ true)
+    {n : ℕ} (K : Multiple n) (wide : w + 2 ≤ n) (tall : h + 2 ≤ n) where
+  scaled-own : (C : Blend) → List·Memᴰ C L → scaledWeight K C (C .across .m) (C .up .m) 1 ≡ K .all * K .all
+  scaled-own C m =
+      let a = across-within w h C (rise C m) in
+      let b = up-within w h C (rise C m) in
+      rw (scaled-middle K (C .across) (across-rise w h C (rise C m)) (omega arith), scaled-middle K (C .up) (up-rise w h C (rise C m)) (omega arith))
+
+  scaled-other : (B C : Blend) → List·Memᴰ B L → List·Memᴰ C L → (B ≡ C → ⊥) → scaledWeight K C (B .across .m) (B .up .m) 1 ≡ 0
+  scaled-other B C mB mC differ =
+      ⊎-elim (λ o. zero-left _ _ (scaled-outside K (C .across) (B .across .m) 1 o))
+      (λ o. zero-right _ _ (scaled-outside K (C .up) (B .up .m) 1 o))
+      (clear L apart B C mB mC differ)
+
+  pub member-reproduced : (B : Blend) → List·Memᴰ B L → Reproduced K L (scaledWeight K B)
+  member-reproduced B m p q d =
+      ap (λ (x : ℕ). x * scaledWeight K B p q d) (sym (scaled-own B m)) ∙
+      sym (sum-single (λ (C : Blend). scaledWeight K B (C .across .m) (C .up .m) 1 * scaledWeight K C p q d) L distinct B m
+      (λ C mC differ. zero-left _ _ (scaled-other C B mC m differ)))
