@@ -103,6 +103,11 @@ module _ {A : Type 0} where
   sum-zero f (x ∷ xs) h =
       omega (arith, h x (List·Memᴰ.List·Memᴰ·head refl), sum-zero f xs (λ y m. h y (List·Memᴰ.List·Memᴰ·tail m)))
 
+  pub sum-multiple : (a : ℕ) (f g : A → ℕ) (xs : List A) → ((x : A) → List·Memᴰ x xs → a * f x ≡ g x) → a * sum f xs ≡ sum g xs
+  sum-multiple a f g [] h = omega arith
+  sum-multiple a f g (x ∷ xs) h =
+      omega (arith, h x (List·Memᴰ.List·Memᴰ·head refl), sum-multiple a f g xs (λ y m. h y (List·Memᴰ.List·Memᴰ·tail m)))
+
   -- what holds of multiples at each entry holds of the sums
   pub sum-linear : (a b c : ℕ) (f g k : A → ℕ) (xs : List A) →
       ((x : A) → List·Memᴰ x xs → a * f x ≡ b * g x + c * k x) → a * sum f xs ≡ b * sum g xs + c * sum k xs

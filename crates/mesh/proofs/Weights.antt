@@ -1,8 +1,8 @@
 -- Weights of blends: what they are at anchors and over unit squares, that blends are reproduced by what is left of them, and that live blends add up to one.
 use Prim.Native.Nat.{ℕ, zero, suc, _+_, _*_, _-_, _<_, _≤_}
 use native.Mathlib.Omega.{arith}
-use native.Mathlib.Nat.{mul-pos, mul-le-mul-right, eq-of-mul-eq-mul-left}
-use mathlib.Core.Path.{_≡_, refl, sym, ap, _∙_}
+use native.Mathlib.Nat.{mul-pos, mul-le-mul-right, eq-of-mul-eq-mul-left, one-mul}
+use mathlib.Core.Path.{_≡_, refl, sym, ap, subst, _∙_}
 use mathlib.Core.Logic.{_⊎_, _↔_, inl, inr, ⊎-elim}
 use mathlib.Core.Bool.{Bool, true, false, _&&_, not}
 use mathlib.Core.List.{List, [], _∷_, map, List·Memᴰ, List·Memᴰ·not-nil}
@@ -19,7 +19,7 @@ use Rattle.mesh.specs.declared.Triple.{Triple}
 use Rattle.mesh.specs.declared.Blend.{Blend}
 use Rattle.mesh.proofs.Tests.{either, and-both, and-of, and-fails, all-at, true-not-false}
 use Rattle.mesh.proofs.Distinct.{Distinct}
-use Rattle.mesh.proofs.Scale.{Multiple, common, Scaled, scaled-times, scaled-total, scaled-more, scaled-multiple, scaled-equal, scaled-one, total-positive, sum, sum-same, sum-zero, sum-linear, sum-single}
+use Rattle.mesh.proofs.Scale.{Multiple, common, Scaled, scaled-times, scaled-total, scaled-more, scaled-multiple, scaled-equal, scaled-one, total-positive, sum, sum-same, sum-zero, sum-multiple, sum-linear, sum-single}
 use Rattle.mesh.proofs.Hats.{Rise, Inside, rising-rise, rising-within, rising-of, inside-of, half-rise, half-within, half-narrower, hat-den, hat-middle, hat-outside, step-positive, scaledHat, scaled-hat, two-scale, scaled-middle, scaled-outside, first-two}
 
 -- a proper blend, axis by axis
@@ -132,6 +132,24 @@ times-right a b c f g k v e = omega (arith, ap (λ (x : ℕ). x * v) e)
 times-left : (a b c f g k u : ℕ) → a * f ≡ b * g + c * k → a * (u * f) ≡ b * (u * g) + c * (u * k)
 times-left a b c f g k u e = omega (arith, ap (λ (x : ℕ). u * x) e)
 
+first-proper : (w h : ℕ) → 1 ≤ w → 1 ≤ h → all (proper w h) (firstFour w h) ≡ true
+first-proper w h ws hs =
+    and-of _ _ (and-of _ _ (lows w ws) (lows h hs)) (and-of _ _ (and-of _ _ (lows w ws) (highs h hs))
+    (and-of _ _ (and-of _ _ (highs w ws) (lows h hs)) (and-of _ _ (and-of _ _ (highs w ws) (highs h hs)) refl)))
+  where
+    lows : (s : ℕ) → 1 ≤ s → rising s (low s) ≡ true
+    lows s le = rising-of s (low s) (record { low = omega arith; high = omega arith }) (omega arith)
+
+    highs : (s : ℕ) → 1 ≤ s → rising s (high s) ≡ true
+    highs s le = rising-of s (high s) (record { low = omega arith; high = omega arith }) (omega arith)
+
+-- the scale of a weight: at the anchors, where d is 1, and in general
+at-one : (k : ℕ) → k * 1 * (k * 1) ≡ k * k
+at-one k = omega arith
+
+scale-positive : (k d : ℕ) → 0 < k → 0 < d → 0 < k * d * (k * d)
+scale-positive k d k-pos d-pos = mul-pos (mul-pos k-pos d-pos) (mul-pos k-pos d-pos)
+
 -- a blend's weight, multiplied by (all * d) * (all * d)
 abbrev pub scaledWeight : {n : ℕ} → Multiple n → Blend → ℕ → ℕ → ℕ → ℕ
 scaledWeight K B p q d = scaledHat K (B .across) p d * scaledHat K (B .up) q d
@@ -162,6 +180,15 @@ module _ {n : ℕ} (K : Multiple n) (L : List Blend) where
 
       join : (K f g k sf sg sk : ℕ) → a * f ≡ b * g + c * k → K * g ≡ sg → K * k ≡ sk → a * sf ≡ b * sg + c * sk → a * (K * f) ≡ a * sf
       join K f g k sf sg sk e eg ek es = omega (arith, ap (λ (x : ℕ). K * x) e, ap (λ (x : ℕ). b * x) eg, ap (λ (x : ℕ). c * x) ek)
+
+  -- a reproduced function that is one at all anchors is the sum of the weights
+  pub reproduced-one : (f : ℕ → ℕ → ℕ → ℕ) → Reproduced K L f →
+      ((C : Blend) → List·Memᴰ C L → f (C .across .m) (C .up .m) 1 ≡ K .all * K .all) →
+      (p q d : ℕ) → sum (λ (C : Blend). scaledWeight K C p q d) L ≡ f p q d
+  reproduced-one f r one p q d =
+      eq-of-mul-eq-mul-left (K .all * K .all) (mul-pos (K .positive) (K .positive)) _ _
+      (sum-multiple (K .all * K .all) (λ (C : Blend). scaledWeight K C p q d) (λ (C : Blend). f (C .across .m) (C .up .m) 1 * scaledWeight K C p q d) L
+      (λ C m. ap (λ (x : ℕ). x * scaledWeight K C p q d) (sym (one C m))) ∙ sym (r p q d))
 
 module _ {n : ℕ} (K : Multiple n) (w h : ℕ) (wide : w + 2 ≤ n) (tall : h + 2 ≤ n) where
   pub scaled-weight : (B : Blend) → proper w h B ≡ true → (p q d : ℕ) → Scaled (K .all * d * (K .all * d)) (weight B p q d) (scaledWeight K B p q d)
@@ -213,3 +240,130 @@ module _ (w h : ℕ) (L : List Blend) (distinct : Distinct L) (apart : noneNeste
       ap (λ (x : ℕ). x * scaledWeight K B p q d) (sym (scaled-own B m)) ∙
       sym (sum-single (λ (C : Blend). scaledWeight K B (C .across .m) (C .up .m) 1 * scaledWeight K C p q d) L distinct B m
       (λ C mC differ. zero-left _ _ (scaled-other C B mC m differ)))
+
+cuts-inside : (M : Mesh) (d : Direction) (z : ℕ) (B : Blend) → cuts M d z B ≡ true → inside z (crossed d B) ≡ true
+unfolding cuts
+cuts-inside M d z B e = and-both (inside z (crossed d B)) (coversBlend M d B z) e .0
+
+-- all that is left of B is in L
+abbrev pub Covered : Mesh → List Blend → Blend → Type 0
+Covered M L B = (C : Blend) → Left M B C → List·Memᴰ C L
+
+-- terms whose blends are proper and covered
+abbrev pub CoveredTerms : Mesh → ℕ → ℕ → List Blend → List Term → Type 0
+CoveredTerms M w h L ts = (t : Term) → List·Memᴰ t ts → (proper w h (t .of) ≡ true) × Covered M L (t .of)
+
+module _ (M : Mesh) (w h : ℕ) (L : List Blend)
+    (decide : (B : Blend) → proper w h B ≡ true → Uncut M B ⊎ ((d : Direction) × (z : ℕ) × (cuts M d z B ≡ true)))
+    (distinct : Distinct L) (apart : noneNested L ≡ true) (rise : (C : Blend) → List·Memᴰ C L → proper w h C ≡ true) where
+  module _ {n : ℕ} (K : Multiple n) (wide : w + 2 ≤ n) (tall : h + 2 ≤ n) where
+    -- A covered blend is in L or is cut, and then its halves are covered too: by induction on its size it is reproduced.
+    covered-within : (f : ℕ) (B : Blend) → size B ≤ f → proper w h B ≡ true → Covered M L B → Reproduced K L (scaledWeight K B)
+    covered-within zero B le ok cov = absurd (omega (arith, across-rise w h B ok))
+    covered-within (suc f) B le ok cov =
+        ⊎-elim (λ u. member-reproduced w h L distinct apart rise K wide tall B (cov B (record { comes = here; uncut = u })))
+        (λ c. let i = cuts-inside M (c .0) (c .1) B (c .2) in
+        let law = cut-law K w h wide tall B ok (c .0) (c .1) i in
+        let part : (s : Side) → Reproduced K L (scaledWeight K (halve (c .0) s (c .1) B)) =
+        λ s. covered-within f (halve (c .0) s (c .1) B) (omega (arith, halve-smaller w h B ok (c .0) s (c .1) i))
+        (halve-proper w h B ok (c .0) s (c .1) i)
+        (λ C left. cov C (record { comes = cut (c .0) (c .1) s (c .2) (left .comes); uncut = left .uncut })) in
+        reproduced-sum K L (law .0) (law .1) (law .2) (scaledWeight K B) _ _ (law .3) (law .4) (part lower) (part upper))
+        (decide B ok)
+
+    pub covered-reproduced : (B : Blend) → proper w h B ≡ true → Covered M L B → Reproduced K L (scaledWeight K B)
+    covered-reproduced B ok cov = covered-within (size B) B (omega arith) ok cov
+
+    -- and so is a sum of multiples of such blends
+    pub sum-reproduced : {A : Type 0} (c : A → ℕ) (b : A → Blend) (xs : List A) →
+        ((x : A) → List·Memᴰ x xs → (proper w h (b x) ≡ true) × Covered M L (b x)) →
+        Reproduced K L (λ p q d. sum (λ x. c x * scaledWeight K (b x) p q d) xs)
+    sum-reproduced c b [] cov = reproduced-none K L
+    sum-reproduced c b (x ∷ xs) cov =
+        let head = cov x (List·Memᴰ.List·Memᴰ·head refl) in
+        reproduced-sum K L 1 (c x) 1 _ (scaledWeight K (b x)) (λ p q d. sum (λ y. c y * scaledWeight K (b y) p q d) xs)
+        (omega arith) (λ p q d. one-more _ _)
+        (covered-reproduced (b x) (head .0) (head .1))
+        (sum-reproduced c b xs (λ y m. cov y (List·Memᴰ.List·Memᴰ·tail m)))
+      where
+        one-more : (a s : ℕ) → 1 * (a + s) ≡ a + 1 * s
+        one-more a s = omega arith
+
+    pub terms-reproduced : (ts : List Term) → CoveredTerms M w h L ts → Reproduced K L (scaledValue K ts)
+    terms-reproduced ts cov = sum-reproduced (λ (t : Term). t .multiple) (λ (t : Term). t .of) ts cov
+
+    pub scaled-value : (ts : List Term) → CoveredTerms M w h L ts → (p q d : ℕ) →
+        Scaled (K .all * d * (K .all * d)) (value ts p q d) (scaledValue K ts p q d)
+    scaled-value ts cov p q d =
+        scaled-total (K .all * d * (K .all * d)) (λ (t : Term). times (whole (t .multiple)) (weight (t .of) p q d))
+        (λ (t : Term). t .multiple * scaledWeight K (t .of) p q d) ts
+        (λ t m. scaled-multiple (t .multiple) _ (weight (t .of) p q d) _ (scaled-weight K w h wide tall (t .of) (cov t m .0) p q d))
+
+    pub scaled-interpolated : (ts : List Term) → CoveredTerms M w h L ts → (p q d : ℕ) →
+        Scaled (K .all * K .all * (K .all * d * (K .all * d))) (interpolated ts L p q d)
+        (sum (λ (C : Blend). scaledValue K ts (C .across .m) (C .up .m) 1 * scaledWeight K C p q d) L)
+    scaled-interpolated ts cov p q d =
+        scaled-total _ (λ (C : Blend). times (value ts (C .across .m) (C .up .m) 1) (weight C p q d))
+        (λ (C : Blend). scaledValue K ts (C .across .m) (C .up .m) 1 * scaledWeight K C p q d) L
+        (λ C m. scaled-times _ _ (value ts (C .across .m) (C .up .m) 1) (weight C p q d) _ _
+        (rw (at-one (K .all)) at (scaled-value ts cov (C .across .m) (C .up .m) 1)) (scaled-weight K w h wide tall C (rise C m) p q d))
+
+    reproduced-with : (ts : List Term) → CoveredTerms M w h L ts → (p q d : ℕ) → 0 < d → Equal (value ts p q d) (interpolated ts L p q d)
+    reproduced-with ts cov p q d pos =
+        scaled-equal _ (value ts p q d) (interpolated ts L p q d) _ (mul-pos (mul-pos (K .positive) (K .positive)) (scale-positive (K .all) d (K .positive) pos))
+        (rw (terms-reproduced ts cov p q d) at (scaled-more (K .all * K .all) _ (value ts p q d) _ (scaled-value ts cov p q d)))
+        (scaled-interpolated ts cov p q d)
+
+    -- the weights of L add up to what those of the first four do
+    pub weights-add-up : ((B : Blend) → List·Memᴰ B (firstFour w h) → Covered M L B) → 1 ≤ w → 1 ≤ h → (p q d : ℕ) →
+        d ≤ p → p ≤ (w + 1) * d → d ≤ q → q ≤ (h + 1) * d → sum (λ (C : Blend). scaledWeight K C p q d) L ≡ K .all * d * (K .all * d)
+    weights-add-up full ws hs p q d p-low p-high q-low q-high =
+        reproduced-one K L four
+        (sum-reproduced (λ (B : Blend). 1) (λ (B : Blend). B) (firstFour w h)
+        (λ B m. (all-at (proper w h) (firstFour w h) (first-proper w h ws hs) B m, full B m)))
+        at-anchor p q d ∙ four-one p q d p-low p-high q-low q-high
+      where
+        four : ℕ → ℕ → ℕ → ℕ
+        four p q d = sum (λ (B : Blend). 1 * scaledWeight K B p q d) (firstFour w h)
+
+        four-one : (p q d : ℕ) → d ≤ p → p ≤ (w + 1) * d → d ≤ q → q ≤ (h + 1) * d → four p q d ≡ K .all * d * (K .all * d)
+        four-one p q d a b c e =
+            sum-same (λ (B : Blend). 1 * scaledWeight K B p q d) (λ (B : Blend). scaledWeight K B p q d) (firstFour w h) (λ B m. one-mul _) ∙
+            first-four K w h wide tall ws hs p q d a b c e
+
+        at-anchor : (C : Blend) → List·Memᴰ C L → four (C .across .m) (C .up .m) 1 ≡ K .all * K .all
+        at-anchor C m =
+            let a = across-rise w h C (rise C m) in
+            let b = up-rise w h C (rise C m) in
+            let a′ = across-within w h C (rise C m) in
+            let b′ = up-within w h C (rise C m) in
+            four-one (C .across .m) (C .up .m) 1 (omega arith) (omega arith) (omega arith) (omega arith) ∙ at-one (K .all)
+
+  -- what is reproduced, in fractions: at every point, inside the domain or not
+  pub reproduced : (ts : List Term) → CoveredTerms M w h L ts → (p q d : ℕ) → 0 < d → Equal (value ts p q d) (interpolated ts L p q d)
+  reproduced = reproduced-with (common (w + h + 2)) (omega arith) (omega arith)
+
+  -- at each point of the domain, told in document 01's own coordinates, the weights of L add up to one
+  pub adds-up : ((B : Blend) → List·Memᴰ B (firstFour w h) → (C : Blend) → Left M B C → List·Memᴰ C L) → 1 ≤ w → 1 ≤ h →
+      (p q d : ℕ) → 0 < d → p ≤ w * d → q ≤ h * d →
+      let s = total (map (λ (C : Blend). weight C (p + d) (q + d) d) L) in (s .num ≡ s .den) × (0 < s .den)
+  adds-up full ws hs p q d pos p-in q-in = (
+    scaled-one S s (scale-positive (K .all) d (K .positive) pos)
+        (subst (λ (x : ℕ). Scaled S s x)
+        (weights-add-up K (omega arith) (omega arith) full ws hs (p + d) (q + d) d (omega arith) (omega arith) (omega arith) (omega arith))
+        (scaled-total S f (λ (C : Blend). scaledWeight K C (p + d) (q + d) d) L
+        (λ C m. scaled-weight K w h (omega arith) (omega arith) C (rise C m) (p + d) (q + d) d))),
+    total-positive f L (λ C m. weight-den w h C (rise C m) (p + d) (q + d) d pos),
+  )
+    where
+      K : Multiple (w + h + 2)
+      K = common (w + h + 2)
+
+      f : Blend → Fraction
+      f C = weight C (p + d) (q + d) d
+
+      s : Fraction
+      s = total (map f L)
+
+      S : ℕ
+      S = K .all * d * (K .all * d)
