@@ -5,11 +5,11 @@ use native.Mathlib.Nat.{mul-pos, mul-le-mul-left, mul-le-mul-right, eq-of-mul-eq
 use mathlib.Core.Path.{_≡_, refl, sym, ap, _∙_}
 use mathlib.Core.Logic.{_⊎_, _↔_, inl, inr, ⊎-elim}
 use mathlib.Core.Bool.{Bool, true, false, cond, _&&_, not}
-use borrow.Author.Tests.{ltb-true, ltb-false, leb-true, leb-false, eqb-false, lt-ltb, le-leb, not-true}
+use borrow.Author.Tests.{ltb-true, ltb-false, leb-true, leb-false, eqb-true, eqb-false, lt-ltb, le-leb, not-true}
 use lib.Dec.{ltb, leb, eqb}
-use Rattle.mesh.specs.Triple.{Fraction, triple, hat, Side, lower, upper, half, inside, low, high, rising, spans, between}
+use Rattle.mesh.specs.Triple.{Fraction, triple, hat, Side, lower, upper, half, inside, low, high, rising, spans, between, sameTriple}
 use Rattle.mesh.specs.declared.Triple.{Triple}
-use Rattle.mesh.proofs.Tests.{either, and-both, and-of, cond-true, cond-false}
+use Rattle.mesh.proofs.Tests.{either, and-both, and-of, and-fails, cond-true, cond-false}
 use Rattle.mesh.proofs.Scale.{Multiple, Scaled}
 
 pub record Rise (t : Triple) : Type 0 where
@@ -42,6 +42,22 @@ inside-of z t e =
     let b = and-both (ltb (t .l) z) (ltb z (t .r)) (a .0) in
     record { low = ltb-true _ _ (b .0); high = ltb-true _ _ (b .1); off = eqb-false _ _ (not-true _ (a .1)) }
 
+pub not-between : (z : ℕ) (t : Triple) → between z t ≡ false → (z ≤ t .l) ⊎ (t .r ≤ z)
+not-between z t e = ⊎-elim (λ s. inl (ltb-false _ _ s)) (λ s. inr (ltb-false _ _ s)) (and-fails (ltb (t .l) z) (ltb z (t .r)) e)
+
+pub same-triple : (s t : Triple) → sameTriple s t ≡ true → s ≡ t
+same-triple s t e =
+    let a = and-both (eqb (s .l) (t .l) && eqb (s .m) (t .m)) (eqb (s .r) (t .r)) e in
+    let b = and-both (eqb (s .l) (t .l)) (eqb (s .m) (t .m)) (a .0) in
+    λ i. record { l = eqb-true (s .l) (t .l) (b .0) i; m = eqb-true (s .m) (t .m) (b .1) i; r = eqb-true (s .r) (t .r) (a .1) i }
+
+-- the first two triples rise
+pub low-rise : (w : ℕ) → 1 ≤ w → Rise (low w)
+low-rise w side = record { low = omega arith; high = omega arith }
+
+pub high-rise : (w : ℕ) → 1 ≤ w → Rise (high w)
+high-rise w side = record { low = omega arith; high = omega arith }
+
 -- a half rises too, within its triple, and is narrower
 pub half-rise : (t : Triple) (z : ℕ) → Rise t → Inside z t → (s : Side) → Rise (half s z t)
 unfolding half
@@ -58,6 +74,7 @@ unfolding half
 half-narrower t z rise ins lower = omega arith
 half-narrower t z rise ins upper = omega arith
 
+-- the hat's two sides
 hat-left : (t : Triple) (p d : ℕ) → leb p (t .m * d) ≡ true → hat t p d ≡ record { num = p - t .l * d; den = (t .m - t .l) * d }
 unfolding hat
 hat-left t p d e = cond-true _ _ _ e
@@ -72,13 +89,16 @@ hat-cases : (t : Triple) (p d : ℕ) (P : Fraction → Type 0) →
 hat-cases t p d P f g =
     ⊎-elim (λ e. rw (hat-left t p d e) (f (leb-true _ _ e))) (λ e. rw (hat-right t p d e) (g (leb-false _ _ e))) (either (leb p (t .m * d)))
 
--- a hat's denominator
 pub hat-den : (t : Triple) → Rise t → (p d : ℕ) → 0 < d → 0 < hat t p d .den
 hat-den t rise p d pos = hat-cases t p d (λ x. 0 < x .den) (λ le. mul-pos (omega arith) pos) (λ gt. mul-pos (omega arith) pos)
 
 -- one at the middle
 pub hat-middle : (t : Triple) → hat t (t .m) 1 .num ≡ hat t (t .m) 1 .den
 hat-middle t = hat-cases t (t .m) 1 (λ x. x .num ≡ x .den) (λ le. omega arith) (λ gt. absurd (omega arith))
+
+-- a knot as the point z / 1
+knot : (z : ℕ) (t : Triple) → (z ≤ t .l) ⊎ (t .r ≤ z) → (z ≤ t .l * 1) ⊎ (t .r * 1 ≤ z)
+knot z t h = ⊎-elim (λ (le : z ≤ t .l). inl (omega arith)) (λ (le : t .r ≤ z). inr (omega arith)) h
 
 -- 0 from the ends on, and above 0 between them
 pub hat-outside : (t : Triple) → Rise t → (p d : ℕ) → 0 < d → (p ≤ t .l * d) ⊎ (t .r * d ≤ p) → hat t p d .num ≡ 0
@@ -88,6 +108,9 @@ hat-outside t rise p d pos h =
     ⊎-elim
     (λ (far : p ≤ t .l * d). hat-cases t p d (λ x. x .num ≡ 0) (λ le. omega arith) (λ gt. omega arith))
     (λ (far : t .r * d ≤ p). hat-cases t p d (λ x. x .num ≡ 0) (λ le. omega arith) (λ gt. omega arith)) h
+
+pub hat-off : (t : Triple) → Rise t → (z : ℕ) → between z t ≡ false → hat t z 1 .num ≡ 0
+hat-off t rise z e = hat-outside t rise z 1 (omega arith) (knot z t (not-between z t e))
 
 pub hat-positive : (t : Triple) (p d : ℕ) → t .l * d < p → p < t .r * d → 0 < hat t p d .num
 hat-positive t p d lo hi = hat-cases t p d (λ x. 0 < x .num) (λ le. omega arith) (λ gt. omega arith)
@@ -134,25 +157,22 @@ half-above t z h =
 abbrev pub scaledHat : {n : ℕ} → Multiple n → Triple → ℕ → ℕ → ℕ
 scaledHat K t p d = min (K .part (t .m - t .l) * (p - t .l * d)) (K .part (t .r - t .m) * (t .r * d - p))
 
--- a slope of K over a gap g, c = K / g, against its height at the middle, K * d
-slope-least : (c g K d u : ℕ) → c * g ≡ K → u ≤ g * d → c * u ≤ K * d
-slope-least c g K d u e le = omega (arith, mul-le-mul-left c le, ap (λ (x : ℕ). x * d) e)
+-- a slope c = K / g over a run u, against its height over the whole gap g, K * d
+slope : (c g K d u : ℕ) → c * g ≡ K → (u ≤ g * d → c * u ≤ K * d) × (g * d ≤ u → K * d ≤ c * u)
+slope c g K d u e = (
+  λ le. omega (arith, mul-le-mul-left c le, ap (λ (x : ℕ). x * d) e),
+  λ ge. omega (arith, mul-le-mul-left c ge, ap (λ (x : ℕ). x * d) e),
+)
 
-slope-most : (c g K d u : ℕ) → c * g ≡ K → g * d ≤ u → K * d ≤ c * u
-slope-most c g K d u e le = omega (arith, mul-le-mul-left c le, ap (λ (x : ℕ). x * d) e)
+-- the runs from a up to p and from p up to b, against the gap
+run-up : (a g b p d : ℕ) → a + g ≡ b → (p ≤ b * d → p - a * d ≤ g * d) × (b * d ≤ p → g * d ≤ p - a * d)
+run-up a g b p d e = omega (arith, ap (λ (x : ℕ). x * d) e)
 
--- the slopes' runs against the gap
-up-to : (a g b p d : ℕ) → a + g ≡ b → p ≤ b * d → p - a * d ≤ g * d
-up-to a g b p d e le = omega (arith, ap (λ (x : ℕ). x * d) e)
+run-down : (a g b p d : ℕ) → a + g ≡ b → (a * d ≤ p → b * d - p ≤ g * d) × (p ≤ a * d → g * d ≤ b * d - p)
+run-down a g b p d e = omega (arith, ap (λ (x : ℕ). x * d) e)
 
-past : (a g b p d : ℕ) → a + g ≡ b → b * d ≤ p → g * d ≤ p - a * d
-past a g b p d e le = omega (arith, ap (λ (x : ℕ). x * d) e)
-
-down-to : (a g b p d : ℕ) → a + g ≡ b → a * d ≤ p → b * d - p ≤ g * d
-down-to a g b p d e le = omega (arith, ap (λ (x : ℕ). x * d) e)
-
-before : (a g b p d : ℕ) → a + g ≡ b → p ≤ a * d → g * d ≤ b * d - p
-before a g b p d e le = omega (arith, ap (λ (x : ℕ). x * d) e)
+lesser : (u v w : ℕ) → u ≤ w → w ≤ v → (min u v ≡ u) × (min v u ≡ u)
+lesser u v w a b = omega arith
 
 -- left of the middle the second ramp is 0; right of it the first is full
 flat : (c c′ p ld md rd : ℕ) → p ≤ md → c * (p - ld) + c′ * ((p - md) - (p - rd)) ≡ c * ((p - ld) - (p - md))
@@ -172,7 +192,7 @@ full c c′ K l g m g′ r p d e e′ f f′ le =
     joined x y z v u =
         omega (arith, ap (λ (i : ℕ). c′ * i) v, ap (λ (i : ℕ). c * i) u, ap (λ (i : ℕ). i * d) e, ap (λ (i : ℕ). i * d) e′)
 
--- ramps over neighbouring gaps, multiplied by them, telescope: R is the height of p over a knot
+-- Ramps over neighbouring gaps, multiplied by them, telescope: ra, rb and rc are how far p is past the knots.
 telescope : (x y z K g g′ g″ ra rb rc : ℕ) → x * g ≡ K → y * g′ ≡ K → z * g″ ≡ K → rc ≤ rb → rb ≤ ra →
     g″ * (z * (ra - rc)) ≡ g * (x * (ra - rb)) + g′ * (y * (rb - rc))
 telescope x y z K g g′ g″ ra rb rc e e′ e″ le le′ =
@@ -195,32 +215,31 @@ law-above g g′ g″ f x y rlm rmz rzr rmr e ef ex ey t =
     omega (arith, ap (λ (i : ℕ). g″ * i) ef, ap (λ (i : ℕ). g″ * i) ex, ap (λ (i : ℕ). g′ * i) ey, ap (λ (i : ℕ). i * rmz) e)
 
 module _ {n : ℕ} (K : Multiple n) where
+  -- the gaps of a triple divide the common multiple
+  part-low : (t : Triple) → Rise t → t .r ≤ n → K .part (t .m - t .l) * (t .m - t .l) ≡ K .all
+  part-low t rise within = K .parts _ (omega arith) (omega arith)
+
+  part-high : (t : Triple) → Rise t → t .r ≤ n → K .part (t .r - t .m) * (t .r - t .m) ≡ K .all
+  part-high t rise within = K .parts _ (omega arith) (omega arith)
+
   -- left of the middle the hat rises, right of it falls
   pub hat-rises : (t : Triple) → Rise t → t .r ≤ n → (p d : ℕ) → p ≤ t .m * d → scaledHat K t p d ≡ K .part (t .m - t .l) * (p - t .l * d)
   hat-rises t rise within p d le =
-      lesser _ _ _
-      (slope-least (K .part (t .m - t .l)) (t .m - t .l) (K .all) d _ (K .parts _ (omega arith) (omega arith)) (up-to (t .l) _ (t .m) p d (omega arith) le))
-      (slope-most (K .part (t .r - t .m)) (t .r - t .m) (K .all) d _ (K .parts _ (omega arith) (omega arith)) (before (t .m) _ (t .r) p d (omega arith) le))
-    where
-      lesser : (u v w : ℕ) → u ≤ w → w ≤ v → min u v ≡ u
-      lesser u v w a b = omega arith
+      lesser _ _ _ (slope _ _ _ d _ (part-low t rise within) .0 (run-up (t .l) _ (t .m) p d (omega arith) .0 le))
+      (slope _ _ _ d _ (part-high t rise within) .1 (run-down (t .m) _ (t .r) p d (omega arith) .1 le)) .0
 
   pub hat-falls : (t : Triple) → Rise t → t .r ≤ n → (p d : ℕ) → t .m * d ≤ p → scaledHat K t p d ≡ K .part (t .r - t .m) * (t .r * d - p)
   hat-falls t rise within p d le =
-      lesser _ _ _
-      (slope-most (K .part (t .m - t .l)) (t .m - t .l) (K .all) d _ (K .parts _ (omega arith) (omega arith)) (past (t .l) _ (t .m) p d (omega arith) le))
-      (slope-least (K .part (t .r - t .m)) (t .r - t .m) (K .all) d _ (K .parts _ (omega arith) (omega arith)) (down-to (t .m) _ (t .r) p d (omega arith) le))
-    where
-      lesser : (u v w : ℕ) → w ≤ u → v ≤ w → min u v ≡ v
-      lesser u v w a b = omega arith
+      lesser _ _ _ (slope _ _ _ d _ (part-high t rise within) .0 (run-down (t .m) _ (t .r) p d (omega arith) .0 le))
+      (slope _ _ _ d _ (part-low t rise within) .1 (run-up (t .l) _ (t .m) p d (omega arith) .1 le)) .1
 
   -- the multiplied hat is the hat
   pub scaled-hat : (t : Triple) → Rise t → t .r ≤ n → (p d : ℕ) → Scaled (K .all * d) (hat t p d) (scaledHat K t p d)
   scaled-hat t rise within p d =
       ⊎-elim
-      (λ e. rw (hat-left t p d e, hat-rises t rise within p d (leb-true _ _ e)) (turned _ _ _ _ d (K .parts _ (omega arith) (omega arith))))
+      (λ e. rw (hat-left t p d e, hat-rises t rise within p d (leb-true _ _ e)) (turned _ _ _ _ d (part-low t rise within)))
       (λ e. let le : t .m * d < p = leb-false _ _ e in
-      rw (hat-right t p d e, hat-falls t rise within p d (omega arith)) (turned _ _ _ _ d (K .parts _ (omega arith) (omega arith))))
+      rw (hat-right t p d e, hat-falls t rise within p d (omega arith)) (turned _ _ _ _ d (part-high t rise within)))
       (either (leb p (t .m * d)))
     where
       turned : (c g K u d : ℕ) → c * g ≡ K → c * u * (g * d) ≡ u * (K * d)
@@ -238,7 +257,7 @@ module _ {n : ℕ} (K : Multiple n) where
       rw (hat-rises t rise within p d le) (flat _ _ _ _ _ _ le))
       (λ e. let le : t .m * d < p = leb-false _ _ e in
       let le′ : t .m * d ≤ p = omega arith in
-      rw (hat-falls t rise within p d le′) (full _ _ (K .all) (t .l) (t .m - t .l) (t .m) (t .r - t .m) (t .r) p d (K .parts _ (omega arith) (omega arith)) (K .parts _ (omega arith) (omega arith)) (omega arith) (omega arith) le′))
+      rw (hat-falls t rise within p d le′) (full _ _ (K .all) (t .l) _ (t .m) _ (t .r) p d (part-low t rise within) (part-high t rise within) (omega arith) (omega arith) le′))
       (either (leb p (t .m * d)))
 
   ramps-join : (a b c : ℕ) → a < b → b < c → c ≤ n → (p d : ℕ) →
@@ -292,7 +311,7 @@ module _ {n : ℕ} (K : Multiple n) where
   pub scaled-middle : (t : Triple) → Rise t → t .r ≤ n → scaledHat K t (t .m) 1 ≡ K .all
   scaled-middle t rise within =
       let e : t .m - t .l * 1 ≡ t .m - t .l = omega arith in
-      hat-rises t rise within (t .m) 1 (omega arith) ∙ rw e (K .parts _ (omega arith) (omega arith))
+      hat-rises t rise within (t .m) 1 (omega arith) ∙ rw e (part-low t rise within)
 
   pub scaled-outside : (t : Triple) (p d : ℕ) → (p ≤ t .l * d) ⊎ (t .r * d ≤ p) → scaledHat K t p d ≡ 0
   scaled-outside t p d h =
@@ -300,12 +319,15 @@ module _ {n : ℕ} (K : Multiple n) where
       (λ (le : p ≤ t .l * d). let e : p - t .l * d ≡ 0 = omega arith in rw e (omega arith))
       (λ (le : t .r * d ≤ p). let e : t .r * d - p ≡ 0 = omega arith in rw e (omega arith)) h
 
+  pub scaled-off : (t : Triple) (z : ℕ) → between z t ≡ false → scaledHat K t z 1 ≡ 0
+  scaled-off t z e = scaled-outside t z 1 (knot z t (not-between z t e))
+
   -- on the domain of side w the first two hats add up to one
   pub first-two : (w : ℕ) → 1 ≤ w → w + 2 ≤ n → (p d : ℕ) → d ≤ p → p ≤ (w + 1) * d →
       scaledHat K (low w) p d + scaledHat K (high w) p d ≡ K .all * d
   first-two w side within p d le ge =
-      let f = hat-falls (low w) (record { low = omega arith; high = omega arith }) (omega arith) p d (omega arith) in
-      let r = hat-rises (high w) (record { low = omega arith; high = omega arith }) within p d ge in
+      let f = hat-falls (low w) (low-rise w side) (omega arith) p d (omega arith) in
+      let r = hat-rises (high w) (high-rise w side) within p d ge in
       rw (f, r) (both (K .part (w + 1 - 1)) (w + 1 - 1) (K .all) ((w + 1) * d - p) (p - 1 * d) d (K .parts _ (omega arith) (omega arith)) (run (w + 1 - 1) (omega arith)))
     where
       run : (g : ℕ) → g ≡ w → ((w + 1) * d - p) + (p - 1 * d) ≡ g * d

@@ -20,7 +20,7 @@ use Rattle.mesh.specs.declared.Blend.{Blend}
 use Rattle.mesh.proofs.Tests.{either, and-both, and-of, and-fails, all-at, true-not-false}
 use Rattle.mesh.proofs.Distinct.{Distinct}
 use Rattle.mesh.proofs.Scale.{Multiple, common, Scaled, scaled-times, scaled-total, scaled-more, scaled-multiple, scaled-equal, scaled-one, total-positive, sum, sum-same, sum-zero, sum-multiple, sum-linear, sum-single}
-use Rattle.mesh.proofs.Hats.{Rise, Inside, rising-rise, rising-within, rising-of, inside-of, half-rise, half-within, half-narrower, hat-den, hat-middle, hat-outside, step-positive, scaledHat, scaled-hat, two-scale, scaled-middle, scaled-outside, first-two}
+use Rattle.mesh.proofs.Hats.{Rise, Inside, rising-rise, rising-within, rising-of, inside-of, half-rise, half-within, half-narrower, low-rise, high-rise, same-triple, hat-den, hat-middle, hat-off, step-positive, scaledHat, scaled-hat, two-scale, scaled-middle, scaled-off, first-two}
 
 -- a proper blend, axis by axis
 module _ (w h : ℕ) (B : Blend) (ok : proper w h B ≡ true) where
@@ -75,36 +75,22 @@ module _ (w h : ℕ) (B : Blend) (ok : proper w h B ≡ true) where
   halve-smaller level s z e = omega (arith, half-narrower (B .up) z up-rise (inside-of z (B .up) e) s)
 
 -- blends that the test calls equal are equal
-same-triple : (s t : Triple) → sameTriple s t ≡ true → s ≡ t
-same-triple s t e =
-    let a = and-both (eqb (s .l) (t .l) && eqb (s .m) (t .m)) (eqb (s .r) (t .r)) e in
-    let b = and-both (eqb (s .l) (t .l)) (eqb (s .m) (t .m)) (a .0) in
-    λ i. record { l = eqb-true (s .l) (t .l) (b .0) i; m = eqb-true (s .m) (t .m) (b .1) i; r = eqb-true (s .r) (t .r) (a .1) i }
-
-same-blend : (B C : Blend) → same B C ≡ true → B ≡ C
+pub same-blend : (B C : Blend) → same B C ≡ true → B ≡ C
 same-blend B C e =
     let a = and-both (sameTriple (B .across) (C .across)) (sameTriple (B .up) (C .up)) e in
     λ i. record { across = same-triple (B .across) (C .across) (a .0) i; up = same-triple (B .up) (C .up) (a .1) i }
 
--- the anchor of B is not strictly inside the support of C, another blend: on one axis it lies at an end or beyond
-abbrev pub Clear : Blend → Blend → Type 0
-Clear B C =
-    ((B .across .m ≤ C .across .l * 1) ⊎ (C .across .r * 1 ≤ B .across .m)) ⊎ ((B .up .m ≤ C .up .l * 1) ⊎ (C .up .r * 1 ≤ B .up .m))
-
-pub clear : (L : List Blend) → noneNested L ≡ true → (B C : Blend) → List·Memᴰ B L → List·Memᴰ C L → (B ≡ C → ⊥) → Clear B C
+-- where no anchor is strictly inside another's support, it is off that support on one axis at least
+clear : (L : List Blend) → noneNested L ≡ true → (B C : Blend) → List·Memᴰ B L → List·Memᴰ C L → (B ≡ C → ⊥) →
+    (between (B .across .m) (C .across) ≡ false) ⊎ (between (B .up .m) (C .up) ≡ false)
 unfolding noneNested
 clear L apart B C mB mC differ =
     let no = not-true _ (all-at (λ (X : Blend). not (nested B X)) L (all-at (λ (X : Blend). all (λ (Y : Blend). not (nested X Y)) L) L apart B mB) C mC) in
     ⊎-elim
-    (λ e. ⊎-elim (λ s. absurd (differ (same-blend B C (not-false _ s)))) (λ s. inl (outside (B .across .m) (C .across) s))
+    (λ e. ⊎-elim (λ s. absurd (differ (same-blend B C (not-false _ s)))) (λ s. inl s)
     (and-fails (not (same B C)) (between (B .across .m) (C .across)) e))
-    (λ e. inr (outside (B .up .m) (C .up) e))
+    (λ e. inr e)
     (and-fails (not (same B C) && between (B .across .m) (C .across)) (between (B .up .m) (C .up)) no)
-  where
-    outside : (z : ℕ) (t : Triple) → between z t ≡ false → (z ≤ t .l * 1) ⊎ (t .r * 1 ≤ z)
-    outside z t e =
-        ⊎-elim (λ s. let le : z ≤ t .l = ltb-false _ _ s in inl (omega arith)) (λ s. let le : t .r ≤ z = ltb-false _ _ s in inr (omega arith))
-        (and-fails (ltb (t .l) z) (ltb z (t .r)) e)
 
 -- a product is 0 where a factor is
 zero-left : (a b : ℕ) → a ≡ 0 → a * b ≡ 0
@@ -121,8 +107,8 @@ module _ (w h : ℕ) (L : List Blend) (apart : noneNested L ≡ true) (rise : (C
 
   pub other-anchor : (B C : Blend) → List·Memᴰ B L → List·Memᴰ C L → (B ≡ C → ⊥) → weight C (B .across .m) (B .up .m) 1 .num ≡ 0
   other-anchor B C mB mC differ =
-      ⊎-elim (λ o. zero-left _ _ (hat-outside (C .across) (across-rise w h C (rise C mC)) (B .across .m) 1 (omega arith) o))
-      (λ o. zero-right _ _ (hat-outside (C .up) (up-rise w h C (rise C mC)) (B .up .m) 1 (omega arith) o))
+      ⊎-elim (λ o. zero-left _ _ (hat-off (C .across) (across-rise w h C (rise C mC)) (B .across .m) o))
+      (λ o. zero-right _ _ (hat-off (C .up) (up-rise w h C (rise C mC)) (B .up .m) o))
       (clear L apart B C mB mC differ)
 
 -- a sum of multiples, times one more factor
@@ -132,16 +118,18 @@ times-right a b c f g k v e = omega (arith, ap (λ (x : ℕ). x * v) e)
 times-left : (a b c f g k u : ℕ) → a * f ≡ b * g + c * k → a * (u * f) ≡ b * (u * g) + c * (u * k)
 times-left a b c f g k u e = omega (arith, ap (λ (x : ℕ). u * x) e)
 
-first-proper : (w h : ℕ) → 1 ≤ w → 1 ≤ h → all (proper w h) (firstFour w h) ≡ true
+-- the first four are proper
+pub first-proper : (w h : ℕ) → 1 ≤ w → 1 ≤ h → (B : Blend) → List·Memᴰ B (firstFour w h) → proper w h B ≡ true
 first-proper w h ws hs =
-    and-of _ _ (and-of _ _ (lows w ws) (lows h hs)) (and-of _ _ (and-of _ _ (lows w ws) (highs h hs))
-    (and-of _ _ (and-of _ _ (highs w ws) (lows h hs)) (and-of _ _ (and-of _ _ (highs w ws) (highs h hs)) refl)))
+    all-at (proper w h) (firstFour w h)
+    (and-of _ _ (and-of _ _ (lows w ws) (lows h hs)) (and-of _ _ (and-of _ _ (lows w ws) (highs h hs))
+    (and-of _ _ (and-of _ _ (highs w ws) (lows h hs)) (and-of _ _ (and-of _ _ (highs w ws) (highs h hs)) refl))))
   where
     lows : (s : ℕ) → 1 ≤ s → rising s (low s) ≡ true
-    lows s le = rising-of s (low s) (record { low = omega arith; high = omega arith }) (omega arith)
+    lows s le = rising-of s (low s) (low-rise s le) (omega arith)
 
     highs : (s : ℕ) → 1 ≤ s → rising s (high s) ≡ true
-    highs s le = rising-of s (high s) (record { low = omega arith; high = omega arith }) (omega arith)
+    highs s le = rising-of s (high s) (high-rise s le) (omega arith)
 
 -- the scale of a weight: at the anchors, where d is 1, and in general
 at-one : (k : ℕ) → k * 1 * (k * 1) ≡ k * k
@@ -150,7 +138,7 @@ at-one k = omega arith
 scale-positive : (k d : ℕ) → 0 < k → 0 < d → 0 < k * d * (k * d)
 scale-positive k d k-pos d-pos = mul-pos (mul-pos k-pos d-pos) (mul-pos k-pos d-pos)
 
--- a blend's weight, multiplied by (all * d) * (all * d)
+-- A blend's weight, multiplied by (all * d) * (all * d); and a sum of multiples of weights.
 abbrev pub scaledWeight : {n : ℕ} → Multiple n → Blend → ℕ → ℕ → ℕ → ℕ
 scaledWeight K B p q d = scaledHat K (B .across) p d * scaledHat K (B .up) q d
 
@@ -158,7 +146,7 @@ abbrev pub scaledValue : {n : ℕ} → Multiple n → List Term → ℕ → ℕ 
 scaledValue K ts p q d = sum (λ (t : Term). t .multiple * scaledWeight K (t .of) p q d) ts
 
 -- A function on the points is reproduced by L when it is the sum over L of its values at the anchors times the blends.
--- Such functions are all `all * all` times too large here, and so are the weights of L.
+-- Here it and the weights of L are multiplied out alike, so each product on the right holds the multiple once more than f does.
 abbrev pub Reproduced : {n : ℕ} → Multiple n → List Blend → (ℕ → ℕ → ℕ → ℕ) → Type 0
 Reproduced K L f =
     (p q d : ℕ) → K .all * K .all * f p q d ≡ sum (λ (C : Blend). f (C .across .m) (C .up .m) 1 * scaledWeight K C p q d) L
@@ -198,6 +186,23 @@ module _ {n : ℕ} (K : Multiple n) (w h : ℕ) (wide : w + 2 ≤ n) (tall : h +
       scaled-times (K .all * d) (K .all * d) (hat (B .across) p d) (hat (B .up) q d) (scaledHat K (B .across) p d) (scaledHat K (B .up) q d)
       (scaled-hat K (B .across) (across-rise w h B ok) (omega arith) p d) (scaled-hat K (B .up) (up-rise w h B ok) (omega arith) q d)
 
+  pub scaled-value : (ts : List Term) → ((t : Term) → List·Memᴰ t ts → proper w h (t .of) ≡ true) → (p q d : ℕ) →
+      Scaled (K .all * d * (K .all * d)) (value ts p q d) (scaledValue K ts p q d)
+  scaled-value ts ok p q d =
+      scaled-total (K .all * d * (K .all * d)) (λ (t : Term). times (whole (t .multiple)) (weight (t .of) p q d))
+      (λ (t : Term). t .multiple * scaledWeight K (t .of) p q d) ts
+      (λ t m. scaled-multiple (t .multiple) _ (weight (t .of) p q d) _ (scaled-weight (t .of) (ok t m) p q d))
+
+  pub scaled-interpolated : (ts : List Term) (L : List Blend) → ((t : Term) → List·Memᴰ t ts → proper w h (t .of) ≡ true) →
+      ((C : Blend) → List·Memᴰ C L → proper w h C ≡ true) → (p q d : ℕ) →
+      Scaled (K .all * K .all * (K .all * d * (K .all * d))) (interpolated ts L p q d)
+      (sum (λ (C : Blend). scaledValue K ts (C .across .m) (C .up .m) 1 * scaledWeight K C p q d) L)
+  scaled-interpolated ts L ok rise p q d =
+      scaled-total _ (λ (C : Blend). times (value ts (C .across .m) (C .up .m) 1) (weight C p q d))
+      (λ (C : Blend). scaledValue K ts (C .across .m) (C .up .m) 1 * scaledWeight K C p q d) L
+      (λ C m. scaled-times _ _ (value ts (C .across .m) (C .up .m) 1) (weight C p q d) _ _
+      (rw (at-one (K .all)) at (scaled-value ts ok (C .across .m) (C .up .m) 1)) (scaled-weight C (rise C m) p q d))
+
   -- the two-scale law of a cut: a multiple of the blend is a sum of multiples of its halves
   pub cut-law : (B : Blend) → proper w h B ≡ true → (d : Direction) (z : ℕ) → inside z (crossed d B) ≡ true →
       (a b c : ℕ) × (0 < a) × ((p q e : ℕ) → a * scaledWeight K B p q e ≡
@@ -211,6 +216,14 @@ module _ {n : ℕ} (K : Multiple n) (w h : ℕ) (wide : w + 2 ≤ n) (tall : h +
       let b = up-within w h B ok in
       let t = two-scale K (B .up) z (up-rise w h B ok) (omega arith) (inside-of z (B .up) i) in
       (t .0, t .1, t .2, t .3, λ p q e. times-left _ _ _ _ _ _ (scaledHat K (B .across) p e) (t .4 q e))
+
+  -- a blend whose halves are reproduced is
+  cut-reproduced : (L : List Blend) (B : Blend) → proper w h B ≡ true → (d : Direction) (z : ℕ) → inside z (crossed d B) ≡ true →
+      ((s : Side) → Reproduced K L (scaledWeight K (halve d s z B))) → Reproduced K L (scaledWeight K B)
+  cut-reproduced L B ok d z i halves =
+      let law = cut-law B ok d z i in
+      reproduced-sum K L (law .0) (law .1) (law .2) (scaledWeight K B) (scaledWeight K (halve d lower z B)) (scaledWeight K (halve d upper z B))
+      (law .3) (law .4) (halves lower) (halves upper)
 
   -- the first four add up to one on the domain
   pub first-four : 1 ≤ w → 1 ≤ h → (p q d : ℕ) → d ≤ p → p ≤ (w + 1) * d → d ≤ q → q ≤ (h + 1) * d →
@@ -231,8 +244,8 @@ module _ (w h : ℕ) (L : List Blend) (distinct : Distinct L) (apart : noneNeste
 
   scaled-other : (B C : Blend) → List·Memᴰ B L → List·Memᴰ C L → (B ≡ C → ⊥) → scaledWeight K C (B .across .m) (B .up .m) 1 ≡ 0
   scaled-other B C mB mC differ =
-      ⊎-elim (λ o. zero-left _ _ (scaled-outside K (C .across) (B .across .m) 1 o))
-      (λ o. zero-right _ _ (scaled-outside K (C .up) (B .up .m) 1 o))
+      ⊎-elim (λ o. zero-left _ _ (scaled-off K (C .across) (B .across .m) o))
+      (λ o. zero-right _ _ (scaled-off K (C .up) (B .up .m) o))
       (clear L apart B C mB mC differ)
 
   pub member-reproduced : (B : Blend) → List·Memᴰ B L → Reproduced K L (scaledWeight K B)
@@ -249,6 +262,10 @@ cuts-inside M d z B e = and-both (inside z (crossed d B)) (coversBlend M d B z) 
 abbrev pub Covered : Mesh → List Blend → Blend → Type 0
 Covered M L B = (C : Blend) → Left M B C → List·Memᴰ C L
 
+half-covered : (M : Mesh) (L : List Blend) (B : Blend) (d : Direction) (s : Side) (z : ℕ) → cuts M d z B ≡ true →
+    Covered M L B → Covered M L (halve d s z B)
+half-covered M L B d s z e cov C left = cov C (record { comes = cut d z s e (left .comes); uncut = left .uncut })
+
 -- terms whose blends are proper and covered
 abbrev pub CoveredTerms : Mesh → ℕ → ℕ → List Blend → List Term → Type 0
 CoveredTerms M w h L ts = (t : Term) → List·Memᴰ t ts → (proper w h (t .of) ≡ true) × Covered M L (t .of)
@@ -257,18 +274,15 @@ module _ (M : Mesh) (w h : ℕ) (L : List Blend)
     (decide : (B : Blend) → proper w h B ≡ true → Uncut M B ⊎ ((d : Direction) × (z : ℕ) × (cuts M d z B ≡ true)))
     (distinct : Distinct L) (apart : noneNested L ≡ true) (rise : (C : Blend) → List·Memᴰ C L → proper w h C ≡ true) where
   module _ {n : ℕ} (K : Multiple n) (wide : w + 2 ≤ n) (tall : h + 2 ≤ n) where
-    -- A covered blend is in L or is cut, and then its halves are covered too: by induction on its size it is reproduced.
+    -- A covered blend is in L, or is cut, and then its halves are covered too: by induction on its size it is reproduced.
     covered-within : (f : ℕ) (B : Blend) → size B ≤ f → proper w h B ≡ true → Covered M L B → Reproduced K L (scaledWeight K B)
     covered-within zero B le ok cov = absurd (omega (arith, across-rise w h B ok))
     covered-within (suc f) B le ok cov =
         ⊎-elim (λ u. member-reproduced w h L distinct apart rise K wide tall B (cov B (record { comes = here; uncut = u })))
         (λ c. let i = cuts-inside M (c .0) (c .1) B (c .2) in
-        let law = cut-law K w h wide tall B ok (c .0) (c .1) i in
-        let part : (s : Side) → Reproduced K L (scaledWeight K (halve (c .0) s (c .1) B)) =
-        λ s. covered-within f (halve (c .0) s (c .1) B) (omega (arith, halve-smaller w h B ok (c .0) s (c .1) i))
-        (halve-proper w h B ok (c .0) s (c .1) i)
-        (λ C left. cov C (record { comes = cut (c .0) (c .1) s (c .2) (left .comes); uncut = left .uncut })) in
-        reproduced-sum K L (law .0) (law .1) (law .2) (scaledWeight K B) _ _ (law .3) (law .4) (part lower) (part upper))
+        cut-reproduced K w h wide tall L B ok (c .0) (c .1) i
+        (λ s. covered-within f (halve (c .0) s (c .1) B) (omega (arith, halve-smaller w h B ok (c .0) s (c .1) i))
+        (halve-proper w h B ok (c .0) s (c .1) i) (half-covered M L B (c .0) s (c .1) (c .2) cov)))
         (decide B ok)
 
     pub covered-reproduced : (B : Blend) → proper w h B ≡ true → Covered M L B → Reproduced K L (scaledWeight K B)
@@ -292,27 +306,11 @@ module _ (M : Mesh) (w h : ℕ) (L : List Blend)
     pub terms-reproduced : (ts : List Term) → CoveredTerms M w h L ts → Reproduced K L (scaledValue K ts)
     terms-reproduced ts cov = sum-reproduced (λ (t : Term). t .multiple) (λ (t : Term). t .of) ts cov
 
-    pub scaled-value : (ts : List Term) → CoveredTerms M w h L ts → (p q d : ℕ) →
-        Scaled (K .all * d * (K .all * d)) (value ts p q d) (scaledValue K ts p q d)
-    scaled-value ts cov p q d =
-        scaled-total (K .all * d * (K .all * d)) (λ (t : Term). times (whole (t .multiple)) (weight (t .of) p q d))
-        (λ (t : Term). t .multiple * scaledWeight K (t .of) p q d) ts
-        (λ t m. scaled-multiple (t .multiple) _ (weight (t .of) p q d) _ (scaled-weight K w h wide tall (t .of) (cov t m .0) p q d))
-
-    pub scaled-interpolated : (ts : List Term) → CoveredTerms M w h L ts → (p q d : ℕ) →
-        Scaled (K .all * K .all * (K .all * d * (K .all * d))) (interpolated ts L p q d)
-        (sum (λ (C : Blend). scaledValue K ts (C .across .m) (C .up .m) 1 * scaledWeight K C p q d) L)
-    scaled-interpolated ts cov p q d =
-        scaled-total _ (λ (C : Blend). times (value ts (C .across .m) (C .up .m) 1) (weight C p q d))
-        (λ (C : Blend). scaledValue K ts (C .across .m) (C .up .m) 1 * scaledWeight K C p q d) L
-        (λ C m. scaled-times _ _ (value ts (C .across .m) (C .up .m) 1) (weight C p q d) _ _
-        (rw (at-one (K .all)) at (scaled-value ts cov (C .across .m) (C .up .m) 1)) (scaled-weight K w h wide tall C (rise C m) p q d))
-
     reproduced-with : (ts : List Term) → CoveredTerms M w h L ts → (p q d : ℕ) → 0 < d → Equal (value ts p q d) (interpolated ts L p q d)
     reproduced-with ts cov p q d pos =
         scaled-equal _ (value ts p q d) (interpolated ts L p q d) _ (mul-pos (mul-pos (K .positive) (K .positive)) (scale-positive (K .all) d (K .positive) pos))
-        (rw (terms-reproduced ts cov p q d) at (scaled-more (K .all * K .all) _ (value ts p q d) _ (scaled-value ts cov p q d)))
-        (scaled-interpolated ts cov p q d)
+        (rw (terms-reproduced ts cov p q d) at (scaled-more (K .all * K .all) _ (value ts p q d) _ (scaled-value K w h wide tall ts (λ t m. cov t m .0) p q d)))
+        (scaled-interpolated K w h wide tall ts L (λ t m. cov t m .0) rise p q d)
 
     -- the weights of L add up to what those of the first four do
     pub weights-add-up : ((B : Blend) → List·Memᴰ B (firstFour w h) → Covered M L B) → 1 ≤ w → 1 ≤ h → (p q d : ℕ) →
@@ -320,7 +318,7 @@ module _ (M : Mesh) (w h : ℕ) (L : List Blend)
     weights-add-up full ws hs p q d p-low p-high q-low q-high =
         reproduced-one K L four
         (sum-reproduced (λ (B : Blend). 1) (λ (B : Blend). B) (firstFour w h)
-        (λ B m. (all-at (proper w h) (firstFour w h) (first-proper w h ws hs) B m, full B m)))
+        (λ B m. (first-proper w h ws hs B m, full B m)))
         at-anchor p q d ∙ four-one p q d p-low p-high q-low q-high
       where
         four : ℕ → ℕ → ℕ → ℕ
