@@ -1,10 +1,10 @@
 -- The hat of one triple, as it stands and multiplied out. Nothing here knows how many axes there are.
-use Prim.Native.Nat.{ℕ, zero, suc, _+_, _*_, _-_, _<_, _≤_, min, max}
+use Prim.Native.Nat.{ℕ, _+_, _*_, _-_, _<_, _≤_, min, max}
 use native.Mathlib.Omega.{arith}
-use native.Mathlib.Nat.{mul-pos, mul-le-mul-left, mul-le-mul-right, eq-of-mul-eq-mul-left}
-use mathlib.Core.Path.{_≡_, refl, sym, ap, _∙_}
+use native.Mathlib.Nat.{mul-pos, mul-le-mul-left, mul-le-mul-right}
+use mathlib.Core.Path.{_≡_, ap, _∙_}
 use mathlib.Core.Logic.{_⊎_, _↔_, inl, inr, ⊎-elim}
-use mathlib.Core.Bool.{Bool, true, false, cond, _&&_, not}
+use mathlib.Core.Bool.{true, false, _&&_, not}
 use borrow.Author.Tests.{ltb-true, ltb-false, leb-true, leb-false, eqb-true, eqb-false, lt-ltb, le-leb, not-true}
 use lib.Dec.{ltb, leb, eqb}
 use Rattle.mesh.specs.Triple.{Fraction, triple, hat, Side, lower, upper, half, inside, low, high, rising, spans, between, sameTriple}

@@ -1,10 +1,10 @@
 -- Fractions as whole numbers: a common multiple of all denominators in play, and what a fraction comes to when it is multiplied by one.
 use Prim.Native.Nat.{ℕ, zero, suc, _+_, _*_, _<_, _≤_}
 use native.Mathlib.Omega.{arith}
-use native.Mathlib.Nat.{mul-pos, eq-of-mul-eq-mul-left, eq-of-mul-eq-mul-right}
+use native.Mathlib.Nat.{mul-pos, eq-of-mul-eq-mul-right}
 use mathlib.Core.Path.{_≡_, refl, sym, ap, _∙_}
-use mathlib.Core.Logic.{_⊎_, ⊎-elim}
-use mathlib.Core.Bool.{Bool, true, false, cond}
+use mathlib.Core.Logic.{⊎-elim}
+use mathlib.Core.Bool.{cond}
 use mathlib.Core.List.{List, [], _∷_, map, List·Memᴰ, List·Memᴰ·not-nil, List·Memᴰ·cases-cons, Memᴰ·cast}
 use borrow.Author.Tests.{eqb-true, eqb-false}
 use lib.Dec.{eqb}

@@ -1,26 +1,24 @@
 -- Weights of blends: what they are at anchors and over unit squares, that blends are reproduced by what is left of them, and that live blends add up to one.
-use Prim.Native.Nat.{ℕ, zero, suc, _+_, _*_, _-_, _<_, _≤_}
+use Prim.Native.Nat.{ℕ, zero, suc, _+_, _*_, _<_, _≤_}
 use native.Mathlib.Omega.{arith}
-use native.Mathlib.Nat.{mul-pos, mul-le-mul-right, eq-of-mul-eq-mul-left, one-mul}
+use native.Mathlib.Nat.{mul-pos, eq-of-mul-eq-mul-left, one-mul}
 use mathlib.Core.Path.{_≡_, refl, sym, ap, subst, _∙_}
 use mathlib.Core.Logic.{_⊎_, _↔_, inl, inr, ⊎-elim}
-use mathlib.Core.Bool.{Bool, true, false, _&&_, not}
-use mathlib.Core.List.{List, [], _∷_, map, List·Memᴰ, List·Memᴰ·not-nil}
-use borrow.Author.Tests.{ltb-false, eqb-true, not-true, not-false}
-use lib.Dec.{ltb, eqb}
+use mathlib.Core.Bool.{true, false, _&&_, not}
+use mathlib.Core.List.{List, [], _∷_, map, List·Memᴰ}
+use borrow.Author.Tests.{not-true, not-false}
 use Rattle.mesh.specs.Range.{all}
-use Rattle.mesh.specs.Triple.{Fraction, hat, Side, lower, upper, half, inside, low, high, rising, spans, between, sameTriple}
+use Rattle.mesh.specs.Triple.{Fraction, hat, Side, lower, upper, inside, low, high, rising, spans, between, sameTriple}
 use Rattle.mesh.specs.Lines.{Direction, upright, level, Mesh}
-use Rattle.mesh.specs.Blends.{blend, crossed, coversBlend, cuts, halve, size, same, firstFour}
-use Rattle.mesh.specs.Order.{Comes, here, cut, Left, Uncut}
+use Rattle.mesh.specs.Blends.{crossed, coversBlend, cuts, halve, size, same, firstFour}
+use Rattle.mesh.specs.Order.{here, cut, Left, Uncut}
 use Rattle.mesh.specs.Sound.{proper, overSquare, nested, noneNested}
-use Rattle.mesh.specs.Weight.{times, plus, whole, total, Equal, weight, Term, value, interpolated}
-use Rattle.mesh.specs.declared.Triple.{Triple}
+use Rattle.mesh.specs.Weight.{times, whole, total, Equal, weight, Term, value, interpolated}
 use Rattle.mesh.specs.declared.Blend.{Blend}
-use Rattle.mesh.proofs.Tests.{either, and-both, and-of, and-fails, all-at, true-not-false}
+use Rattle.mesh.proofs.Tests.{and-both, and-of, and-fails, all-at}
 use Rattle.mesh.proofs.Distinct.{Distinct}
 use Rattle.mesh.proofs.Scale.{Multiple, common, Scaled, scaled-times, scaled-total, scaled-more, scaled-multiple, scaled-equal, scaled-one, total-positive, sum, sum-same, sum-zero, sum-multiple, sum-linear, sum-single}
-use Rattle.mesh.proofs.Hats.{Rise, Inside, rising-rise, rising-within, rising-of, inside-of, half-rise, half-within, half-narrower, low-rise, high-rise, same-triple, hat-den, hat-middle, hat-off, step-positive, scaledHat, scaled-hat, two-scale, scaled-middle, scaled-off, first-two}
+use Rattle.mesh.proofs.Hats.{Rise, rising-rise, rising-within, rising-of, inside-of, half-rise, half-within, half-narrower, low-rise, high-rise, same-triple, hat-den, hat-middle, hat-off, step-positive, scaledHat, scaled-hat, two-scale, scaled-middle, scaled-off, first-two}
 
 -- a proper blend, axis by axis
 module _ (w h : ℕ) (B : Blend) (ok : proper w h B ≡ true) where
