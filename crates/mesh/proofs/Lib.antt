@@ -4,3 +4,6 @@ pub mod Distinct
 pub mod Tables
 pub mod Places
 pub mod Few
+pub mod Scale
+pub mod Hats
+pub mod Weights

@@ -1,0 +1,365 @@
+-- Weights of blends: what they are at anchors and over unit squares, that blends are reproduced by what is left of them, and that live blends add up to one.
+use Prim.Native.Nat.{ℕ, zero, suc, _+_, _*_, _<_, _≤_}
+use native.Mathlib.Omega.{arith}
+use native.Mathlib.Nat.{mul-pos, eq-of-mul-eq-mul-left, one-mul}
+use mathlib.Core.Path.{_≡_, refl, sym, ap, subst, _∙_}
+use mathlib.Core.Logic.{_⊎_, _↔_, inl, inr, ⊎-elim}
+use mathlib.Core.Bool.{true, false, _&&_, not}
+use mathlib.Core.List.{List, [], _∷_, map, List·Memᴰ}
+use borrow.Author.Tests.{not-true, not-false}
+use Rattle.mesh.specs.Range.{all}
+use Rattle.mesh.specs.Triple.{Fraction, hat, Side, lower, upper, inside, low, high, rising, spans, between, sameTriple}
+use Rattle.mesh.specs.Lines.{Direction, upright, level, Mesh}
+use Rattle.mesh.specs.Blends.{crossed, coversBlend, cuts, halve, size, same, firstFour}
+use Rattle.mesh.specs.Order.{here, cut, Left, Uncut}
+use Rattle.mesh.specs.Sound.{proper, overSquare, nested, noneNested}
+use Rattle.mesh.specs.Weight.{times, whole, total, Equal, weight, Term, value, interpolated}
+use Rattle.mesh.specs.declared.Blend.{Blend}
+use Rattle.mesh.proofs.Tests.{and-both, and-of, and-fails, all-at}
+use Rattle.mesh.proofs.Distinct.{Distinct}
+use Rattle.mesh.proofs.Scale.{Multiple, common, Scaled, scaled-times, scaled-total, scaled-more, scaled-multiple, scaled-equal, scaled-one, total-positive, sum, sum-same, sum-zero, sum-multiple, sum-linear, sum-single}
+use Rattle.mesh.proofs.Hats.{Rise, rising-rise, rising-within, rising-of, inside-of, half-rise, half-within, half-narrower, low-rise, high-rise, same-triple, hat-den, hat-middle, hat-off, step-positive, scaledHat, scaled-hat, two-scale, scaled-middle, scaled-off, first-two}
+
+-- a proper blend, axis by axis
+module _ (w h : ℕ) (B : Blend) (ok : proper w h B ≡ true) where
+  across-rises : rising w (B .across) ≡ true
+  across-rises = and-both (rising w (B .across)) (rising h (B .up)) ok .0
+
+  up-rises : rising h (B .up) ≡ true
+  up-rises = and-both (rising w (B .across)) (rising h (B .up)) ok .1
+
+  pub across-rise : Rise (B .across)
+  across-rise = rising-rise w (B .across) across-rises
+
+  pub up-rise : Rise (B .up)
+  up-rise = rising-rise h (B .up) up-rises
+
+  pub across-within : B .across .r ≤ w + 2
+  across-within = rising-within w (B .across) across-rises
+
+  pub up-within : B .up .r ≤ h + 2
+  up-within = rising-within h (B .up) up-rises
+
+  pub weight-den : (p q d : ℕ) → 0 < d → 0 < weight B p q d .den
+  weight-den p q d pos = mul-pos (hat-den (B .across) across-rise p d pos) (hat-den (B .up) up-rise q d pos)
+
+  -- strictly inside a unit square the weight is above 0 exactly when the square lies in the support
+  pub square-positive : (x y p q d : ℕ) → x * d < p → p < (x + 1) * d → y * d < q → q < (y + 1) * d → overSquare x y B ≡ true ↔ 0 < weight B p q d .num
+  square-positive x y p q d x-low x-high y-low y-high =
+      let a = step-positive (B .across) across-rise x p d x-low x-high in
+      let b = step-positive (B .up) up-rise y q d y-low y-high in (
+        λ e. let s = and-both (spans x (B .across)) (spans y (B .up)) e in mul-pos (a .0 (s .0)) (b .0 (s .1)),
+        λ pos. let f = factors (hat (B .across) p d .num) (hat (B .up) q d .num) pos in and-of _ _ (a .1 (f .0)) (b .1 (f .1)),
+      )
+    where
+      factors : (i j : ℕ) → 0 < i * j → (0 < i) × (0 < j)
+      factors zero j pos = absurd (omega arith)
+      factors (suc i) zero pos = absurd (omega arith)
+      factors (suc i) (suc j) pos = omega arith
+
+  -- the halves of a blend
+  pub halve-proper : (d : Direction) (s : Side) (z : ℕ) → inside z (crossed d B) ≡ true → proper w h (halve d s z B) ≡ true
+  unfolding halve
+  halve-proper upright s z e =
+      let i = inside-of z (B .across) e in
+      and-of _ _ (rising-of w _ (half-rise (B .across) z across-rise i s) (omega (arith, across-within, half-within (B .across) z across-rise i s))) up-rises
+  halve-proper level s z e =
+      let i = inside-of z (B .up) e in
+      and-of _ _ across-rises (rising-of h _ (half-rise (B .up) z up-rise i s) (omega (arith, up-within, half-within (B .up) z up-rise i s)))
+
+  pub halve-smaller : (d : Direction) (s : Side) (z : ℕ) → inside z (crossed d B) ≡ true → size (halve d s z B) < size B
+  unfolding halve
+  halve-smaller upright s z e = omega (arith, half-narrower (B .across) z across-rise (inside-of z (B .across) e) s)
+  halve-smaller level s z e = omega (arith, half-narrower (B .up) z up-rise (inside-of z (B .up) e) s)
+
+-- blends that the test calls equal are equal
+pub same-blend : (B C : Blend) → same B C ≡ true → B ≡ C
+same-blend B C e =
+    let a = and-both (sameTriple (B .across) (C .across)) (sameTriple (B .up) (C .up)) e in
+    λ i. record { across = same-triple (B .across) (C .across) (a .0) i; up = same-triple (B .up) (C .up) (a .1) i }
+
+-- where no anchor is strictly inside another's support, it is off that support on one axis at least
+clear : (L : List Blend) → noneNested L ≡ true → (B C : Blend) → List·Memᴰ B L → List·Memᴰ C L → (B ≡ C → ⊥) →
+    (between (B .across .m) (C .across) ≡ false) ⊎ (between (B .up .m) (C .up) ≡ false)
+unfolding noneNested
+clear L apart B C mB mC differ =
+    let no = not-true _ (all-at (λ (X : Blend). not (nested B X)) L (all-at (λ (X : Blend). all (λ (Y : Blend). not (nested X Y)) L) L apart B mB) C mC) in
+    ⊎-elim
+    (λ e. ⊎-elim (λ s. absurd (differ (same-blend B C (not-false _ s)))) (λ s. inl s)
+    (and-fails (not (same B C)) (between (B .across .m) (C .across)) e))
+    (λ e. inr e)
+    (and-fails (not (same B C) && between (B .across .m) (C .across)) (between (B .up .m) (C .up)) no)
+
+-- a product is 0 where a factor is
+zero-left : (a b : ℕ) → a ≡ 0 → a * b ≡ 0
+zero-left a b e = omega (arith, ap (λ (x : ℕ). x * b) e)
+
+zero-right : (a b : ℕ) → b ≡ 0 → a * b ≡ 0
+zero-right a b e = omega (arith, ap (λ (x : ℕ). a * x) e)
+
+module _ (w h : ℕ) (L : List Blend) (apart : noneNested L ≡ true) (rise : (C : Blend) → List·Memᴰ C L → proper w h C ≡ true) where
+  -- at its own anchor a blend weighs one, at every other anchor 0
+  pub own-anchor : (C : Blend) → List·Memᴰ C L →
+      (weight C (C .across .m) (C .up .m) 1 .num ≡ weight C (C .across .m) (C .up .m) 1 .den) × (0 < weight C (C .across .m) (C .up .m) 1 .den)
+  own-anchor C m = (rw (hat-middle (C .across), hat-middle (C .up)), weight-den w h C (rise C m) (C .across .m) (C .up .m) 1 (omega arith))
+
+  pub other-anchor : (B C : Blend) → List·Memᴰ B L → List·Memᴰ C L → (B ≡ C → ⊥) → weight C (B .across .m) (B .up .m) 1 .num ≡ 0
+  other-anchor B C mB mC differ =
+      ⊎-elim (λ o. zero-left _ _ (hat-off (C .across) (across-rise w h C (rise C mC)) (B .across .m) o))
+      (λ o. zero-right _ _ (hat-off (C .up) (up-rise w h C (rise C mC)) (B .up .m) o))
+      (clear L apart B C mB mC differ)
+
+-- a sum of multiples, times one more factor
+times-right : (a b c f g k v : ℕ) → a * f ≡ b * g + c * k → a * (f * v) ≡ b * (g * v) + c * (k * v)
+times-right a b c f g k v e = omega (arith, ap (λ (x : ℕ). x * v) e)
+
+times-left : (a b c f g k u : ℕ) → a * f ≡ b * g + c * k → a * (u * f) ≡ b * (u * g) + c * (u * k)
+times-left a b c f g k u e = omega (arith, ap (λ (x : ℕ). u * x) e)
+
+-- the first four are proper
+pub first-proper : (w h : ℕ) → 1 ≤ w → 1 ≤ h → (B : Blend) → List·Memᴰ B (firstFour w h) → proper w h B ≡ true
+first-proper w h ws hs =
+    all-at (proper w h) (firstFour w h)
+    (and-of _ _ (and-of _ _ (lows w ws) (lows h hs)) (and-of _ _ (and-of _ _ (lows w ws) (highs h hs))
+    (and-of _ _ (and-of _ _ (highs w ws) (lows h hs)) (and-of _ _ (and-of _ _ (highs w ws) (highs h hs)) refl))))
+  where
+    lows : (s : ℕ) → 1 ≤ s → rising s (low s) ≡ true
+    lows s le = rising-of s (low s) (low-rise s le) (omega arith)
+
+    highs : (s : ℕ) → 1 ≤ s → rising s (high s) ≡ true
+    highs s le = rising-of s (high s) (high-rise s le) (omega arith)
+
+-- the scale of a weight: at the anchors, where d is 1, and in general
+at-one : (k : ℕ) → k * 1 * (k * 1) ≡ k * k
+at-one k = omega arith
+
+scale-positive : (k d : ℕ) → 0 < k → 0 < d → 0 < k * d * (k * d)
+scale-positive k d k-pos d-pos = mul-pos (mul-pos k-pos d-pos) (mul-pos k-pos d-pos)
+
+-- A blend's weight, multiplied by (all * d) * (all * d); and a sum of multiples of weights.
+abbrev pub scaledWeight : {n : ℕ} → Multiple n → Blend → ℕ → ℕ → ℕ → ℕ
+scaledWeight K B p q d = scaledHat K (B .across) p d * scaledHat K (B .up) q d
+
+abbrev pub scaledValue : {n : ℕ} → Multiple n → List Term → ℕ → ℕ → ℕ → ℕ
+scaledValue K ts p q d = sum (λ (t : Term). t .multiple * scaledWeight K (t .of) p q d) ts
+
+-- A function on the points is reproduced by L when it is the sum over L of its values at the anchors times the blends.
+-- Here it and the weights of L are multiplied out alike, so each product on the right holds the multiple once more than f does.
+abbrev pub Reproduced : {n : ℕ} → Multiple n → List Blend → (ℕ → ℕ → ℕ → ℕ) → Type 0
+Reproduced K L f =
+    (p q d : ℕ) → K .all * K .all * f p q d ≡ sum (λ (C : Blend). f (C .across .m) (C .up .m) 1 * scaledWeight K C p q d) L
+
+module _ {n : ℕ} (K : Multiple n) (L : List Blend) where
+  pub reproduced-none : Reproduced K L (λ p q d. 0)
+  reproduced-none p q d = omega (arith, sum-zero (λ (C : Blend). 0 * scaledWeight K C p q d) L (λ C m. omega arith))
+
+  -- a function some multiple of which is a sum of multiples of reproduced ones
+  pub reproduced-sum : (a b c : ℕ) (f g k : ℕ → ℕ → ℕ → ℕ) → 0 < a → ((p q d : ℕ) → a * f p q d ≡ b * g p q d + c * k p q d) →
+      Reproduced K L g → Reproduced K L k → Reproduced K L f
+  reproduced-sum a b c f g k pos law rg rk p q d =
+      eq-of-mul-eq-mul-left a pos _ _
+      (join _ _ _ _ _ _ _ (law p q d) (rg p q d) (rk p q d)
+      (sum-linear a b c (at f) (at g) (at k) L (λ C m. times-right _ _ _ _ _ _ _ (law (C .across .m) (C .up .m) 1))))
+    where
+      at : (ℕ → ℕ → ℕ → ℕ) → Blend → ℕ
+      at f C = f (C .across .m) (C .up .m) 1 * scaledWeight K C p q d
+
+      join : (K f g k sf sg sk : ℕ) → a * f ≡ b * g + c * k → K * g ≡ sg → K * k ≡ sk → a * sf ≡ b * sg + c * sk → a * (K * f) ≡ a * sf
+      join K f g k sf sg sk e eg ek es = omega (arith, ap (λ (x : ℕ). K * x) e, ap (λ (x : ℕ). b * x) eg, ap (λ (x : ℕ). c * x) ek)
+
+  -- a reproduced function that is one at all anchors is the sum of the weights
+  pub reproduced-one : (f : ℕ → ℕ → ℕ → ℕ) → Reproduced K L f →
+      ((C : Blend) → List·Memᴰ C L → f (C .across .m) (C .up .m) 1 ≡ K .all * K .all) →
+      (p q d : ℕ) → sum (λ (C : Blend). scaledWeight K C p q d) L ≡ f p q d
+  reproduced-one f r one p q d =
+      eq-of-mul-eq-mul-left (K .all * K .all) (mul-pos (K .positive) (K .positive)) _ _
+      (sum-multiple (K .all * K .all) (λ (C : Blend). scaledWeight K C p q d) (λ (C : Blend). f (C .across .m) (C .up .m) 1 * scaledWeight K C p q d) L
+      (λ C m. ap (λ (x : ℕ). x * scaledWeight K C p q d) (sym (one C m))) ∙ sym (r p q d))
+
+module _ {n : ℕ} (K : Multiple n) (w h : ℕ) (wide : w + 2 ≤ n) (tall : h + 2 ≤ n) where
+  pub scaled-weight : (B : Blend) → proper w h B ≡ true → (p q d : ℕ) → Scaled (K .all * d * (K .all * d)) (weight B p q d) (scaledWeight K B p q d)
+  scaled-weight B ok p q d =
+      let a = across-within w h B ok in
+      let b = up-within w h B ok in
+      scaled-times (K .all * d) (K .all * d) (hat (B .across) p d) (hat (B .up) q d) (scaledHat K (B .across) p d) (scaledHat K (B .up) q d)
+      (scaled-hat K (B .across) (across-rise w h B ok) (omega arith) p d) (scaled-hat K (B .up) (up-rise w h B ok) (omega arith) q d)
+
+  pub scaled-value : (ts : List Term) → ((t : Term) → List·Memᴰ t ts → proper w h (t .of) ≡ true) → (p q d : ℕ) →
+      Scaled (K .all * d * (K .all * d)) (value ts p q d) (scaledValue K ts p q d)
+  scaled-value ts ok p q d =
+      scaled-total (K .all * d * (K .all * d)) (λ (t : Term). times (whole (t .multiple)) (weight (t .of) p q d))
+      (λ (t : Term). t .multiple * scaledWeight K (t .of) p q d) ts
+      (λ t m. scaled-multiple (t .multiple) _ (weight (t .of) p q d) _ (scaled-weight (t .of) (ok t m) p q d))
+
+  pub scaled-interpolated : (ts : List Term) (L : List Blend) → ((t : Term) → List·Memᴰ t ts → proper w h (t .of) ≡ true) →
+      ((C : Blend) → List·Memᴰ C L → proper w h C ≡ true) → (p q d : ℕ) →
+      Scaled (K .all * K .all * (K .all * d * (K .all * d))) (interpolated ts L p q d)
+      (sum (λ (C : Blend). scaledValue K ts (C .across .m) (C .up .m) 1 * scaledWeight K C p q d) L)
+  scaled-interpolated ts L ok rise p q d =
+      scaled-total _ (λ (C : Blend). times (value ts (C .across .m) (C .up .m) 1) (weight C p q d))
+      (λ (C : Blend). scaledValue K ts (C .across .m) (C .up .m) 1 * scaledWeight K C p q d) L
+      (λ C m. scaled-times _ _ (value ts (C .across .m) (C .up .m) 1) (weight C p q d) _ _
+      (rw (at-one (K .all)) at (scaled-value ts ok (C .across .m) (C .up .m) 1)) (scaled-weight C (rise C m) p q d))
+
+  -- the two-scale law of a cut: a multiple of the blend is a sum of multiples of its halves
+  pub cut-law : (B : Blend) → proper w h B ≡ true → (d : Direction) (z : ℕ) → inside z (crossed d B) ≡ true →
+      (a b c : ℕ) × (0 < a) × ((p q e : ℕ) → a * scaledWeight K B p q e ≡
+      b * scaledWeight K (halve d lower z B) p q e + c * scaledWeight K (halve d upper z B) p q e)
+  unfolding halve
+  cut-law B ok upright z i =
+      let a = across-within w h B ok in
+      let t = two-scale K (B .across) z (across-rise w h B ok) (omega arith) (inside-of z (B .across) i) in
+      (t .0, t .1, t .2, t .3, λ p q e. times-right _ _ _ _ _ _ (scaledHat K (B .up) q e) (t .4 p e))
+  cut-law B ok level z i =
+      let b = up-within w h B ok in
+      let t = two-scale K (B .up) z (up-rise w h B ok) (omega arith) (inside-of z (B .up) i) in
+      (t .0, t .1, t .2, t .3, λ p q e. times-left _ _ _ _ _ _ (scaledHat K (B .across) p e) (t .4 q e))
+
+  -- a blend whose halves are reproduced is
+  cut-reproduced : (L : List Blend) (B : Blend) → proper w h B ≡ true → (d : Direction) (z : ℕ) → inside z (crossed d B) ≡ true →
+      ((s : Side) → Reproduced K L (scaledWeight K (halve d s z B))) → Reproduced K L (scaledWeight K B)
+  cut-reproduced L B ok d z i halves =
+      let law = cut-law B ok d z i in
+      reproduced-sum K L (law .0) (law .1) (law .2) (scaledWeight K B) (scaledWeight K (halve d lower z B)) (scaledWeight K (halve d upper z B))
+      (law .3) (law .4) (halves lower) (halves upper)
+
+  -- the first four add up to one on the domain
+  pub first-four : 1 ≤ w → 1 ≤ h → (p q d : ℕ) → d ≤ p → p ≤ (w + 1) * d → d ≤ q → q ≤ (h + 1) * d →
+      sum (λ (B : Blend). scaledWeight K B p q d) (firstFour w h) ≡ K .all * d * (K .all * d)
+  first-four ws hs p q d p-low p-high q-low q-high =
+      product _ _ _ _ _ (first-two K w ws wide p d p-low p-high) (first-two K h hs tall q d q-low q-high)
+    where
+      product : (a b c e S : ℕ) → a + b ≡ S → c + e ≡ S → a * c + (a * e + (b * c + (b * e + 0))) ≡ S * S
+      product a b c e S x y = omega (arith, ap (λ (i : ℕ). i * (c + e)) x, ap (λ (i : ℕ). S * i) y)
+
+module _ (w h : ℕ) (L : List Blend) (distinct : Distinct L) (apart : noneNested L ≡ true) (rise : (C : Blend) → List·Memᴰ C L → proper w h C ≡ true)
+    {n : ℕ} (K : Multiple n) (wide : w + 2 ≤ n) (tall : h + 2 ≤ n) where
+  scaled-own : (C : Blend) → List·Memᴰ C L → scaledWeight K C (C .across .m) (C .up .m) 1 ≡ K .all * K .all
+  scaled-own C m =
+      let a = across-within w h C (rise C m) in
+      let b = up-within w h C (rise C m) in
+      rw (scaled-middle K (C .across) (across-rise w h C (rise C m)) (omega arith), scaled-middle K (C .up) (up-rise w h C (rise C m)) (omega arith))
+
+  scaled-other : (B C : Blend) → List·Memᴰ B L → List·Memᴰ C L → (B ≡ C → ⊥) → scaledWeight K C (B .across .m) (B .up .m) 1 ≡ 0
+  scaled-other B C mB mC differ =
+      ⊎-elim (λ o. zero-left _ _ (scaled-off K (C .across) (B .across .m) o))
+      (λ o. zero-right _ _ (scaled-off K (C .up) (B .up .m) o))
+      (clear L apart B C mB mC differ)
+
+  pub member-reproduced : (B : Blend) → List·Memᴰ B L → Reproduced K L (scaledWeight K B)
+  member-reproduced B m p q d =
+      ap (λ (x : ℕ). x * scaledWeight K B p q d) (sym (scaled-own B m)) ∙
+      sym (sum-single (λ (C : Blend). scaledWeight K B (C .across .m) (C .up .m) 1 * scaledWeight K C p q d) L distinct B m
+      (λ C mC differ. zero-left _ _ (scaled-other C B mC m differ)))
+
+cuts-inside : (M : Mesh) (d : Direction) (z : ℕ) (B : Blend) → cuts M d z B ≡ true → inside z (crossed d B) ≡ true
+unfolding cuts
+cuts-inside M d z B e = and-both (inside z (crossed d B)) (coversBlend M d B z) e .0
+
+-- all that is left of B is in L
+abbrev pub Covered : Mesh → List Blend → Blend → Type 0
+Covered M L B = (C : Blend) → Left M B C → List·Memᴰ C L
+
+half-covered : (M : Mesh) (L : List Blend) (B : Blend) (d : Direction) (s : Side) (z : ℕ) → cuts M d z B ≡ true →
+    Covered M L B → Covered M L (halve d s z B)
+half-covered M L B d s z e cov C left = cov C (record { comes = cut d z s e (left .comes); uncut = left .uncut })
+
+-- terms whose blends are proper and covered
+abbrev pub CoveredTerms : Mesh → ℕ → ℕ → List Blend → List Term → Type 0
+CoveredTerms M w h L ts = (t : Term) → List·Memᴰ t ts → (proper w h (t .of) ≡ true) × Covered M L (t .of)
+
+module _ (M : Mesh) (w h : ℕ) (L : List Blend)
+    (decide : (B : Blend) → proper w h B ≡ true → Uncut M B ⊎ ((d : Direction) × (z : ℕ) × (cuts M d z B ≡ true)))
+    (distinct : Distinct L) (apart : noneNested L ≡ true) (rise : (C : Blend) → List·Memᴰ C L → proper w h C ≡ true) where
+  module _ {n : ℕ} (K : Multiple n) (wide : w + 2 ≤ n) (tall : h + 2 ≤ n) where
+    -- A covered blend is in L, or is cut, and then its halves are covered too: by induction on its size it is reproduced.
+    covered-within : (f : ℕ) (B : Blend) → size B ≤ f → proper w h B ≡ true → Covered M L B → Reproduced K L (scaledWeight K B)
+    covered-within zero B le ok cov = absurd (omega (arith, across-rise w h B ok))
+    covered-within (suc f) B le ok cov =
+        ⊎-elim (λ u. member-reproduced w h L distinct apart rise K wide tall B (cov B (record { comes = here; uncut = u })))
+        (λ c. let i = cuts-inside M (c .0) (c .1) B (c .2) in
+        cut-reproduced K w h wide tall L B ok (c .0) (c .1) i
+        (λ s. covered-within f (halve (c .0) s (c .1) B) (omega (arith, halve-smaller w h B ok (c .0) s (c .1) i))
+        (halve-proper w h B ok (c .0) s (c .1) i) (half-covered M L B (c .0) s (c .1) (c .2) cov)))
+        (decide B ok)
+
+    pub covered-reproduced : (B : Blend) → proper w h B ≡ true → Covered M L B → Reproduced K L (scaledWeight K B)
+    covered-reproduced B ok cov = covered-within (size B) B (omega arith) ok cov
+
+    -- and so is a sum of multiples of such blends
+    pub sum-reproduced : {A : Type 0} (c : A → ℕ) (b : A → Blend) (xs : List A) →
+        ((x : A) → List·Memᴰ x xs → (proper w h (b x) ≡ true) × Covered M L (b x)) →
+        Reproduced K L (λ p q d. sum (λ x. c x * scaledWeight K (b x) p q d) xs)
+    sum-reproduced c b [] cov = reproduced-none K L
+    sum-reproduced c b (x ∷ xs) cov =
+        let head = cov x (List·Memᴰ.List·Memᴰ·head refl) in
+        reproduced-sum K L 1 (c x) 1 _ (scaledWeight K (b x)) (λ p q d. sum (λ y. c y * scaledWeight K (b y) p q d) xs)
+        (omega arith) (λ p q d. one-more _ _)
+        (covered-reproduced (b x) (head .0) (head .1))
+        (sum-reproduced c b xs (λ y m. cov y (List·Memᴰ.List·Memᴰ·tail m)))
+      where
+        one-more : (a s : ℕ) → 1 * (a + s) ≡ a + 1 * s
+        one-more a s = omega arith
+
+    pub terms-reproduced : (ts : List Term) → CoveredTerms M w h L ts → Reproduced K L (scaledValue K ts)
+    terms-reproduced ts cov = sum-reproduced (λ (t : Term). t .multiple) (λ (t : Term). t .of) ts cov
+
+    reproduced-with : (ts : List Term) → CoveredTerms M w h L ts → (p q d : ℕ) → 0 < d → Equal (value ts p q d) (interpolated ts L p q d)
+    reproduced-with ts cov p q d pos =
+        scaled-equal _ (value ts p q d) (interpolated ts L p q d) _ (mul-pos (mul-pos (K .positive) (K .positive)) (scale-positive (K .all) d (K .positive) pos))
+        (rw (terms-reproduced ts cov p q d) at (scaled-more (K .all * K .all) _ (value ts p q d) _ (scaled-value K w h wide tall ts (λ t m. cov t m .0) p q d)))
+        (scaled-interpolated K w h wide tall ts L (λ t m. cov t m .0) rise p q d)
+
+    -- the weights of L add up to what those of the first four do
+    pub weights-add-up : ((B : Blend) → List·Memᴰ B (firstFour w h) → Covered M L B) → 1 ≤ w → 1 ≤ h → (p q d : ℕ) →
+        d ≤ p → p ≤ (w + 1) * d → d ≤ q → q ≤ (h + 1) * d → sum (λ (C : Blend). scaledWeight K C p q d) L ≡ K .all * d * (K .all * d)
+    weights-add-up full ws hs p q d p-low p-high q-low q-high =
+        reproduced-one K L four
+        (sum-reproduced (λ (B : Blend). 1) (λ (B : Blend). B) (firstFour w h)
+        (λ B m. (first-proper w h ws hs B m, full B m)))
+        at-anchor p q d ∙ four-one p q d p-low p-high q-low q-high
+      where
+        four : ℕ → ℕ → ℕ → ℕ
+        four p q d = sum (λ (B : Blend). 1 * scaledWeight K B p q d) (firstFour w h)
+
+        four-one : (p q d : ℕ) → d ≤ p → p ≤ (w + 1) * d → d ≤ q → q ≤ (h + 1) * d → four p q d ≡ K .all * d * (K .all * d)
+        four-one p q d a b c e =
+            sum-same (λ (B : Blend). 1 * scaledWeight K B p q d) (λ (B : Blend). scaledWeight K B p q d) (firstFour w h) (λ B m. one-mul _) ∙
+            first-four K w h wide tall ws hs p q d a b c e
+
+        at-anchor : (C : Blend) → List·Memᴰ C L → four (C .across .m) (C .up .m) 1 ≡ K .all * K .all
+        at-anchor C m =
+            let a = across-rise w h C (rise C m) in
+            let b = up-rise w h C (rise C m) in
+            let a′ = across-within w h C (rise C m) in
+            let b′ = up-within w h C (rise C m) in
+            four-one (C .across .m) (C .up .m) 1 (omega arith) (omega arith) (omega arith) (omega arith) ∙ at-one (K .all)
+
+  -- what is reproduced, in fractions: at every point, inside the domain or not
+  pub reproduced : (ts : List Term) → CoveredTerms M w h L ts → (p q d : ℕ) → 0 < d → Equal (value ts p q d) (interpolated ts L p q d)
+  reproduced = reproduced-with (common (w + h + 2)) (omega arith) (omega arith)
+
+  -- at each point of the domain, told in document 01's own coordinates, the weights of L add up to one
+  pub adds-up : ((B : Blend) → List·Memᴰ B (firstFour w h) → (C : Blend) → Left M B C → List·Memᴰ C L) → 1 ≤ w → 1 ≤ h →
+      (p q d : ℕ) → 0 < d → p ≤ w * d → q ≤ h * d →
+      let s = total (map (λ (C : Blend). weight C (p + d) (q + d) d) L) in (s .num ≡ s .den) × (0 < s .den)
+  adds-up full ws hs p q d pos p-in q-in = (
+    scaled-one S s (scale-positive (K .all) d (K .positive) pos)
+        (subst (λ (x : ℕ). Scaled S s x)
+        (weights-add-up K (omega arith) (omega arith) full ws hs (p + d) (q + d) d (omega arith) (omega arith) (omega arith) (omega arith))
+        (scaled-total S f (λ (C : Blend). scaledWeight K C (p + d) (q + d) d) L
+        (λ C m. scaled-weight K w h (omega arith) (omega arith) C (rise C m) (p + d) (q + d) d))),
+    total-positive f L (λ C m. weight-den w h C (rise C m) (p + d) (q + d) d pos),
+  )
+    where
+      K : Multiple (w + h + 2)
+      K = common (w + h + 2)
+
+      f : Blend → Fraction
+      f C = weight C (p + d) (q + d) d
+
+      s : Fraction
+      s = total (map f L)
+
+      S : ℕ
+      S = K .all * d * (K .all * d)
