@@ -155,3 +155,89 @@ swap M d s y z B p q apart =
     let r = cut-once y z (crossed d B) (p .inside) (q .inside) apart s k in
     inr (r .0, rw (← halve-own d B (r .0) z, ← halve-own d B s y) (from-put M d y B _ _ (p .covered) (r .1))))
     (either (inside z (half s y (crossed d B))))
+
+-- What a search over the places 1 to n for a line answers: one of them that has a line, or 0 where none has.
+record Search (line : ℕ → Bool) (place : ℕ → ℕ) (n v : ℕ) : Type 0 where
+  none : v ≡ 0 → (k : ℕ) → 0 < k → k ≤ n → line (place k) ≡ false
+  some : (v ≡ 0 → ⊥) → (k : ℕ) × (0 < k) × (k ≤ n) × (v ≡ place k) × (line (place k) ≡ true)
+
+module _ (line : ℕ → Bool) (place : ℕ → ℕ) where
+  search-nowhere : Search line place 0 0
+  search-nowhere = record { none = λ e k lo hi. absurd (omega arith); some = λ f. absurd (f refl) }
+
+  search-on : (n v : ℕ) → Search line place n v → 0 < place (suc n) → Search line place (suc n) (cond (line (place (suc n))) (place (suc n)) v)
+  search-on n v h pos = ⊎-elim here further (either (line (place (suc n))))
+    where
+      here : line (place (suc n)) ≡ true → Search line place (suc n) (cond (line (place (suc n))) (place (suc n)) v)
+      here e = rw e (record { none = λ z. absurd (omega arith); some = λ f. (suc n, omega arith, omega arith, refl, e) })
+
+      further : line (place (suc n)) ≡ false → Search line place (suc n) (cond (line (place (suc n))) (place (suc n)) v)
+      further e = rw e (record { none = λ z k lo hi. ⊎-elim (λ q. rw (eqb-true k (suc n) q) e) (λ q. let ne = eqb-false k (suc n) q in h .none z k lo (omega arith)) (either (eqb k (suc n))); some = λ f. let r = h .some f in (r .0, r .1, omega (arith, r .2), r .3, r .4) })
+
+below-search : (line : ℕ → Bool) (l n : ℕ) → Search line (λ k. l + k) n (below line l n)
+unfolding below
+below-search line l zero = search-nowhere line (λ k. l + k)
+below-search line l (suc n) = search-on line (λ k. l + k) n (below line l n) (below-search line l n) (omega arith)
+
+above-search : (line : ℕ → Bool) (r n : ℕ) → n < r → Search line (λ k. r - k) n (above line r n)
+unfolding above
+above-search line r zero h = search-nowhere line (λ k. r - k)
+above-search line r (suc n) h = search-on line (λ k. r - k) n (above line r n) (above-search line r n (omega arith)) (omega arith)
+
+-- What the search on both sides of the middle answers: a line that can cut, or 0 where there is none.
+pub record First (line : ℕ → Bool) (t : Triple) (v : ℕ) : Type 0 where
+  pub none : v ≡ 0 → (z : ℕ) → Inside z t → line z ≡ false
+  pub some : (v ≡ 0 → ⊥) → Inside v t × (line v ≡ true)
+
+pub nearest-first : (line : ℕ → Bool) (t : Triple) → Rise t → First line t (nearest line t)
+unfolding nearest
+nearest-first line t h =
+    both (below line (t .l) (t .m - t .l - 1)) (above line (t .r) (t .r - t .m - 1)) (below-search line (t .l) (t .m - t .l - 1))
+    (above-search line (t .r) (t .r - t .m - 1) (omega arith))
+  where
+    both : (a b : ℕ) → Search line (λ k. t .l + k) (t .m - t .l - 1) a → Search line (λ k. t .r - k) (t .r - t .m - 1) b → First line t (cond (eqb a 0) b a)
+    both a b p q = ⊎-elim (λ e. rw e (high (eqb-true a 0 e))) (λ e. rw e (low (eqb-false a 0 e))) (either (eqb a 0))
+      where
+        low : (a ≡ 0 → ⊥) → First line t a
+        low ne =
+            let r = p .some ne in
+            record { none = λ e. absurd (ne e); some = λ f. (omega arith, ap line (r .3) ∙ r .4) }
+
+        high : a ≡ 0 → First line t b
+        high z =
+            record {
+              none = λ e y i.
+                ⊎-elim
+                (λ c. let lt = ltb-true y (t .m) c in
+                let k : t .l + (y - t .l) ≡ y = omega arith in
+                rw k at (p .none z (y - t .l) (omega arith) (omega arith)))
+                (λ c. let le = ltb-false y (t .m) c in
+                let k : t .r - (t .r - y) ≡ y = omega arith in
+                let off = i .off in
+                rw k at (q .none e (t .r - y) (omega arith) (omega arith)))
+                (either (ltb y (t .m)));
+              some = λ f. let r = q .some f in (omega arith, ap line (r .3) ∙ r .4)
+            }
+
+-- 0 says that no line of the direction cuts the blend; any other answer is a line that does.
+pub cutter-none : (M : Mesh) (d : Direction) (B : Blend) → RiseB B → cutter M d B ≡ 0 → (z : ℕ) → cuts M d z B ≡ false
+cutter-none M d B h e z =
+    false-of (cuts M d z B) (λ c. let f = cut-fact M d z B c in
+    true-not-false (coversBlend M d B z) (covered-test M d z B (f .covered))
+    (nearest-first (coversBlend M d B) (crossed d B) (crossed-rises d B h) .none e z (f .inside)))
+
+pub cutter-cuts : (M : Mesh) (d : Direction) (B : Blend) → RiseB B → (cutter M d B ≡ 0 → ⊥) → cuts M d (cutter M d B) B ≡ true
+unfolding cuts
+cutter-cuts M d B h ne =
+    let r = nearest-first (coversBlend M d B) (crossed d B) (crossed-rises d B h) .some ne in
+    and-of _ _ (inside-test (cutter M d B) (crossed d B) (r .0)) (r .1)
+
+-- Something that is true of every knot of a blend, by the direction of the lines there. A cut keeps it if it is true of the cut's position.
+pub record KnotsB (P : Direction → ℕ → Type 0) (B : Blend) : Type 0 where
+  pub across : Knots (P upright) (B .across)
+  pub up : Knots (P level) (B .up)
+
+pub halve-knots : (P : Direction → ℕ → Type 0) (d : Direction) (s : Side) (z : ℕ) (B : Blend) → KnotsB P B → P d z → KnotsB P (halve d s z B)
+unfolding halve
+halve-knots P upright s z B k p = record { across = half-knots (P upright) s z (B .across) (k .across) p; up = k .up }
+halve-knots P level s z B k p = record { across = k .across; up = half-knots (P level) s z (B .up) (k .up) p }
