@@ -1,0 +1,145 @@
+-- The order of cutting does not matter (document 01, "Blends"; 001, section 3): what is left of a blend is what is left of its halves, by any cut.
+use Prim.Native.Nat.{ℕ, zero, suc, _+_, _≤_, _<_}
+use native.Mathlib.Omega.{arith}
+use mathlib.Core.Path.{_≡_, refl, sym, ap, subst, _∙_, fun-ext}
+use mathlib.Core.Logic.{_⊎_, inl, inr, ⊎-elim}
+use mathlib.Core.Bool.{Bool, true, false, cond}
+use mathlib.Core.List.{List, [], _∷_, _++_, List·Memᴰ, List·Memᴰ·cases-cons, List·Memᴰ·append-cases, Memᴰ·cast, Memᴰ·append-left, Memᴰ·append-right, List·Memᴰ·eq-of-singleton, List·Memᴰ·not-nil}
+use borrow.Author.Tests.{eqb-true, eqb-false}
+use lib.Dec.{eqb}
+use Rattle.mesh.specs.Triple.{Side, lower, upper}
+use Rattle.mesh.specs.Lines.{Direction, upright, level, other, Mesh}
+use Rattle.mesh.specs.Blends.{crossed, along, cuts, halve, cutter, leaves, leavesOf, size, live}
+use Rattle.mesh.specs.Order.{Uncut, Comes, here, cut, Left, Step, replace, drop, Steps, done, step, Cutting, Coarser}
+use Rattle.mesh.specs.declared.Triple.{Triple}
+use Rattle.mesh.specs.declared.Blend.{Blend}
+use Rattle.mesh.proofs.Tests.{either, true-not-false, false-of, joined-mem, mem-joined}
+use Rattle.mesh.proofs.Triples.{Rise, Inside, Knots}
+use Rattle.mesh.proofs.Cuts.{RiseB, crossed-rises, WithinB, withinB-refl, withinB-trans, Cut, cut-fact, cut-test, halve-rises, halve-within, halve-smaller, size-positive, Crossing, upright-level, level-upright, crossing-back, cut-stays, halves-commute, FromB, wholeB, partB, swap, cutter-none, cutter-cuts, KnotsB, halve-knots}
+
+-- a cut blend, and one that no line cuts
+pub uncut-of : (M : Mesh) (d : Direction) (B : Blend) → RiseB B → cutter M d B ≡ 0 → cutter M (other d) B ≡ 0 → Uncut M B
+uncut-of M upright B h p q upright = cutter-none M upright B h p
+uncut-of M upright B h p q level = cutter-none M level B h q
+uncut-of M level B h p q upright = cutter-none M upright B h q
+uncut-of M level B h p q level = cutter-none M level B h p
+
+pub cut-or-not : (M : Mesh) (B : Blend) → RiseB B → Uncut M B ⊎ ((d : Direction) × (z : ℕ) × (cuts M d z B ≡ true))
+cut-or-not M B h =
+    ⊎-elim
+    (λ p. ⊎-elim (λ q. inl (uncut-of M upright B h (eqb-true _ _ p) (eqb-true _ _ q))) (cutter-of level) (either (eqb (cutter M level B) 0)))
+    (cutter-of upright)
+    (either (eqb (cutter M upright B) 0))
+  where
+    cutter-of : (d : Direction) → eqb (cutter M d B) 0 ≡ false → Uncut M B ⊎ ((d : Direction) × (z : ℕ) × (cuts M d z B ≡ true))
+    cutter-of d e = inr (d, cutter M d B, cutter-cuts M d B h (eqb-false _ _ e))
+
+pub comes-trans : {M : Mesh} {B C D : Blend} → Comes M B C → Comes M C D → Comes M B D
+comes-trans here q = q
+comes-trans (cut d z s p r) q = cut d z s p (comes-trans r q)
+
+-- a chain is extended at its front
+pub left-front : {M : Mesh} {B C : Blend} (d : Direction) (z : ℕ) (s : Side) → cuts M d z B ≡ true → Left M (halve d s z B) C → Left M B C
+left-front d z s p l = record { comes = cut d z s p (l .comes); uncut = l .uncut }
+
+left-from : (M : Mesh) (d : Direction) (y : ℕ) (B X C : Blend) → FromB M d y B X → Left M X C → Left M B C
+left-from M d y B X C (wholeB e) l = subst (λ (Y : Blend). Left M Y C) e l
+left-from M d y B X C (partB v c e) l = left-front d y v (cut-test M d y B c) (subst (λ (Y : Blend). Left M Y C) e l)
+
+-- A chain from B begins with a cut at y, and a line at z cuts B too: what is left comes from a half by z. `after` is this for the half by y.
+module _ (M : Mesh) (y z : ℕ) (s : Side) (B C : Blend) where
+  abbrev Onward : Direction → Direction → Type 0
+  Onward d e = Cut M d z (halve e s y B) → (u : Side) × Left M (halve d u z (halve e s y B)) C
+
+  same-way : (d : Direction) → Cut M d z B → Cut M d y B → Left M (halve d s y B) C → Onward d d → (w : Side) × Left M (halve d w z B) C
+  same-way d c b l after =
+      ⊎-elim (λ e. (s, subst (λ (x : ℕ). Left M (halve d s x B) C) (eqb-true y z e) l))
+      (λ e. ⊎-elim
+      (λ r. let k = after (r .0) in let f = r .1 (k .0) in (f .0, left-from M d y _ _ C (f .1) (k .1)))
+      (λ r. (r .0, left-from M d y _ _ C (r .1) l))
+      (swap M d s y z B b c (eqb-false y z e)))
+      (either (eqb y z))
+
+  cross-way : {d e : Direction} → Crossing d e → RiseB B → Cut M d z B → Cut M e y B → Onward d e → (w : Side) × Left M (halve d w z B) C
+  cross-way {d} {e} x h c b after =
+      let k = after (cut-stays M x s y z B h (b .inside) c) in
+      let still = cut-stays M (crossing-back x) (k .0) z y B h (c .inside) b in
+      (k .0, left-front e y s (cut-test M e y (halve d (k .0) z B) still) (subst (λ (Y : Blend). Left M Y C) (halves-commute x s (k .0) y z B) (k .1)))
+
+  either-direction : (d e : Direction) → RiseB B → Cut M d z B → Cut M e y B → Left M (halve e s y B) C → Onward d e → (w : Side) × Left M (halve d w z B) C
+  either-direction upright upright h c b l after = same-way upright c b l after
+  either-direction upright level h c b l after = cross-way upright-level h c b after
+  either-direction level upright h c b l after = cross-way level-upright h c b after
+  either-direction level level h c b l after = same-way level c b l after
+
+some-half : (M : Mesh) (d : Direction) (z : ℕ) {B C : Blend} → RiseB B → Cut M d z B → Comes M B C → Uncut M C → (w : Side) × Left M (halve d w z B) C
+some-half M d z {B} h c here u = absurd (true-not-false _ (cut-test M d z B c) (u d z))
+some-half M d z {B} {C} h c (cut e y s p r) u =
+    let b = cut-fact M e y B p in
+    either-direction M y z s B C d e h c b (record { comes = r; uncut = u })
+    (λ k. some-half M d z (halve-rises e s y B h (b .inside)) k r u)
+
+-- The key: what is left of a blend is left of one of its halves, by any cut.
+pub left-of-half : (M : Mesh) (d : Direction) (z : ℕ) {B C : Blend} → RiseB B → cuts M d z B ≡ true → Left M B C → Left M (halve d lower z B) C ⊎ Left M (halve d upper z B) C
+left-of-half M d z {B} {C} h p l =
+    let r = some-half M d z h (cut-fact M d z B p) (l .comes) (l .uncut) in
+    by-side (r .0) (r .1)
+  where
+    by-side : (w : Side) → Left M (halve d w z B) C → Left M (halve d lower z B) C ⊎ Left M (halve d upper z B) C
+    by-side lower l = inl l
+    by-side upper l = inr l
+
+-- Of a blend that no line cuts only itself is left.
+comes-uncut : {M : Mesh} {B C : Blend} → Uncut M B → Comes M B C → C ≡ B
+comes-uncut u here = refl
+comes-uncut u (cut d z s p r) = absurd (true-not-false _ p (u d z))
+
+pub left-uncut : {M : Mesh} {B C : Blend} → Uncut M B → Left M B C → C ≡ B
+left-uncut u l = comes-uncut u (l .comes)
+
+pub left-itself : {M : Mesh} {B : Blend} → Uncut M B → Left M B B
+left-itself u = record { comes = here; uncut = u }
+
+-- A list holds exactly what is left of B.
+pub record Exact (M : Mesh) (B : Blend) (cs : List Blend) : Type 0 where
+  pub left : (C : Blend) → List·Memᴰ C cs → Left M B C
+  pub all : (C : Blend) → Left M B C → List·Memᴰ C cs
+
+exact-uncut : (M : Mesh) (B : Blend) → Uncut M B → Exact M B (B ∷ [])
+exact-uncut M B u =
+    record {
+      left = λ C m. subst (λ (X : Blend). Left M B X) (sym (List·Memᴰ·eq-of-singleton m)) (left-itself u);
+      all = λ C l. List·Memᴰ.List·Memᴰ·head (left-uncut u l)
+    }
+
+-- so any function that cuts, and is exact on smaller blends, is exact
+pub exact-halves : (M : Mesh) (d : Direction) (z : ℕ) (B : Blend) (of : Blend → List Blend) → RiseB B → cuts M d z B ≡ true →
+    ((A : Blend) → RiseB A → size A < size B → Exact M A (of A)) → Exact M B (of (halve d lower z B) ++ of (halve d upper z B))
+exact-halves M d z B of h p smaller =
+    record {
+      left = λ C m.
+        ⊎-elim (λ m. left-front d z lower p (exact lower .left C m)) (λ m. left-front d z upper p (exact upper .left C m))
+        (List·Memᴰ·append-cases (of (halve d lower z B)) m);
+      all = λ C l. ⊎-elim (λ l. Memᴰ·append-left _ (exact lower .all C l)) (λ l. Memᴰ·append-right (of (halve d lower z B)) (exact upper .all C l)) (left-of-half M d z h p l)
+    }
+  where
+    exact : (s : Side) → Exact M (halve d s z B) (of (halve d s z B))
+    exact s =
+        let i = cut-fact M d z B p .inside in
+        smaller (halve d s z B) (halve-rises d s z B h i) (halve-smaller d s z B h i)
+
+exact-test : (M : Mesh) (B : Blend) (b : Bool) (xs ys : List Blend) → (b ≡ true → Exact M B xs) → (b ≡ false → Exact M B ys) → Exact M B (cond b xs ys)
+exact-test M B true xs ys f g = f refl
+exact-test M B false xs ys f g = g refl
+
+-- `leaves` is exactly what is left, whichever direction is tried first, if the fuel is enough.
+pub leaves-exact : (f : ℕ) (M : Mesh) (d : Direction) (B : Blend) → RiseB B → size B ≤ f → Exact M B (leaves f M d B)
+unfolding leaves
+leaves-exact zero M d B h le = absurd (omega (arith, size-positive B h))
+leaves-exact (suc f) M d B h le =
+    exact-test M B (eqb (cutter M d B) 0) _ _
+    (λ p. exact-test M B (eqb (cutter M (other d) B) 0) _ _ (λ q. exact-uncut M B (uncut-of M d B h (eqb-true _ _ p) (eqb-true _ _ q)))
+    (λ q. exact-halves M (other d) (cutter M (other d) B) B (leaves f M d) h (cutter-cuts M (other d) B h (eqb-false _ _ q))
+    (λ A r lt. leaves-exact f M d A r (omega arith))))
+    (λ p. exact-halves M d (cutter M d B) B (leaves f M (other d)) h (cutter-cuts M d B h (eqb-false _ _ p))
+    (λ A r lt. leaves-exact f M (other d) A r (omega arith)))
