@@ -84,10 +84,10 @@ pub covered-within : (M : Mesh) (d : Direction) (z : ℕ) {t u : Triple} → Wit
 covered-within M d z w f k lo hi = f k (omega arith) (omega arith)
 
 -- one of the halves keeps the anchor
-pub keeps-anchor : (d : Direction) (z : ℕ) (B : Blend) → (s : Side) × (halve d s z B .across .m ≡ B .across .m) × (halve d s z B .up .m ≡ B .up .m)
+pub halve-anchor : (d : Direction) (z : ℕ) (B : Blend) → (s : Side) × (halve d s z B .across .m ≡ B .across .m) × (halve d s z B .up .m ≡ B .up .m)
 unfolding halve
-keeps-anchor upright z B = let k = keeps-middle z (B .across) in (k .0, k .1, refl)
-keeps-anchor level z B = let k = keeps-middle z (B .up) in (k .0, refl, k .1)
+halve-anchor upright z B = let k = keeps-middle z (B .across) in (k .0, k .1, refl)
+halve-anchor level z B = let k = keeps-middle z (B .up) in (k .0, refl, k .1)
 
 -- Two directions that cross: a cut of one leaves the cuts of the other, and the two halvings do not meet.
 pub data Crossing : Direction → Direction → Type 0 where

@@ -143,3 +143,55 @@ leaves-exact (suc f) M d B h le =
     (λ A r lt. leaves-exact f M d A r (omega arith))))
     (λ p. exact-halves M d (cutter M d B) B (leaves f M (other d)) h (cutter-cuts M d B h (eqb-false _ _ p))
     (λ A r lt. leaves-exact f M (other d) A r (omega arith)))
+
+-- A chain stays within its start's support and rises.
+pub comes-rises : {M : Mesh} {B C : Blend} → RiseB B → Comes M B C → RiseB C
+comes-rises h here = h
+comes-rises {M} {B} h (cut d z s p r) = comes-rises (halve-rises d s z B h (cut-fact M d z B p .inside)) r
+
+pub comes-within : {M : Mesh} {B C : Blend} → RiseB B → Comes M B C → WithinB B C
+comes-within {M} {B} h here = withinB-refl B
+comes-within {M} {B} h (cut d z s p r) =
+    let i = cut-fact M d z B p .inside in
+    withinB-trans (halve-within d s z B h i) (comes-within (halve-rises d s z B h i) r)
+
+-- a line of the mesh has the position
+abbrev pub OnLine : Mesh → Direction → ℕ → Type 0
+OnLine M d z = (k : ℕ) × (M d z k ≡ true)
+
+pub cut-on-line : (M : Mesh) (d : Direction) (z : ℕ) (B : Blend) → RiseB B → Cut M d z B → OnLine M d z
+cut-on-line M d z B h c =
+    let a = crossed-rises (other d) B h in
+    (along d B .l, c .covered (along d B .l) (omega arith) (omega arith))
+
+-- and keeps its knots on lines
+pub comes-on-lines : {M : Mesh} {B C : Blend} → RiseB B → KnotsB (OnLine M) B → Comes M B C → KnotsB (OnLine M) C
+comes-on-lines h k here = k
+comes-on-lines {M} {B} h k (cut d z s p r) =
+    let c = cut-fact M d z B p in
+    comes-on-lines (halve-rises d s z B h (c .inside)) (halve-knots (OnLine M) d s z B k (cut-on-line M d z B h c)) r
+
+-- Lists: what is left of some blends.
+abbrev pub Rising : List Blend → Type 0
+Rising bs = (B : Blend) → List·Memᴰ B bs → RiseB B
+
+abbrev pub LeftOf : Mesh → List Blend → Blend → Type 0
+LeftOf M bs C = (B : Blend) × List·Memᴰ B bs × Left M B C
+
+abbrev pub SameMembers : List Blend → List Blend → Type 0
+SameMembers xs ys = (C : Blend) → (List·Memᴰ C xs → List·Memᴰ C ys) × (List·Memᴰ C ys → List·Memᴰ C xs)
+
+pub leavesOf-left : (M : Mesh) (bs : List Blend) → Rising bs → (C : Blend) → List·Memᴰ C (leavesOf M bs) → LeftOf M bs C
+unfolding leavesOf
+leavesOf-left M bs h C m =
+    let r = joined-mem (λ B. leaves (size B) M upright B) bs C m in
+    (r .0, r .1, leaves-exact (size (r .0)) M upright (r .0) (h (r .0) (r .1)) (omega arith) .left C (r .2))
+
+pub left-leavesOf : (M : Mesh) (bs : List Blend) → Rising bs → (C : Blend) → LeftOf M bs C → List·Memᴰ C (leavesOf M bs)
+unfolding leavesOf
+left-leavesOf M bs h C r =
+    mem-joined (λ B. leaves (size B) M upright B) bs (r .0) C (r .1)
+    (leaves-exact (size (r .0)) M upright (r .0) (h (r .0) (r .1)) (omega arith) .all C (r .2))
+
+pub leavesOf-rises : (M : Mesh) (bs : List Blend) → Rising bs → Rising (leavesOf M bs)
+leavesOf-rises M bs h C m = let r = leavesOf-left M bs h C m in comes-rises (h (r .0) (r .1)) (r .2 .comes)
