@@ -195,3 +195,68 @@ left-leavesOf M bs h C r =
 
 pub leavesOf-rises : (M : Mesh) (bs : List Blend) → Rising bs → Rising (leavesOf M bs)
 leavesOf-rises M bs h C m = let r = leavesOf-left M bs h C m in comes-rises (h (r .0) (r .1)) (r .2 .comes)
+
+-- membership around one entry
+module _ {A : Blend} (xs : List Blend) (B : Blend) (ys : List Blend) where
+  in-middle : List·Memᴰ A (xs ++ B ∷ ys) → (A ≡ B) ⊎ List·Memᴰ A (xs ++ ys)
+  in-middle m =
+      ⊎-elim (λ m. inr (Memᴰ·append-left ys m)) (λ m. ⊎-elim inl (λ m. inr (Memᴰ·append-right xs m)) (List·Memᴰ·cases-cons m))
+      (List·Memᴰ·append-cases xs m)
+
+  middle : A ≡ B → List·Memᴰ A (xs ++ B ∷ ys)
+  middle e = Memᴰ·append-right xs (List·Memᴰ.List·Memᴰ·head e)
+
+  around : List·Memᴰ A (xs ++ ys) → List·Memᴰ A (xs ++ B ∷ ys)
+  around m =
+      ⊎-elim (λ m. Memᴰ·append-left (B ∷ ys) m) (λ m. Memᴰ·append-right xs (List·Memᴰ.List·Memᴰ·tail m)) (List·Memᴰ·append-cases xs m)
+
+-- a blend and its two halves in its place
+module _ {A : Blend} (xs : List Blend) (B : Blend) (ys : List Blend) (d : Direction) (z : ℕ) where
+  in-halves : List·Memᴰ A (xs ++ halve d lower z B ∷ halve d upper z B ∷ ys) → ((s : Side) × (A ≡ halve d s z B)) ⊎ List·Memᴰ A (xs ++ ys)
+  in-halves m =
+      ⊎-elim (λ e. inl (lower, e))
+      (λ m. ⊎-elim (λ e. inl (upper, e)) inr (in-middle xs (halve d upper z B) ys m))
+      (in-middle xs (halve d lower z B) (halve d upper z B ∷ ys) m)
+
+  around-halves : List·Memᴰ A (xs ++ ys) → List·Memᴰ A (xs ++ halve d lower z B ∷ halve d upper z B ∷ ys)
+  around-halves m = around xs (halve d lower z B) (halve d upper z B ∷ ys) (around xs (halve d upper z B) ys m)
+
+-- A step keeps what is left.
+step-rises : {M : Mesh} {xs ys : List Blend} → Step M xs ys → Rising xs → Rising ys
+step-rises {M} (replace xs B ys d z p) h A m =
+    ⊎-elim (λ r. subst RiseB (sym (r .1)) (halve-rises d (r .0) z B (h B (middle xs B ys refl)) (cut-fact M d z B p .inside)))
+    (λ m. h A (around xs B ys m))
+    (in-halves xs B ys d z m)
+step-rises (drop xs B ys m) h A n = h A (around xs B ys n)
+
+step-left : {M : Mesh} {xs ys : List Blend} → Step M xs ys → Rising xs → (C : Blend) → LeftOf M xs C → LeftOf M ys C
+step-left {M} (replace xs B ys d z p) h C r =
+    ⊎-elim
+    (λ e. ⊎-elim (λ l. (halve d lower z B, middle xs _ (halve d upper z B ∷ ys) refl, l))
+    (λ l. (halve d upper z B, around xs _ (halve d upper z B ∷ ys) (middle xs _ ys refl), l))
+    (left-of-half M d z (h B (middle xs B ys refl)) p (subst (λ (X : Blend). Left M X C) e (r .2))))
+    (λ m. (r .0, around-halves xs B ys d z m, r .2))
+    (in-middle xs B ys (r .1))
+step-left (drop xs B ys m) h C r =
+    ⊎-elim (λ e. (r .0, Memᴰ·cast e m, r .2)) (λ n. (r .0, n, r .2)) (in-middle xs B ys (r .1))
+
+step-back : {M : Mesh} {xs ys : List Blend} → Step M xs ys → (C : Blend) → LeftOf M ys C → LeftOf M xs C
+step-back {M} (replace xs B ys d z p) C r =
+    ⊎-elim (λ e. (B, middle xs B ys refl, left-front d z (e .0) p (subst (λ (X : Blend). Left M X C) (e .1) (r .2))))
+    (λ m. (r .0, around xs B ys m, r .2))
+    (in-halves xs B ys d z (r .1))
+step-back (drop xs B ys m) C r = (r .0, around xs B ys (r .1), r .2)
+
+steps-left : {M : Mesh} {xs ys : List Blend} → Steps M xs ys → Rising xs → (C : Blend) → LeftOf M xs C → LeftOf M ys C
+steps-left done h C r = r
+steps-left (step t ts) h C r = steps-left ts (step-rises t h) C (step-left t h C r)
+
+steps-back : {M : Mesh} {xs ys : List Blend} → Steps M xs ys → (C : Blend) → LeftOf M ys C → LeftOf M xs C
+steps-back done C r = r
+steps-back (step t ts) C r = step-back t C (steps-back ts C r)
+
+-- Any order of cutting ends with the same blends.
+pub any-order : (M : Mesh) (bs cs : List Blend) → Rising bs → Cutting M bs cs → SameMembers cs (leavesOf M bs)
+any-order M bs cs h c C =
+    (λ m. left-leavesOf M bs h C (steps-back (c .steps) C (C, m, left-itself (c .end C m))),
+    λ m. let r = steps-left (c .steps) h C (leavesOf-left M bs h C m) in Memᴰ·cast (left-uncut (c .end (r .0) (r .1)) (r .2)) (r .1))
