@@ -15,7 +15,7 @@ use Rattle.mesh.specs.declared.Triple.{Triple}
 use Rattle.mesh.specs.declared.Blend.{Blend}
 use Rattle.mesh.proofs.Tests.{either, true-not-false, false-of, joined-mem, mem-joined}
 use Rattle.mesh.proofs.Triples.{Rise, Inside, Knots}
-use Rattle.mesh.proofs.Cuts.{RiseB, crossed-rises, WithinB, withinB-refl, withinB-trans, Cut, cut-fact, cut-test, halve-rises, halve-within, halve-smaller, size-positive, Crossing, upright-level, level-upright, crossing-back, cut-stays, halves-commute, FromB, wholeB, partB, swap, cutter-none, cutter-cuts, KnotsB, halve-knots}
+use Rattle.mesh.proofs.Cuts.{RiseB, crossed-rises, WithinB, withinB-refl, withinB-trans, Cut, cut-fact, cut-test, halve-rises, halve-within, halve-smaller, halve-anchor, size-positive, Crossing, upright-level, level-upright, crossing-back, cut-stays, halves-commute, FromB, wholeB, partB, swap, cutter-none, cutter-cuts, KnotsB, halve-knots}
 
 -- a cut blend, and one that no line cuts
 pub uncut-of : (M : Mesh) (d : Direction) (B : Blend) → RiseB B → cutter M d B ≡ 0 → cutter M (other d) B ≡ 0 → Uncut M B
@@ -260,3 +260,61 @@ pub any-order : (M : Mesh) (bs cs : List Blend) → Rising bs → Cutting M bs c
 any-order M bs cs h c C =
     (λ m. left-leavesOf M bs h C (steps-back (c .steps) C (C, m, left-itself (c .end C m))),
     λ m. let r = steps-left (c .steps) h C (leavesOf-left M bs h C m) in Memᴰ·cast (left-uncut (c .end (r .0) (r .1)) (r .2)) (r .1))
+
+-- A finer mesh (001, theorem 1): it cuts whatever the coarser one cuts, and what it leaves of a blend it leaves of what the coarser one left.
+pub finer-cuts : (M N : Mesh) → Coarser M N → (d : Direction) (z : ℕ) (B : Blend) → cuts M d z B ≡ true → cuts N d z B ≡ true
+finer-cuts M N g d z B p =
+    let c = cut-fact M d z B p in
+    cut-test N d z B (record { inside = c .inside; covered = λ k lo hi. g d z k (c .covered k lo hi) })
+
+pub finer-comes : {M N : Mesh} {B C : Blend} → Coarser M N → Comes M B C → Comes N B C
+finer-comes g here = here
+finer-comes {M} {N} {B} g (cut d z s p r) = cut d z s (finer-cuts M N g d z B p) (finer-comes g r)
+
+pub finer-back : {M N : Mesh} {B D C : Blend} → Coarser M N → Left M B D → Left N D C → Left N B C
+finer-back g l n = record { comes = comes-trans (finer-comes g (l .comes)) (n .comes); uncut = n .uncut }
+
+finer-within : (f : ℕ) (M N : Mesh) → Coarser M N → (B C : Blend) → RiseB B → size B ≤ f → Left N B C → (D : Blend) × Left M B D × Left N D C
+finer-within zero M N g B C h le l = absurd (omega (arith, size-positive B h))
+finer-within (suc f) M N g B C h le l =
+    ⊎-elim (λ u. (B, left-itself u, l))
+    (λ r. let c = cut-fact M (r .0) (r .1) B (r .2) in
+    let n = cut-fact N (r .0) (r .1) B (finer-cuts M N g (r .0) (r .1) B (r .2)) in
+    let w = some-half N (r .0) (r .1) h n (l .comes) (l .uncut) in
+    let k = finer-within f M N g (halve (r .0) (w .0) (r .1) B) C (halve-rises (r .0) (w .0) (r .1) B h (c .inside)) (omega (arith, halve-smaller (r .0) (w .0) (r .1) B h (c .inside))) (w .1) in
+    (k .0, left-front (r .0) (r .1) (w .0) (r .2) (k .1), k .2))
+    (cut-or-not M B h)
+
+pub finer : (M N : Mesh) → Coarser M N → (B C : Blend) → RiseB B → Left N B C → (D : Blend) × Left M B D × Left N D C
+finer M N g B C h l = finer-within (size B) M N g B C h (omega arith) l
+
+-- So a finer mesh may start from what the coarser one left, in any list of it.
+pub finer-leaves : (M N : Mesh) → Coarser M N → (bs ds : List Blend) → Rising bs → SameMembers ds (leavesOf M bs) → SameMembers (leavesOf N ds) (leavesOf N bs)
+finer-leaves M N g bs ds h same C =
+    (λ m. let r = leavesOf-left N ds rising C m in
+    let l = leavesOf-left M bs h (r .0) (same (r .0) .0 (r .1)) in
+    left-leavesOf N bs h C (l .0, l .1, finer-back g (l .2) (r .2)),
+    λ m. let r = leavesOf-left N bs h C m in
+    let l = finer M N g (r .0) C (h (r .0) (r .1)) (r .2) in
+    left-leavesOf N ds rising C (l .0, same (l .0) .1 (left-leavesOf M bs h (l .0) (r .0, r .1, l .1)), l .2))
+  where
+    rising : Rising ds
+    rising D m = leavesOf-rises M bs h D (same D .0 m)
+
+-- A blend has a leaf at its own anchor.
+anchor-within : (f : ℕ) (M : Mesh) (B : Blend) → RiseB B → size B ≤ f → (C : Blend) × Left M B C × (C .across .m ≡ B .across .m) × (C .up .m ≡ B .up .m)
+anchor-within zero M B h le = absurd (omega (arith, size-positive B h))
+anchor-within (suc f) M B h le =
+    ⊎-elim (λ u. (B, left-itself u, refl, refl))
+    (λ r. let i = cut-fact M (r .0) (r .1) B (r .2) .inside in
+    let s = halve-anchor (r .0) (r .1) B in
+    let k = anchor-within f M (halve (r .0) (s .0) (r .1) B) (halve-rises (r .0) (s .0) (r .1) B h i) (omega (arith, halve-smaller (r .0) (s .0) (r .1) B h i)) in
+    (k .0, left-front (r .0) (r .1) (s .0) (r .2) (k .1), k .2 ∙ s .1, k .3 ∙ s .2))
+    (cut-or-not M B h)
+
+pub keeps-anchor : (M : Mesh) (B : Blend) → RiseB B → (C : Blend) × Left M B C × (C .across .m ≡ B .across .m) × (C .up .m ≡ B .up .m)
+keeps-anchor M B h = anchor-within (size B) M B h (omega arith)
+
+-- Meshes of equal unit steps have the same live blends.
+pub same-steps : (w h : ℕ) (M N : Mesh) → ((d : Direction) (z k : ℕ) → M d z k ≡ N d z k) → live w h M ≡ live w h N
+same-steps w h M N e = ap (live w h) (fun-ext (λ d. fun-ext (λ z. fun-ext (λ k. e d z k))))
