@@ -3,10 +3,10 @@ use Prim.Native.Nat.{ℕ, zero, suc, _+_, _-_, _≤_, _<_}
 use native.Mathlib.Omega.{arith}
 use mathlib.Core.Path.{_≡_, refl, sym, ap, subst, _∙_}
 use mathlib.Core.Logic.{_⊎_, inl, inr, ⊎-elim}
-use mathlib.Core.Bool.{Bool, true, false, cond, _&&_}
-use borrow.Author.Tests.{eqb-true, eqb-false, eq-eqb, ne-eqb, ltb-true, ltb-false}
+use mathlib.Core.Bool.{Bool, true, false, cond}
+use borrow.Author.Tests.{eqb-true, eqb-false, ltb-true, ltb-false}
 use lib.Dec.{eqb, ltb}
-use Rattle.mesh.specs.Triple.{Side, lower, upper, half, inside}
+use Rattle.mesh.specs.Triple.{Side, half, inside}
 use Rattle.mesh.specs.Lines.{Direction, upright, level, other, Mesh}
 use Rattle.mesh.specs.Blends.{blend, crossed, along, coversBlend, cuts, halve, below, above, nearest, cutter, size}
 use Rattle.mesh.specs.declared.Triple.{Triple}
@@ -23,6 +23,10 @@ pub crossed-rises : (d : Direction) (B : Blend) → RiseB B → Rise (crossed d 
 crossed-rises upright B h = h .across
 crossed-rises level B h = h .up
 
+-- a rising blend's support is not empty
+pub size-positive : (B : Blend) → RiseB B → 0 < size B
+size-positive B h = omega arith
+
 -- the support of C lies within that of B
 pub record WithinB (B C : Blend) : Type 0 where
   pub across : Within (B .across) (C .across)
@@ -33,6 +37,10 @@ withinB-refl B = record { across = within-refl (B .across); up = within-refl (B 
 
 pub withinB-trans : {B C D : Blend} → WithinB B C → WithinB C D → WithinB B D
 withinB-trans p q = record { across = within-trans (p .across) (q .across); up = within-trans (p .up) (q .up) }
+
+pub crossed-within : (d : Direction) {B C : Blend} → WithinB B C → Within (crossed d B) (crossed d C)
+crossed-within upright w = w .across
+crossed-within level w = w .up
 
 -- the line at z has each unit step from l to r
 abbrev pub Covered : Mesh → Direction → ℕ → Triple → Type 0
@@ -75,15 +83,14 @@ unfolding halve
 halve-smaller upright s z B h i = omega (arith, half-narrower s z (B .across) (h .across) i)
 halve-smaller level s z B h i = omega (arith, half-narrower s z (B .up) (h .up) i)
 
--- a rising blend's support is not empty
-pub size-positive : (B : Blend) → RiseB B → 0 < size B
-size-positive B h = omega arith
+-- Coverage passes to a half.
+pub halve-covered : (M : Mesh) (d e : Direction) (s : Side) (y z : ℕ) (B : Blend) → RiseB B → Inside z (crossed d B) → Covered M e y (along e B) →
+    Covered M e y (along e (halve d s z B))
+halve-covered M d e s y z B h i f k lo hi =
+    let w = crossed-within (other e) (halve-within d s z B h i) in
+    f k (omega arith) (omega arith)
 
--- coverage passes to a blend within
-pub covered-within : (M : Mesh) (d : Direction) (z : ℕ) {t u : Triple} → Within t u → Covered M d z t → Covered M d z u
-covered-within M d z w f k lo hi = f k (omega arith) (omega arith)
-
--- one of the halves keeps the anchor
+-- One of the halves keeps the anchor.
 pub halve-anchor : (d : Direction) (z : ℕ) (B : Blend) → (s : Side) × (halve d s z B .across .m ≡ B .across .m) × (halve d s z B .up .m ≡ B .up .m)
 unfolding halve
 halve-anchor upright z B = let k = keeps-middle z (B .across) in (k .0, k .1, refl)
@@ -98,12 +105,13 @@ pub crossing-back : {d e : Direction} → Crossing d e → Crossing e d
 crossing-back upright-level = level-upright
 crossing-back level-upright = upright-level
 
-pub cut-stays : (M : Mesh) {d e : Direction} → Crossing d e → (s : Side) (y z : ℕ) (B : Blend) → RiseB B → Inside y (crossed e B) → Cut M d z B → Cut M d z (halve e s y B)
+pub cut-stays : (M : Mesh) {d e : Direction} → Crossing d e → (s : Side) (y z : ℕ) (B : Blend) → RiseB B → Inside y (crossed e B) →
+    Cut M d z B → Cut M d z (halve e s y B)
 unfolding halve
 cut-stays M upright-level s y z B h i c =
-    record { inside = c .inside; covered = covered-within M upright z (half-within s y (B .up) (h .up) i) (c .covered) }
+    record { inside = c .inside; covered = halve-covered M level upright s z y B h i (c .covered) }
 cut-stays M level-upright s y z B h i c =
-    record { inside = c .inside; covered = covered-within M level z (half-within s y (B .across) (h .across) i) (c .covered) }
+    record { inside = c .inside; covered = halve-covered M upright level s z y B h i (c .covered) }
 
 pub halves-commute : {d e : Direction} → Crossing d e → (s u : Side) (y z : ℕ) (B : Blend) → halve d u z (halve e s y B) ≡ halve e s y (halve d u z B)
 unfolding halve
@@ -140,17 +148,19 @@ from-put M d y B t X f (part v i e) = partB v (cut-put M d B y t i f) (ap (put d
 halve-own : (d : Direction) (B : Blend) (s : Side) (z : ℕ) → put d B (half s z (crossed d B)) ≡ halve d s z B
 halve-own d B s z = sym (halve-put d B s z (crossed d B)) ∙ ap (halve d s z) (put-own d B)
 
--- Two lines of one direction cut a blend. The one at z cuts the half by y too, and its halves come from those of B by z; or that half does itself.
+-- Two lines of one direction cut a blend, at y and at z. What the one at z leaves of a half by y, its halves or that half itself,
+-- is a half by z, or what y leaves of one.
 pub swap : (M : Mesh) (d : Direction) (s : Side) (y z : ℕ) (B : Blend) → Cut M d y B → Cut M d z B → (y ≡ z → ⊥) →
     (Cut M d z (halve d s y B) × ((u : Side) → (w : Side) × FromB M d y (halve d w z B) (halve d u z (halve d s y B)))) ⊎
     ((w : Side) × FromB M d y (halve d w z B) (halve d s y B))
 swap M d s y z B p q apart =
     ⊎-elim
     (λ e. let k = inside-fact z (half s y (crossed d B)) e in
-    inl
-    (subst (Cut M d z) (halve-own d B s y) (cut-put M d B z (half s y (crossed d B)) k (q .covered)),
-    λ u. let r = cut-again y z (crossed d B) (p .inside) (q .inside) apart s u k in
-    (r .0, rw (← halve-own d B (r .0) z, ← halve-own d B s y, halve-put d B u z (half s y (crossed d B))) (from-put M d y B _ _ (p .covered) (r .1)))))
+    inl (
+      subst (Cut M d z) (halve-own d B s y) (cut-put M d B z (half s y (crossed d B)) k (q .covered)),
+      λ u. let r = cut-again y z (crossed d B) (p .inside) (q .inside) apart s u k in
+          (r .0, rw (← halve-own d B (r .0) z, ← halve-own d B s y, halve-put d B u z (half s y (crossed d B))) (from-put M d y B _ _ (p .covered) (r .1))),
+    ))
     (λ e. let k : Inside z (half s y (crossed d B)) → ⊥ = λ i. true-not-false _ (inside-test _ _ i) e in
     let r = cut-once y z (crossed d B) (p .inside) (q .inside) apart s k in
     inr (r .0, rw (← halve-own d B (r .0) z, ← halve-own d B s y) (from-put M d y B _ _ (p .covered) (r .1))))
@@ -172,7 +182,14 @@ module _ (line : ℕ → Bool) (place : ℕ → ℕ) where
       here e = rw e (record { none = λ z. absurd (omega arith); some = λ f. (suc n, omega arith, omega arith, refl, e) })
 
       further : line (place (suc n)) ≡ false → Search line place (suc n) (cond (line (place (suc n))) (place (suc n)) v)
-      further e = rw e (record { none = λ z k lo hi. ⊎-elim (λ q. rw (eqb-true k (suc n) q) e) (λ q. let ne = eqb-false k (suc n) q in h .none z k lo (omega arith)) (either (eqb k (suc n))); some = λ f. let r = h .some f in (r .0, r .1, omega (arith, r .2), r .3, r .4) })
+      further e =
+          rw e
+          (record {
+            none = λ z k lo hi.
+                ⊎-elim (λ q. rw (eqb-true k (suc n) q) e) (λ q. let ne = eqb-false k (suc n) q in h .none z k lo (omega arith))
+                (either (eqb k (suc n)));
+            some = λ f. let r = h .some f in (r .0, r .1, omega (arith, r .2), r .3, r .4);
+          })
 
 below-search : (line : ℕ → Bool) (l n : ℕ) → Search line (λ k. l + k) n (below line l n)
 unfolding below
@@ -195,7 +212,8 @@ nearest-first line t h =
     both (below line (t .l) (t .m - t .l - 1)) (above line (t .r) (t .r - t .m - 1)) (below-search line (t .l) (t .m - t .l - 1))
     (above-search line (t .r) (t .r - t .m - 1) (omega arith))
   where
-    both : (a b : ℕ) → Search line (λ k. t .l + k) (t .m - t .l - 1) a → Search line (λ k. t .r - k) (t .r - t .m - 1) b → First line t (cond (eqb a 0) b a)
+    both : (a b : ℕ) → Search line (λ k. t .l + k) (t .m - t .l - 1) a → Search line (λ k. t .r - k) (t .r - t .m - 1) b →
+        First line t (cond (eqb a 0) b a)
     both a b p q = ⊎-elim (λ e. rw e (high (eqb-true a 0 e))) (λ e. rw e (low (eqb-false a 0 e))) (either (eqb a 0))
       where
         low : (a ≡ 0 → ⊥) → First line t a
@@ -207,16 +225,16 @@ nearest-first line t h =
         high z =
             record {
               none = λ e y i.
-                ⊎-elim
-                (λ c. let lt = ltb-true y (t .m) c in
-                let k : t .l + (y - t .l) ≡ y = omega arith in
-                rw k at (p .none z (y - t .l) (omega arith) (omega arith)))
-                (λ c. let le = ltb-false y (t .m) c in
-                let k : t .r - (t .r - y) ≡ y = omega arith in
-                let off = i .off in
-                rw k at (q .none e (t .r - y) (omega arith) (omega arith)))
-                (either (ltb y (t .m)));
-              some = λ f. let r = q .some f in (omega arith, ap line (r .3) ∙ r .4)
+                  ⊎-elim
+                  (λ c. let lt = ltb-true y (t .m) c in
+                  let k : t .l + (y - t .l) ≡ y = omega arith in
+                  rw k at (p .none z (y - t .l) (omega arith) (omega arith)))
+                  (λ c. let le = ltb-false y (t .m) c in
+                  let k : t .r - (t .r - y) ≡ y = omega arith in
+                  let off = i .off in
+                  rw k at (q .none e (t .r - y) (omega arith) (omega arith)))
+                  (either (ltb y (t .m)));
+              some = λ f. let r = q .some f in (omega arith, ap line (r .3) ∙ r .4);
             }
 
 -- 0 says that no line of the direction cuts the blend; any other answer is a line that does.
@@ -232,12 +250,11 @@ cutter-cuts M d B h ne =
     let r = nearest-first (coversBlend M d B) (crossed d B) (crossed-rises d B h) .some ne in
     and-of _ _ (inside-test (cutter M d B) (crossed d B) (r .0)) (r .1)
 
--- Something that is true of every knot of a blend, by the direction of the lines there. A cut keeps it if it is true of the cut's position.
-pub record KnotsB (P : Direction → ℕ → Type 0) (B : Blend) : Type 0 where
-  pub across : Knots (P upright) (B .across)
-  pub up : Knots (P level) (B .up)
-
-pub halve-knots : (P : Direction → ℕ → Type 0) (d : Direction) (s : Side) (z : ℕ) (B : Blend) → KnotsB P B → P d z → KnotsB P (halve d s z B)
+-- A cut keeps what is true of each knot of an axis, if it is true of the cut's position.
+pub halve-knots : (P : Direction → ℕ → Type 0) (d e : Direction) (s : Side) (z : ℕ) (B : Blend) → Knots (P d) (crossed d B) → P e z →
+    Knots (P d) (crossed d (halve e s z B))
 unfolding halve
-halve-knots P upright s z B k p = record { across = half-knots (P upright) s z (B .across) (k .across) p; up = k .up }
-halve-knots P level s z B k p = record { across = k .across; up = half-knots (P level) s z (B .up) (k .up) p }
+halve-knots P upright upright s z B k p = half-knots (P upright) s z (B .across) k p
+halve-knots P upright level s z B k p = k
+halve-knots P level upright s z B k p = k
+halve-knots P level level s z B k p = half-knots (P level) s z (B .up) k p

@@ -1,5 +1,5 @@
 -- The order of cutting does not matter (document 01, "Blends"; 001, section 3): what is left of a blend is what is left of its halves, by any cut.
-use Prim.Native.Nat.{ℕ, zero, suc, _+_, _≤_, _<_}
+use Prim.Native.Nat.{ℕ, zero, suc, _≤_, _<_}
 use native.Mathlib.Omega.{arith}
 use mathlib.Core.Path.{_≡_, refl, sym, ap, subst, _∙_, fun-ext}
 use mathlib.Core.Logic.{_⊎_, inl, inr, ⊎-elim}
@@ -9,13 +9,12 @@ use borrow.Author.Tests.{eqb-true, eqb-false}
 use lib.Dec.{eqb}
 use Rattle.mesh.specs.Triple.{Side, lower, upper}
 use Rattle.mesh.specs.Lines.{Direction, upright, level, other, Mesh}
-use Rattle.mesh.specs.Blends.{crossed, along, cuts, halve, cutter, leaves, leavesOf, size, live}
+use Rattle.mesh.specs.Blends.{crossed, along, cuts, halve, cutter, leaves, leavesOf, size, firstFour, live}
 use Rattle.mesh.specs.Order.{Uncut, Comes, here, cut, Left, Step, replace, drop, Steps, done, step, Cutting, Coarser}
-use Rattle.mesh.specs.declared.Triple.{Triple}
 use Rattle.mesh.specs.declared.Blend.{Blend}
-use Rattle.mesh.proofs.Tests.{either, true-not-false, false-of, joined-mem, mem-joined}
-use Rattle.mesh.proofs.Triples.{Rise, Inside, Knots}
-use Rattle.mesh.proofs.Cuts.{RiseB, crossed-rises, WithinB, withinB-refl, withinB-trans, Cut, cut-fact, cut-test, halve-rises, halve-within, halve-smaller, halve-anchor, size-positive, Crossing, upright-level, level-upright, crossing-back, cut-stays, halves-commute, FromB, wholeB, partB, swap, cutter-none, cutter-cuts, KnotsB, halve-knots}
+use Rattle.mesh.proofs.Tests.{either, true-not-false, joined-mem, mem-joined}
+use Rattle.mesh.proofs.Triples.{Knots}
+use Rattle.mesh.proofs.Cuts.{RiseB, crossed-rises, WithinB, withinB-refl, withinB-trans, Cut, cut-fact, cut-test, halve-rises, halve-within, halve-smaller, halve-anchor, size-positive, Crossing, upright-level, level-upright, crossing-back, cut-stays, halves-commute, FromB, wholeB, partB, swap, cutter-none, cutter-cuts, halve-knots}
 
 -- a cut blend, and one that no line cuts
 pub uncut-of : (M : Mesh) (d : Direction) (B : Blend) → RiseB B → cutter M d B ≡ 0 → cutter M (other d) B ≡ 0 → Uncut M B
@@ -33,6 +32,20 @@ cut-or-not M B h =
   where
     cutter-of : (d : Direction) → eqb (cutter M d B) 0 ≡ false → Uncut M B ⊎ ((d : Direction) × (z : ℕ) × (cuts M d z B ≡ true))
     cutter-of d e = inr (d, cutter M d B, cutter-cuts M d B h (eqb-false _ _ e))
+
+-- Induction by cutting: what is true of a blend that no line cuts, and of a cut one if of both its halves, is true of every rising blend.
+pub by-cutting : (M : Mesh) (P : Blend → Type 0) → ((B : Blend) → RiseB B → Uncut M B → P B) →
+    ((B : Blend) (d : Direction) (z : ℕ) → RiseB B → cuts M d z B ≡ true → ((s : Side) → P (halve d s z B)) → P B) → (B : Blend) → RiseB B → P B
+by-cutting M P whole parts B h = within (size B) B h (omega arith)
+  where
+    within : (f : ℕ) (B : Blend) → RiseB B → size B ≤ f → P B
+    within zero B h le = absurd (omega (arith, size-positive B h))
+    within (suc f) B h le =
+        ⊎-elim (whole B h)
+        (λ r. let i = cut-fact M (r .0) (r .1) B (r .2) .inside in
+        parts B (r .0) (r .1) h (r .2)
+        (λ s. within f (halve (r .0) s (r .1) B) (halve-rises (r .0) s (r .1) B h i) (omega (arith, halve-smaller (r .0) s (r .1) B h i))))
+        (cut-or-not M B h)
 
 pub comes-trans : {M : Mesh} {B C D : Blend} → Comes M B C → Comes M C D → Comes M B D
 comes-trans here q = q
@@ -72,15 +85,16 @@ module _ (M : Mesh) (y z : ℕ) (s : Side) (B C : Blend) where
   either-direction level upright h c b l after = cross-way level-upright h c b after
   either-direction level level h c b l after = same-way level c b l after
 
-some-half : (M : Mesh) (d : Direction) (z : ℕ) {B C : Blend} → RiseB B → Cut M d z B → Comes M B C → Uncut M C → (w : Side) × Left M (halve d w z B) C
+-- The key: what is left of a blend is left of one of its halves, by any cut.
+pub some-half : (M : Mesh) (d : Direction) (z : ℕ) {B C : Blend} → RiseB B → Cut M d z B → Comes M B C → Uncut M C → (w : Side) × Left M (halve d w z B) C
 some-half M d z {B} h c here u = absurd (true-not-false _ (cut-test M d z B c) (u d z))
 some-half M d z {B} {C} h c (cut e y s p r) u =
     let b = cut-fact M e y B p in
     either-direction M y z s B C d e h c b (record { comes = r; uncut = u })
     (λ k. some-half M d z (halve-rises e s y B h (b .inside)) k r u)
 
--- The key: what is left of a blend is left of one of its halves, by any cut.
-pub left-of-half : (M : Mesh) (d : Direction) (z : ℕ) {B C : Blend} → RiseB B → cuts M d z B ≡ true → Left M B C → Left M (halve d lower z B) C ⊎ Left M (halve d upper z B) C
+pub left-of-half : (M : Mesh) (d : Direction) (z : ℕ) {B C : Blend} → RiseB B → cuts M d z B ≡ true → Left M B C →
+    Left M (halve d lower z B) C ⊎ Left M (halve d upper z B) C
 left-of-half M d z {B} {C} h p l =
     let r = some-half M d z h (cut-fact M d z B p) (l .comes) (l .uncut) in
     by-side (r .0) (r .1)
@@ -109,18 +123,20 @@ exact-uncut : (M : Mesh) (B : Blend) → Uncut M B → Exact M B (B ∷ [])
 exact-uncut M B u =
     record {
       left = λ C m. subst (λ (X : Blend). Left M B X) (sym (List·Memᴰ·eq-of-singleton m)) (left-itself u);
-      all = λ C l. List·Memᴰ.List·Memᴰ·head (left-uncut u l)
+      all = λ C l. List·Memᴰ.List·Memᴰ·head (left-uncut u l);
     }
 
--- so any function that cuts, and is exact on smaller blends, is exact
+-- What is left of both halves is what is left of the blend: so a function that cuts is exact where it is on smaller blends, whichever cut it takes.
 pub exact-halves : (M : Mesh) (d : Direction) (z : ℕ) (B : Blend) (of : Blend → List Blend) → RiseB B → cuts M d z B ≡ true →
     ((A : Blend) → RiseB A → size A < size B → Exact M A (of A)) → Exact M B (of (halve d lower z B) ++ of (halve d upper z B))
 exact-halves M d z B of h p smaller =
     record {
       left = λ C m.
-        ⊎-elim (λ m. left-front d z lower p (exact lower .left C m)) (λ m. left-front d z upper p (exact upper .left C m))
-        (List·Memᴰ·append-cases (of (halve d lower z B)) m);
-      all = λ C l. ⊎-elim (λ l. Memᴰ·append-left _ (exact lower .all C l)) (λ l. Memᴰ·append-right (of (halve d lower z B)) (exact upper .all C l)) (left-of-half M d z h p l)
+          ⊎-elim (λ m. left-front d z lower p (exact lower .left C m)) (λ m. left-front d z upper p (exact upper .left C m))
+          (List·Memᴰ·append-cases (of (halve d lower z B)) m);
+      all = λ C l.
+          ⊎-elim (λ l. Memᴰ·append-left _ (exact lower .all C l)) (λ l. Memᴰ·append-right (of (halve d lower z B)) (exact upper .all C l))
+          (left-of-half M d z h p l);
     }
   where
     exact : (s : Side) → Exact M (halve d s z B) (of (halve d s z B))
@@ -164,16 +180,24 @@ cut-on-line M d z B h c =
     let a = crossed-rises (other d) B h in
     (along d B .l, c .covered (along d B .l) (omega arith) (omega arith))
 
--- and keeps its knots on lines
-pub comes-on-lines : {M : Mesh} {B C : Blend} → RiseB B → KnotsB (OnLine M) B → Comes M B C → KnotsB (OnLine M) C
-comes-on-lines h k here = k
-comes-on-lines {M} {B} h k (cut d z s p r) =
-    let c = cut-fact M d z B p in
-    comes-on-lines (halve-rises d s z B h (c .inside)) (halve-knots (OnLine M) d s z B k (cut-on-line M d z B h c)) r
+-- and keeps an axis's knots on lines
+pub comes-on-lines : {M : Mesh} {B C : Blend} (d : Direction) → RiseB B → Knots (OnLine M d) (crossed d B) → Comes M B C → Knots (OnLine M d) (crossed d C)
+comes-on-lines d h k here = k
+comes-on-lines {M} {B} d h k (cut e z s p r) =
+    let c = cut-fact M e z B p in
+    comes-on-lines d (halve-rises e s z B h (c .inside)) (halve-knots (OnLine M) d e s z B k (cut-on-line M e z B h c)) r
 
 -- Lists: what is left of some blends.
 abbrev pub Rising : List Blend → Type 0
 Rising bs = (B : Blend) → List·Memᴰ B bs → RiseB B
+
+rising-more : (B : Blend) (bs : List Blend) → RiseB B → Rising bs → Rising (B ∷ bs)
+rising-more B bs h hs A m = ⊎-elim (λ e. subst RiseB (sym e) h) (hs A) (List·Memᴰ·cases-cons m)
+
+pub firstFour-rises : (w h : ℕ) → 0 < w → 0 < h → Rising (firstFour w h)
+firstFour-rises w h hw hh =
+    rising-more _ _ (omega arith)
+    (rising-more _ _ (omega arith) (rising-more _ _ (omega arith) (rising-more _ _ (omega arith) (λ B m. absurd (List·Memᴰ·not-nil m)))))
 
 abbrev pub LeftOf : Mesh → List Blend → Blend → Type 0
 LeftOf M bs C = (B : Blend) × List·Memᴰ B bs × Left M B C
@@ -257,9 +281,10 @@ steps-back (step t ts) C r = step-back t C (steps-back ts C r)
 
 -- Any order of cutting ends with the same blends.
 pub any-order : (M : Mesh) (bs cs : List Blend) → Rising bs → Cutting M bs cs → SameMembers cs (leavesOf M bs)
-any-order M bs cs h c C =
-    (λ m. left-leavesOf M bs h C (steps-back (c .steps) C (C, m, left-itself (c .end C m))),
-    λ m. let r = steps-left (c .steps) h C (leavesOf-left M bs h C m) in Memᴰ·cast (left-uncut (c .end (r .0) (r .1)) (r .2)) (r .1))
+any-order M bs cs h c C = (
+  λ m. left-leavesOf M bs h C (steps-back (c .steps) C (C, m, left-itself (c .end C m))),
+  λ m. let r = steps-left (c .steps) h C (leavesOf-left M bs h C m) in Memᴰ·cast (left-uncut (c .end (r .0) (r .1)) (r .2)) (r .1),
+)
 
 -- A finer mesh (001, theorem 1): it cuts whatever the coarser one cuts, and what it leaves of a blend it leaves of what the coarser one left.
 pub finer-cuts : (M N : Mesh) → Coarser M N → (d : Direction) (z : ℕ) (B : Blend) → cuts M d z B ≡ true → cuts N d z B ≡ true
@@ -274,46 +299,38 @@ finer-comes {M} {N} {B} g (cut d z s p r) = cut d z s (finer-cuts M N g d z B p)
 pub finer-back : {M N : Mesh} {B D C : Blend} → Coarser M N → Left M B D → Left N D C → Left N B C
 finer-back g l n = record { comes = comes-trans (finer-comes g (l .comes)) (n .comes); uncut = n .uncut }
 
-finer-within : (f : ℕ) (M N : Mesh) → Coarser M N → (B C : Blend) → RiseB B → size B ≤ f → Left N B C → (D : Blend) × Left M B D × Left N D C
-finer-within zero M N g B C h le l = absurd (omega (arith, size-positive B h))
-finer-within (suc f) M N g B C h le l =
-    ⊎-elim (λ u. (B, left-itself u, l))
-    (λ r. let c = cut-fact M (r .0) (r .1) B (r .2) in
-    let n = cut-fact N (r .0) (r .1) B (finer-cuts M N g (r .0) (r .1) B (r .2)) in
-    let w = some-half N (r .0) (r .1) h n (l .comes) (l .uncut) in
-    let k = finer-within f M N g (halve (r .0) (w .0) (r .1) B) C (halve-rises (r .0) (w .0) (r .1) B h (c .inside)) (omega (arith, halve-smaller (r .0) (w .0) (r .1) B h (c .inside))) (w .1) in
-    (k .0, left-front (r .0) (r .1) (w .0) (r .2) (k .1), k .2))
-    (cut-or-not M B h)
-
 pub finer : (M N : Mesh) → Coarser M N → (B C : Blend) → RiseB B → Left N B C → (D : Blend) × Left M B D × Left N D C
-finer M N g B C h l = finer-within (size B) M N g B C h (omega arith) l
+finer M N g B C h l =
+    by-cutting M (λ X. Left N X C → (D : Blend) × Left M X D × Left N D C) (λ X r u l. (X, left-itself u, l))
+    (λ X d z r p halves l. let w = some-half N d z r (cut-fact N d z X (finer-cuts M N g d z X p)) (l .comes) (l .uncut) in
+    let k = halves (w .0) (w .1) in (k .0, left-front d z (w .0) p (k .1), k .2))
+    B h l
 
 -- So a finer mesh may start from what the coarser one left, in any list of it.
-pub finer-leaves : (M N : Mesh) → Coarser M N → (bs ds : List Blend) → Rising bs → SameMembers ds (leavesOf M bs) → SameMembers (leavesOf N ds) (leavesOf N bs)
-finer-leaves M N g bs ds h same C =
-    (λ m. let r = leavesOf-left N ds rising C m in
-    let l = leavesOf-left M bs h (r .0) (same (r .0) .0 (r .1)) in
-    left-leavesOf N bs h C (l .0, l .1, finer-back g (l .2) (r .2)),
-    λ m. let r = leavesOf-left N bs h C m in
-    let l = finer M N g (r .0) C (h (r .0) (r .1)) (r .2) in
-    left-leavesOf N ds rising C (l .0, same (l .0) .1 (left-leavesOf M bs h (l .0) (r .0, r .1, l .1)), l .2))
+pub finer-leaves : (M N : Mesh) → Coarser M N → (bs ds : List Blend) → Rising bs → SameMembers ds (leavesOf M bs) →
+    SameMembers (leavesOf N ds) (leavesOf N bs)
+finer-leaves M N g bs ds h same C = (
+  λ m. let r = leavesOf-left N ds rising C m in
+      let l = leavesOf-left M bs h (r .0) (same (r .0) .0 (r .1)) in
+      left-leavesOf N bs h C (l .0, l .1, finer-back g (l .2) (r .2)),
+  λ m. let r = leavesOf-left N bs h C m in
+      let l = finer M N g (r .0) C (h (r .0) (r .1)) (r .2) in
+      left-leavesOf N ds rising C (l .0, same (l .0) .1 (left-leavesOf M bs h (l .0) (r .0, r .1, l .1)), l .2),
+)
   where
     rising : Rising ds
     rising D m = leavesOf-rises M bs h D (same D .0 m)
 
--- A blend has a leaf at its own anchor.
-anchor-within : (f : ℕ) (M : Mesh) (B : Blend) → RiseB B → size B ≤ f → (C : Blend) × Left M B C × (C .across .m ≡ B .across .m) × (C .up .m ≡ B .up .m)
-anchor-within zero M B h le = absurd (omega (arith, size-positive B h))
-anchor-within (suc f) M B h le =
-    ⊎-elim (λ u. (B, left-itself u, refl, refl))
-    (λ r. let i = cut-fact M (r .0) (r .1) B (r .2) .inside in
-    let s = halve-anchor (r .0) (r .1) B in
-    let k = anchor-within f M (halve (r .0) (s .0) (r .1) B) (halve-rises (r .0) (s .0) (r .1) B h i) (omega (arith, halve-smaller (r .0) (s .0) (r .1) B h i)) in
-    (k .0, left-front (r .0) (r .1) (s .0) (r .2) (k .1), k .2 ∙ s .1, k .3 ∙ s .2))
-    (cut-or-not M B h)
+pub finer-again : (M N : Mesh) → Coarser M N → (bs : List Blend) → Rising bs → SameMembers (leavesOf N (leavesOf M bs)) (leavesOf N bs)
+finer-again M N g bs h = finer-leaves M N g bs (leavesOf M bs) h (λ C. (λ m. m, λ m. m))
 
+-- At its own anchor something is left of a blend.
 pub keeps-anchor : (M : Mesh) (B : Blend) → RiseB B → (C : Blend) × Left M B C × (C .across .m ≡ B .across .m) × (C .up .m ≡ B .up .m)
-keeps-anchor M B h = anchor-within (size B) M B h (omega arith)
+keeps-anchor M B h =
+    by-cutting M (λ X. (C : Blend) × Left M X C × (C .across .m ≡ X .across .m) × (C .up .m ≡ X .up .m)) (λ X r u. (X, left-itself u, refl, refl))
+    (λ X d z r p halves. let s = halve-anchor d z X in
+    let k = halves (s .0) in (k .0, left-front d z (s .0) p (k .1), k .2 ∙ s .1, k .3 ∙ s .2))
+    B h
 
 -- Meshes of equal unit steps have the same live blends.
 pub same-steps : (w h : ℕ) (M N : Mesh) → ((d : Direction) (z k : ℕ) → M d z k ≡ N d z k) → live w h M ≡ live w h N

@@ -1,14 +1,14 @@
 -- One triple and positions on its axis: what a cut does, and that the order of two cuts does not matter. Nothing here knows how many axes there are.
-use Prim.Native.Nat.{ℕ, _+_, _-_, _≤_, _<_, min, max}
+use Prim.Native.Nat.{ℕ, _-_, _≤_, _<_, min, max}
 use native.Mathlib.Omega.{arith}
-use mathlib.Core.Path.{_≡_, refl, sym, ap, subst}
+use mathlib.Core.Path.{_≡_, refl, sym, subst}
 use mathlib.Core.Logic.{_⊎_, inl, inr, ⊎-elim}
-use mathlib.Core.Bool.{Bool, true, false, _&&_, not}
+use mathlib.Core.Bool.{true, _&&_, not}
 use borrow.Author.Tests.{ltb-true, leb-true, leb-false, eqb-false, not-true, lt-ltb, ne-eqb}
 use lib.Dec.{leb, ltb, eqb}
-use Rattle.mesh.specs.Triple.{triple, Side, lower, upper, half, inside}
+use Rattle.mesh.specs.Triple.{Side, lower, upper, half, inside}
 use Rattle.mesh.specs.declared.Triple.{Triple}
-use Rattle.mesh.proofs.Tests.{either, and-both, and-of}
+use Rattle.mesh.proofs.Tests.{either, and-both}
 
 -- the numbers rise
 pub record Rise (t : Triple) : Type 0 where
