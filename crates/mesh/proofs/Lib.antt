@@ -1,6 +1,9 @@
 pub mod Tests
 pub mod Bytes
 pub mod Distinct
+pub mod Triples
+pub mod Cuts
+pub mod Order
 pub mod Tables
 pub mod Places
 pub mod Few

@@ -1,0 +1,260 @@
+-- One blend: its cuts as facts, its halves, and the search for the line that cuts first.
+use Prim.Native.Nat.{ℕ, zero, suc, _+_, _-_, _≤_, _<_}
+use native.Mathlib.Omega.{arith}
+use mathlib.Core.Path.{_≡_, refl, sym, ap, subst, _∙_}
+use mathlib.Core.Logic.{_⊎_, inl, inr, ⊎-elim}
+use mathlib.Core.Bool.{Bool, true, false, cond}
+use borrow.Author.Tests.{eqb-true, eqb-false, ltb-true, ltb-false}
+use lib.Dec.{eqb, ltb}
+use Rattle.mesh.specs.Triple.{Side, half, inside}
+use Rattle.mesh.specs.Lines.{Direction, upright, level, other, Mesh}
+use Rattle.mesh.specs.Blends.{blend, crossed, along, coversBlend, cuts, halve, below, above, nearest, cutter, size}
+use Rattle.mesh.specs.declared.Triple.{Triple}
+use Rattle.mesh.specs.declared.Blend.{Blend}
+use Rattle.mesh.proofs.Tests.{either, true-not-false, false-of, and-both, and-of, every-at, every-of}
+use Rattle.mesh.proofs.Triples.{Rise, Inside, inside-fact, inside-test, Within, within-refl, within-trans, half-rises, half-within, half-narrower, Knots, half-knots, keeps-middle, From, whole, part, cut-again, cut-once}
+
+-- both triples rise
+pub record RiseB (B : Blend) : Type 0 where
+  pub across : Rise (B .across)
+  pub up : Rise (B .up)
+
+pub crossed-rises : (d : Direction) (B : Blend) → RiseB B → Rise (crossed d B)
+crossed-rises upright B h = h .across
+crossed-rises level B h = h .up
+
+-- a rising blend's support is not empty
+pub size-positive : (B : Blend) → RiseB B → 0 < size B
+size-positive B h = omega arith
+
+-- the support of C lies within that of B
+pub record WithinB (B C : Blend) : Type 0 where
+  pub across : Within (B .across) (C .across)
+  pub up : Within (B .up) (C .up)
+
+pub withinB-refl : (B : Blend) → WithinB B B
+withinB-refl B = record { across = within-refl (B .across); up = within-refl (B .up) }
+
+pub withinB-trans : {B C D : Blend} → WithinB B C → WithinB C D → WithinB B D
+withinB-trans p q = record { across = within-trans (p .across) (q .across); up = within-trans (p .up) (q .up) }
+
+pub crossed-within : (d : Direction) {B C : Blend} → WithinB B C → Within (crossed d B) (crossed d C)
+crossed-within upright w = w .across
+crossed-within level w = w .up
+
+-- the line at z has each unit step from l to r
+abbrev pub Covered : Mesh → Direction → ℕ → Triple → Type 0
+Covered M d z t = (k : ℕ) → t .l ≤ k → k < t .r → M d z k ≡ true
+
+pub covered-fact : (M : Mesh) (d : Direction) (z : ℕ) (B : Blend) → coversBlend M d B z ≡ true → Covered M d z (along d B)
+covered-fact M d z B e k lo hi = every-at (along d B .l) (along d B .r - along d B .l) (M d z) e k lo (omega arith)
+
+pub covered-test : (M : Mesh) (d : Direction) (z : ℕ) (B : Blend) → Covered M d z (along d B) → coversBlend M d B z ≡ true
+covered-test M d z B f = every-of (along d B .l) (along d B .r - along d B .l) (M d z) (λ k lo hi. f k lo (omega arith))
+
+-- the line at z cuts the blend
+pub record Cut (M : Mesh) (d : Direction) (z : ℕ) (B : Blend) : Type 0 where
+  pub inside : Inside z (crossed d B)
+  pub covered : Covered M d z (along d B)
+
+pub cut-fact : (M : Mesh) (d : Direction) (z : ℕ) (B : Blend) → cuts M d z B ≡ true → Cut M d z B
+unfolding cuts
+cut-fact M d z B e =
+    let p = and-both (inside z (crossed d B)) (coversBlend M d B z) e in
+    record { inside = inside-fact z (crossed d B) (p .0); covered = covered-fact M d z B (p .1) }
+
+pub cut-test : (M : Mesh) (d : Direction) (z : ℕ) (B : Blend) → Cut M d z B → cuts M d z B ≡ true
+unfolding cuts
+cut-test M d z B c = and-of _ _ (inside-test z (crossed d B) (c .inside)) (covered-test M d z B (c .covered))
+
+-- A half rises, lies within the support, and is smaller.
+pub halve-rises : (d : Direction) (s : Side) (z : ℕ) (B : Blend) → RiseB B → Inside z (crossed d B) → RiseB (halve d s z B)
+unfolding halve
+halve-rises upright s z B h i = record { across = half-rises s z (B .across) (h .across) i; up = h .up }
+halve-rises level s z B h i = record { across = h .across; up = half-rises s z (B .up) (h .up) i }
+
+pub halve-within : (d : Direction) (s : Side) (z : ℕ) (B : Blend) → RiseB B → Inside z (crossed d B) → WithinB B (halve d s z B)
+unfolding halve
+halve-within upright s z B h i = record { across = half-within s z (B .across) (h .across) i; up = within-refl (B .up) }
+halve-within level s z B h i = record { across = within-refl (B .across); up = half-within s z (B .up) (h .up) i }
+
+pub halve-smaller : (d : Direction) (s : Side) (z : ℕ) (B : Blend) → RiseB B → Inside z (crossed d B) → size (halve d s z B) < size B
+unfolding halve
+halve-smaller upright s z B h i = omega (arith, half-narrower s z (B .across) (h .across) i)
+halve-smaller level s z B h i = omega (arith, half-narrower s z (B .up) (h .up) i)
+
+-- Coverage passes to a half.
+pub halve-covered : (M : Mesh) (d e : Direction) (s : Side) (y z : ℕ) (B : Blend) → RiseB B → Inside z (crossed d B) → Covered M e y (along e B) →
+    Covered M e y (along e (halve d s z B))
+halve-covered M d e s y z B h i f k lo hi =
+    let w = crossed-within (other e) (halve-within d s z B h i) in
+    f k (omega arith) (omega arith)
+
+-- One of the halves keeps the anchor.
+pub halve-anchor : (d : Direction) (z : ℕ) (B : Blend) → (s : Side) × (halve d s z B .across .m ≡ B .across .m) × (halve d s z B .up .m ≡ B .up .m)
+unfolding halve
+halve-anchor upright z B = let k = keeps-middle z (B .across) in (k .0, k .1, refl)
+halve-anchor level z B = let k = keeps-middle z (B .up) in (k .0, refl, k .1)
+
+-- Two directions that cross: a cut of one leaves the cuts of the other, and the two halvings do not meet.
+pub data Crossing : Direction → Direction → Type 0 where
+  upright-level : Crossing upright level
+  level-upright : Crossing level upright
+
+pub crossing-back : {d e : Direction} → Crossing d e → Crossing e d
+crossing-back upright-level = level-upright
+crossing-back level-upright = upright-level
+
+pub cut-stays : (M : Mesh) {d e : Direction} → Crossing d e → (s : Side) (y z : ℕ) (B : Blend) → RiseB B → Inside y (crossed e B) →
+    Cut M d z B → Cut M d z (halve e s y B)
+unfolding halve
+cut-stays M upright-level s y z B h i c =
+    record { inside = c .inside; covered = halve-covered M level upright s z y B h i (c .covered) }
+cut-stays M level-upright s y z B h i c =
+    record { inside = c .inside; covered = halve-covered M upright level s z y B h i (c .covered) }
+
+pub halves-commute : {d e : Direction} → Crossing d e → (s u : Side) (y z : ℕ) (B : Blend) → halve d u z (halve e s y B) ≡ halve e s y (halve d u z B)
+unfolding halve
+halves-commute upright-level s u y z B = refl
+halves-commute level-upright s u y z B = refl
+
+-- B with another triple for its crossed one, as a cut of the direction makes it
+abbrev put : Direction → Blend → Triple → Blend
+put upright B t = blend t (B .up)
+put level B t = blend (B .across) t
+
+halve-put : (d : Direction) (B : Blend) (s : Side) (z : ℕ) (t : Triple) → halve d s z (put d B t) ≡ put d B (half s z t)
+unfolding halve
+halve-put upright B s z t = refl
+halve-put level B s z t = refl
+
+put-own : (d : Direction) (B : Blend) → put d B (crossed d B) ≡ B
+put-own upright B = refl
+put-own level B = refl
+
+cut-put : (M : Mesh) (d : Direction) (B : Blend) (z : ℕ) (t : Triple) → Inside z t → Covered M d z (along d B) → Cut M d z (put d B t)
+cut-put M upright B z t i f = record { inside = i; covered = f }
+cut-put M level B z t i f = record { inside = i; covered = f }
+
+-- X is B, or a half of B by the line at y.
+pub data FromB (M : Mesh) (d : Direction) (y : ℕ) (B X : Blend) : Type 0 where
+  wholeB : X ≡ B → FromB M d y B X
+  partB : (v : Side) → Cut M d y B → X ≡ halve d v y B → FromB M d y B X
+
+from-put : (M : Mesh) (d : Direction) (y : ℕ) (B : Blend) (t X : Triple) → Covered M d y (along d B) → From y t X → FromB M d y (put d B t) (put d B X)
+from-put M d y B t X f (whole e) = wholeB (ap (put d B) e)
+from-put M d y B t X f (part v i e) = partB v (cut-put M d B y t i f) (ap (put d B) e ∙ sym (halve-put d B v y t))
+
+halve-own : (d : Direction) (B : Blend) (s : Side) (z : ℕ) → put d B (half s z (crossed d B)) ≡ halve d s z B
+halve-own d B s z = sym (halve-put d B s z (crossed d B)) ∙ ap (halve d s z) (put-own d B)
+
+-- Two lines of one direction cut a blend, at y and at z. What the one at z leaves of a half by y, its halves or that half itself,
+-- is a half by z, or what y leaves of one.
+pub swap : (M : Mesh) (d : Direction) (s : Side) (y z : ℕ) (B : Blend) → Cut M d y B → Cut M d z B → (y ≡ z → ⊥) →
+    (Cut M d z (halve d s y B) × ((u : Side) → (w : Side) × FromB M d y (halve d w z B) (halve d u z (halve d s y B)))) ⊎
+    ((w : Side) × FromB M d y (halve d w z B) (halve d s y B))
+swap M d s y z B p q apart =
+    ⊎-elim
+    (λ e. let k = inside-fact z (half s y (crossed d B)) e in
+    inl (
+      subst (Cut M d z) (halve-own d B s y) (cut-put M d B z (half s y (crossed d B)) k (q .covered)),
+      λ u. let r = cut-again y z (crossed d B) (p .inside) (q .inside) apart s u k in
+          (r .0, rw (← halve-own d B (r .0) z, ← halve-own d B s y, halve-put d B u z (half s y (crossed d B))) (from-put M d y B _ _ (p .covered) (r .1))),
+    ))
+    (λ e. let k : Inside z (half s y (crossed d B)) → ⊥ = λ i. true-not-false _ (inside-test _ _ i) e in
+    let r = cut-once y z (crossed d B) (p .inside) (q .inside) apart s k in
+    inr (r .0, rw (← halve-own d B (r .0) z, ← halve-own d B s y) (from-put M d y B _ _ (p .covered) (r .1))))
+    (either (inside z (half s y (crossed d B))))
+
+-- What a search over the places 1 to n for a line answers: one of them that has a line, or 0 where none has.
+record Search (line : ℕ → Bool) (place : ℕ → ℕ) (n v : ℕ) : Type 0 where
+  none : v ≡ 0 → (k : ℕ) → 0 < k → k ≤ n → line (place k) ≡ false
+  some : (v ≡ 0 → ⊥) → (k : ℕ) × (0 < k) × (k ≤ n) × (v ≡ place k) × (line (place k) ≡ true)
+
+module _ (line : ℕ → Bool) (place : ℕ → ℕ) where
+  search-nowhere : Search line place 0 0
+  search-nowhere = record { none = λ e k lo hi. absurd (omega arith); some = λ f. absurd (f refl) }
+
+  search-on : (n v : ℕ) → Search line place n v → 0 < place (suc n) → Search line place (suc n) (cond (line (place (suc n))) (place (suc n)) v)
+  search-on n v h pos = ⊎-elim here further (either (line (place (suc n))))
+    where
+      here : line (place (suc n)) ≡ true → Search line place (suc n) (cond (line (place (suc n))) (place (suc n)) v)
+      here e = rw e (record { none = λ z. absurd (omega arith); some = λ f. (suc n, omega arith, omega arith, refl, e) })
+
+      further : line (place (suc n)) ≡ false → Search line place (suc n) (cond (line (place (suc n))) (place (suc n)) v)
+      further e =
+          rw e
+          (record {
+            none = λ z k lo hi.
+                ⊎-elim (λ q. rw (eqb-true k (suc n) q) e) (λ q. let ne = eqb-false k (suc n) q in h .none z k lo (omega arith))
+                (either (eqb k (suc n)));
+            some = λ f. let r = h .some f in (r .0, r .1, omega (arith, r .2), r .3, r .4);
+          })
+
+below-search : (line : ℕ → Bool) (l n : ℕ) → Search line (λ k. l + k) n (below line l n)
+unfolding below
+below-search line l zero = search-nowhere line (λ k. l + k)
+below-search line l (suc n) = search-on line (λ k. l + k) n (below line l n) (below-search line l n) (omega arith)
+
+above-search : (line : ℕ → Bool) (r n : ℕ) → n < r → Search line (λ k. r - k) n (above line r n)
+unfolding above
+above-search line r zero h = search-nowhere line (λ k. r - k)
+above-search line r (suc n) h = search-on line (λ k. r - k) n (above line r n) (above-search line r n (omega arith)) (omega arith)
+
+-- What the search on both sides of the middle answers: a line that can cut, or 0 where there is none.
+pub record First (line : ℕ → Bool) (t : Triple) (v : ℕ) : Type 0 where
+  pub none : v ≡ 0 → (z : ℕ) → Inside z t → line z ≡ false
+  pub some : (v ≡ 0 → ⊥) → Inside v t × (line v ≡ true)
+
+pub nearest-first : (line : ℕ → Bool) (t : Triple) → Rise t → First line t (nearest line t)
+unfolding nearest
+nearest-first line t h =
+    both (below line (t .l) (t .m - t .l - 1)) (above line (t .r) (t .r - t .m - 1)) (below-search line (t .l) (t .m - t .l - 1))
+    (above-search line (t .r) (t .r - t .m - 1) (omega arith))
+  where
+    both : (a b : ℕ) → Search line (λ k. t .l + k) (t .m - t .l - 1) a → Search line (λ k. t .r - k) (t .r - t .m - 1) b →
+        First line t (cond (eqb a 0) b a)
+    both a b p q = ⊎-elim (λ e. rw e (high (eqb-true a 0 e))) (λ e. rw e (low (eqb-false a 0 e))) (either (eqb a 0))
+      where
+        low : (a ≡ 0 → ⊥) → First line t a
+        low ne =
+            let r = p .some ne in
+            record { none = λ e. absurd (ne e); some = λ f. (omega arith, ap line (r .3) ∙ r .4) }
+
+        high : a ≡ 0 → First line t b
+        high z =
+            record {
+              none = λ e y i.
+                  ⊎-elim
+                  (λ c. let lt = ltb-true y (t .m) c in
+                  let k : t .l + (y - t .l) ≡ y = omega arith in
+                  rw k at (p .none z (y - t .l) (omega arith) (omega arith)))
+                  (λ c. let le = ltb-false y (t .m) c in
+                  let k : t .r - (t .r - y) ≡ y = omega arith in
+                  let off = i .off in
+                  rw k at (q .none e (t .r - y) (omega arith) (omega arith)))
+                  (either (ltb y (t .m)));
+              some = λ f. let r = q .some f in (omega arith, ap line (r .3) ∙ r .4);
+            }
+
+-- 0 says that no line of the direction cuts the blend; any other answer is a line that does.
+pub cutter-none : (M : Mesh) (d : Direction) (B : Blend) → RiseB B → cutter M d B ≡ 0 → (z : ℕ) → cuts M d z B ≡ false
+cutter-none M d B h e z =
+    false-of (cuts M d z B) (λ c. let f = cut-fact M d z B c in
+    true-not-false (coversBlend M d B z) (covered-test M d z B (f .covered))
+    (nearest-first (coversBlend M d B) (crossed d B) (crossed-rises d B h) .none e z (f .inside)))
+
+pub cutter-cuts : (M : Mesh) (d : Direction) (B : Blend) → RiseB B → (cutter M d B ≡ 0 → ⊥) → cuts M d (cutter M d B) B ≡ true
+unfolding cuts
+cutter-cuts M d B h ne =
+    let r = nearest-first (coversBlend M d B) (crossed d B) (crossed-rises d B h) .some ne in
+    and-of _ _ (inside-test (cutter M d B) (crossed d B) (r .0)) (r .1)
+
+-- A cut keeps what is true of each knot of an axis, if it is true of the cut's position.
+pub halve-knots : (P : Direction → ℕ → Type 0) (d e : Direction) (s : Side) (z : ℕ) (B : Blend) → Knots (P d) (crossed d B) → P e z →
+    Knots (P d) (crossed d (halve e s z B))
+unfolding halve
+halve-knots P upright upright s z B k p = half-knots (P upright) s z (B .across) k p
+halve-knots P upright level s z B k p = k
+halve-knots P level upright s z B k p = k
+halve-knots P level level s z B k p = half-knots (P level) s z (B .up) k p
