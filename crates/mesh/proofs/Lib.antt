@@ -6,6 +6,7 @@ pub mod Cuts
 pub mod Order
 pub mod Tables
 pub mod Places
+pub mod Ascending
 pub mod Few
 pub mod Scale
 pub mod Hats
