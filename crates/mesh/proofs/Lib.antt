@@ -7,6 +7,7 @@ pub mod Order
 pub mod Tables
 pub mod Places
 pub mod Ascending
+pub mod Live
 pub mod Few
 pub mod Scale
 pub mod Hats

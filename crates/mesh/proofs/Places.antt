@@ -197,6 +197,13 @@ keep-seen w h hw hh T ds [] K p = K
 keep-seen w h hw hh T ds (B ∷ bs) K p =
     keep-seen w h hw hh (keep T B) (B ∷ ds) bs (keep-one w h hw hh T ds K B (p B (List·Memᴰ·head refl))) (λ C m. p C (List·Memᴰ·tail m))
 
+-- two blends with one anchor: it lies strictly inside both supports
+pub overlap : (w h : ℕ) (B C : Blend) → (B ≡ C → ⊥) → B .across .m ≡ C .across .m → B .up .m ≡ C .up .m → ProperIn w h C → nested B C ≡ true
+overlap w h B C ne q s pC =
+    let a = pC .across in
+    let u = pC .up in
+    rw (false-of (same B C) (λ e. ne (same-blend B C e)), q, s, lt-ltb _ _ (a .low), lt-ltb _ _ (a .high), lt-ltb _ _ (u .low), lt-ltb _ _ (u .high))
+
 module _ (w h : ℕ) (hw : w ≤ 128) (hh : h ≤ 128) (E : List ℕ) (blank : Kept w h E []) (ls : List Blend)
     (p : (C : Blend) → List·Memᴰ C ls → ProperIn w h C) where
   kept-all : Kept w h (keepAll E ls) (seen [] ls)
@@ -204,12 +211,6 @@ module _ (w h : ℕ) (hw : w ≤ 128) (hh : h ≤ 128) (E : List ℕ) (blank : K
 
   of-list : (C : Blend) → List·Memᴰ C (seen [] ls) → List·Memᴰ C ls
   of-list C m = ⊎-elim (λ k. absurd (List·Memᴰ·not-nil k)) (λ k. k) (mem-seen [] ls C m)
-
-  overlap : (B C : Blend) → (B ≡ C → ⊥) → B .across .m ≡ C .across .m → B .up .m ≡ C .up .m → ProperIn w h C → nested B C ≡ true
-  overlap B C ne q s pC =
-      let a = pC .across in
-      let u = pC .up in
-      rw (false-of (same B C) (λ e. ne (same-blend B C e)), q, s, lt-ltb _ _ (a .low), lt-ltb _ _ (a .high), lt-ltb _ _ (u .low), lt-ltb _ _ (u .high))
 
   -- two different blends met: the map is not sound
   pub met-unsound : (getD (keepAll E ls) 0 0 ≡ 0 → ⊥) → sound w h (inTableOrder w h (once ls)) ≡ false
@@ -224,7 +225,7 @@ module _ (w h : ℕ) (hw : w ≤ 128) (hh : h ≤ 128) (E : List ℕ) (blank : K
       (λ e.
       let apart = and-both (fourEverywhere w h (inTableOrder w h (once ls))) (noneNested (inTableOrder w h (once ls))) e .1 in
       let no = all-at (λ C. not (nested (r .0) C)) (inTableOrder w h (once ls)) (all-at (λ B. all (λ C. not (nested B C)) (inTableOrder w h (once ls))) (inTableOrder w h (once ls)) apart (r .0) inB) (r .1) inC in
-      true-not-false (nested (r .0) (r .1)) (overlap (r .0) (r .1) (r .4) (r .5) (r .6) (p (r .1) mC)) (not-true _ no))
+      true-not-false (nested (r .0) (r .1)) (overlap w h (r .0) (r .1) (r .4) (r .5) (r .6) (p (r .1) mC)) (not-true _ no))
 
   -- while none met, a place that is taken holds a blend of the list, and each blend of the list is at its place
   held : getD (keepAll E ls) 0 0 ≡ 0 → (m n : ℕ) (C : Blend) → List·Memᴰ C ls → C .across .m ≡ m → C .up .m ≡ n → getD (keepAll E ls) (at m n) 0 ≡ packed C

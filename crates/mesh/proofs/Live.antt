@@ -1,0 +1,136 @@
+-- What is left of proper blends, as a table: its members, and that a finer mesh may start from the table in hand.
+use Prim.Native.Nat.{ℕ, zero, suc, _+_, _-_, _*_, _≤_, _<_}
+use native.Mathlib.Omega.{arith}
+use mathlib.Core.Path.{_≡_, refl, sym, ap, subst, _∙_}
+use mathlib.Core.Logic.{_⊎_, inl, inr, ⊎-elim}
+use mathlib.Core.Bool.{Bool, true, false, cond, _&&_, not}
+use mathlib.Core.List.{List, [], _∷_, _++_, List·Memᴰ}
+use lib.Dec.{leb}
+use lib.ListN.{length}
+use borrow.Author.Tests.{not-true, lt-ltb}
+use Rattle.mesh.specs.Range.{all}
+use Rattle.mesh.specs.Lines.{Mesh, Direction}
+use Rattle.mesh.specs.Blends.{same, once, inTableOrder, leavesOf, refine, live, firstFour, cuts}
+use Rattle.mesh.specs.Order.{Comes, Left, Uncut, Cutting, Coarser}
+use Rattle.mesh.specs.Sound.{proper, nested, noneNested, fourEverywhere, sound, answer, table}
+use Rattle.mesh.specs.Bytes.{place}
+use Rattle.mesh.specs.declared.Blend.{Blend}
+use Rattle.mesh.proofs.Tests.{either, true-not-false, and-both, and-of, false-of, all-at, cond-false, cond-true}
+use Rattle.mesh.proofs.Distinct.{Distinct}
+use Rattle.mesh.proofs.Cuts.{RiseB}
+use Rattle.mesh.proofs.Order.{cut-or-not, comes-rises, comes-within, Rising, LeftOf, SameMembers, leavesOf-left, left-leavesOf, any-order, finer-leaves, firstFour-rises}
+use Rattle.mesh.proofs.Tables.{same-blend, blend-same, once-mem, mem-once, once-distinct, order-mem, mem-order, order-distinct}
+use Rattle.mesh.proofs.Places.{ProperIn, proper-facts, proper-of, proper-anchored, overlap}
+use Rattle.mesh.proofs.Ascending.{OwnAnchors, order-ascending, ascending-unique}
+
+pub proper-rises : (w h : ℕ) (B : Blend) → proper w h B ≡ true → RiseB B
+proper-rises w h B e =
+    let p = proper-facts w h B e in
+    record { across = record { low = p .across .low; high = p .across .high }; up = record { low = p .up .low; high = p .up .high } }
+
+-- what is left of a proper blend is proper
+pub left-proper : (w h : ℕ) (M : Mesh) (B C : Blend) → proper w h B ≡ true → Left M B C → proper w h C ≡ true
+left-proper w h M B C e l =
+    let p = proper-facts w h B e in
+    let r = comes-rises (proper-rises w h B e) (l .comes) in
+    let s = comes-within (proper-rises w h B e) (l .comes) in
+    let pa = p .across in
+    let pu = p .up in
+    let sa = s .across in
+    let su = s .up in
+    proper-of w h C
+    (record {
+      across = record { low = r .across .low; high = r .across .high; most = omega arith };
+      up = record { low = r .up .low; high = r .up .high; most = omega arith };
+    })
+
+-- all of a list are proper
+abbrev pub AllProper : ℕ → ℕ → List Blend → Type 0
+AllProper w h bs = (B : Blend) → List·Memᴰ B bs → proper w h B ≡ true
+
+module _ (w h : ℕ) (M : Mesh) (bs : List Blend) (ok : AllProper w h bs) where
+  rising : Rising bs
+  rising B m = proper-rises w h B (ok B m)
+
+  pub leaves-proper : AllProper w h (leavesOf M bs)
+  leaves-proper C m = let l = leavesOf-left M bs rising C m in left-proper w h M (l .0) C (ok (l .0) (l .1)) (l .2)
+
+  pub refine-leaves : SameMembers (refine w h M bs) (leavesOf M bs)
+  unfolding refine
+  refine-leaves C = (
+    λ m. once-mem (leavesOf M bs) C (order-mem w h (once (leavesOf M bs)) C m .0),
+    λ m. mem-order w h (once (leavesOf M bs)) C (mem-once (leavesOf M bs) C m) (proper-anchored w h C (proper-facts w h C (leaves-proper C m))),
+  )
+
+  pub refine-left : (C : Blend) → List·Memᴰ C (refine w h M bs) → LeftOf M bs C
+  refine-left C m = leavesOf-left M bs rising C (refine-leaves C .0 m)
+
+  pub left-refine : (C : Blend) → LeftOf M bs C → List·Memᴰ C (refine w h M bs)
+  left-refine C l = refine-leaves C .1 (left-leavesOf M bs rising C l)
+
+  pub refine-proper : AllProper w h (refine w h M bs)
+  refine-proper C m = leaves-proper C (refine-leaves C .0 m)
+
+  pub refine-distinct : Distinct (refine w h M bs)
+  unfolding refine
+  refine-distinct = order-distinct w h (once (leavesOf M bs)) (once-distinct (leavesOf M bs))
+
+-- in a sound map no two blends have one anchor
+pub sound-own : (w h : ℕ) (bs : List Blend) → AllProper w h bs → sound w h bs ≡ true → OwnAnchors bs
+unfolding sound noneNested
+sound-own w h bs ok s B C mB mC q r =
+    ⊎-elim (λ e. same-blend B C e)
+    (λ e.
+    let apart = and-both (fourEverywhere w h bs) (noneNested bs) s .1 in
+    let no = all-at (λ C. not (nested B C)) bs (all-at (λ B. all (λ C. not (nested B C)) bs) bs apart B mB) C mC in
+    let yes = overlap w h B C (λ p. true-not-false (same B C) (blend-same B C p) e) q r (proper-facts w h C (ok C mC)) in
+    absurd (true-not-false (nested B C) yes (not-true _ no)))
+    (either (same B C))
+
+-- tables of the same blends are equal where one is sound, and so are the answers on them in any case
+module _ (w h : ℕ) (hh : h ≤ 128) (xs ys : List Blend) (dx : Distinct xs) (dy : Distinct ys) (ok : AllProper w h xs) (eq : SameMembers xs ys) where
+  pub same-table : sound w h (inTableOrder w h xs) ≡ true → inTableOrder w h xs ≡ inTableOrder w h ys
+  same-table s =
+      ascending-unique place (inTableOrder w h xs) (inTableOrder w h ys) (order-ascending w h hh xs dx own)
+      (order-ascending w h hh ys dy (λ B C mB mC. own B C (eq B .1 mB) (eq C .1 mC)))
+      (λ C m. let o = order-mem w h xs C m in mem-order w h ys C (eq C .0 (o .0)) (o .1))
+      (λ C m. let o = order-mem w h ys C m in mem-order w h xs C (eq C .1 (o .0)) (o .1))
+    where
+      there : (B : Blend) → List·Memᴰ B xs → List·Memᴰ B (inTableOrder w h xs)
+      there B m = mem-order w h xs B m (proper-anchored w h B (proper-facts w h B (ok B m)))
+
+      own : OwnAnchors xs
+      own B C mB mC = sound-own w h (inTableOrder w h xs) (λ D m. ok D (order-mem w h xs D m .0)) s B C (there B mB) (there C mC)
+
+pub unsound-answer : (w h : ℕ) (bs : List Blend) → sound w h bs ≡ false → answer w h bs ≡ record { sound = false; table = table [] }
+unfolding answer
+unsound-answer w h bs e = rw e
+
+pub same-answer : (w h : ℕ) → h ≤ 128 → (xs ys : List Blend) → Distinct xs → Distinct ys → AllProper w h xs → SameMembers xs ys →
+    answer w h (inTableOrder w h xs) ≡ answer w h (inTableOrder w h ys)
+same-answer w h hh xs ys dx dy ok eq =
+    ⊎-elim (λ s. ap (answer w h) (same-table w h hh xs ys dx dy ok eq s))
+    (λ s.
+    ⊎-elim (λ t. ap (answer w h) (sym (same-table w h hh ys xs dy dx (λ B m. ok B (eq B .1 m)) (λ C. (eq C .1, eq C .0)) t)))
+    (λ t. unsound-answer w h (inTableOrder w h xs) s ∙ sym (unsound-answer w h (inTableOrder w h ys) t)) (either (sound w h (inTableOrder w h ys))))
+    (either (sound w h (inTableOrder w h xs)))
+
+-- Theorem 1 of 001: a finer mesh may cut what the coarser one left.
+module _ (w h : ℕ) (hh : h ≤ 128) (M N : Mesh) (coarser : Coarser M N) (bs : List Blend) (ok : AllProper w h bs) where
+  again : SameMembers (once (leavesOf N (refine w h M bs))) (once (leavesOf N bs))
+  again C =
+      let f = finer-leaves M N coarser bs (refine w h M bs) (rising w h M bs ok) (refine-leaves w h M bs ok) C in (
+        λ m. mem-once (leavesOf N bs) C (f .0 (once-mem (leavesOf N (refine w h M bs)) C m)),
+        λ m. mem-once (leavesOf N (refine w h M bs)) C (f .1 (once-mem (leavesOf N bs) C m)),
+      )
+
+  all-proper : AllProper w h (once (leavesOf N (refine w h M bs)))
+  all-proper C m = leaves-proper w h N (refine w h M bs) (refine-proper w h M bs ok) C (once-mem (leavesOf N (refine w h M bs)) C m)
+
+  pub finer-answer : answer w h (refine w h N (refine w h M bs)) ≡ answer w h (refine w h N bs)
+  unfolding refine
+  finer-answer = same-answer w h hh (once (leavesOf N (refine w h M bs))) (once (leavesOf N bs)) (once-distinct _) (once-distinct _) all-proper again
+
+  pub finer-table : sound w h (refine w h N (refine w h M bs)) ≡ true → refine w h N (refine w h M bs) ≡ refine w h N bs
+  unfolding refine
+  finer-table s = same-table w h hh (once (leavesOf N (refine w h M bs))) (once (leavesOf N bs)) (once-distinct _) (once-distinct _) all-proper again s
