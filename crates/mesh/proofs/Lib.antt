@@ -9,6 +9,8 @@ pub mod Places
 pub mod Ascending
 pub mod Live
 pub mod Few
+pub mod Fresh
 pub mod Scale
 pub mod Hats
 pub mod Weights
+pub mod SoundMaps

@@ -128,6 +128,12 @@ module _ {ℓ} {A : Type ℓ} where
       (λ m. ⊎-elim (λ t. rw t (List·Memᴰ.List·Memᴰ·tail (mem-only test ys x m e))) (λ t. rw t (mem-only test ys x m e)) (either (test y)))
       (List·Memᴰ·cases-cons h)
 
+  pub only-all : (test : A → Bool) (xs : List A) → ((x : A) → List·Memᴰ x xs → test x ≡ true) → only test xs ≡ xs
+  only-all test [] f = refl
+  only-all test (x ∷ xs) f =
+      let t : test x ≡ true = f x (List·Memᴰ.List·Memᴰ·head refl) in
+      rw (t, only-all test xs (λ y m. f y (List·Memᴰ.List·Memᴰ·tail m)))
+
   pub each-mem : (from n : ℕ) (f : ℕ → List A) (x : A) → List·Memᴰ x (each from n f) → (k : ℕ) × (from ≤ k) × (k < from + n) × List·Memᴰ x (f k)
   each-mem from zero f x h = absurd (List·Memᴰ·not-nil h)
   each-mem from (suc n) f x h =

@@ -1,0 +1,185 @@
+-- The first four blends, and a fresh map: no line cuts them, and it is sound.
+use Prim.Native.Nat.{ℕ, zero, suc, _+_, _-_, _*_, _≤_, _<_}
+use native.Mathlib.Omega.{arith}
+use mathlib.Core.Path.{_≡_, refl, sym, ap, ap₂, subst, _∙_}
+use mathlib.Core.Logic.{_⊎_, inl, inr, ⊎-elim}
+use mathlib.Core.Bool.{Bool, true, false, cond, _&&_, _||_, not}
+use mathlib.Core.List.{List, [], _∷_, _++_, List·Memᴰ, List·Memᴰ·cases-cons, List·Memᴰ·not-nil}
+use mathlib.Core.List.List·Memᴰ.{List·Memᴰ·head, List·Memᴰ·tail}
+use lib.Dec.{leb, ltb, eqb}
+use lib.ListN.{length}
+use borrow.Author.Tests.{not-true, eqb-true, eq-eqb, ltb-true, le-leb, lt-ltb}
+use Rattle.mesh.specs.Range.{every, only, all}
+use Rattle.mesh.specs.Triple.{low, high, between, spans}
+use Rattle.mesh.specs.Lines.{Mesh, Direction, upright, level, mesh, freshMesh, side, other}
+use Rattle.mesh.specs.Blends.{blend, same, once, leavesOf, inTableOrder, refine, live, firstFour, cuts, crossed, along}
+use Rattle.mesh.specs.Order.{Comes, Left, Uncut, here}
+use Rattle.mesh.specs.Sound.{proper, overSquare, fourEverywhere, noneNested, nested, sound}
+use Rattle.mesh.specs.Bytes.{at, place}
+use Rattle.mesh.specs.declared.Triple.{Triple}
+use Rattle.mesh.specs.declared.Blend.{Blend}
+use Rattle.mesh.proofs.Tests.{either, true-not-false, and-both, and-of, or-either, false-of, every-of, all-of, only-all}
+use Rattle.mesh.proofs.Cuts.{Cut, cut-fact, RiseB}
+use Rattle.mesh.proofs.Order.{left-uncut, left-itself}
+use Rattle.mesh.proofs.Tables.{blend-same, once-mem, mem-once, once-distinct, order-mem, mem-order}
+use Rattle.mesh.proofs.Places.{ProperIn, Rises, rising-of}
+use Rattle.mesh.proofs.Ascending.{Ascending, OwnAnchors, order-ascending, ascending-unique}
+use Rattle.mesh.proofs.Live.{AllProper, refine-left, left-refine, refine-leaves}
+
+-- one axis: a first triple of the side
+pub data First (s : ℕ) : Triple → Type 0 where
+  is-low : First s (low s)
+  is-high : First s (high s)
+
+first-rises : (s : ℕ) → 1 ≤ s → (t : Triple) → First s t → Rises s t
+first-rises s h t is-low = record { low = omega arith; high = omega arith; most = omega arith }
+first-rises s h t is-high = record { low = omega arith; high = omega arith; most = omega arith }
+
+-- its ends and its middle are the fresh map's positions, none of which lies strictly inside but the middle
+first-uncut : (s z : ℕ) (t : Triple) → First s t → (z ≡ 0) ⊎ ((z ≡ 1) ⊎ ((z ≡ s + 1) ⊎ (z ≡ s + 2))) → t .l < z → z < t .r → (z ≡ t .m → ⊥) → ⊥
+first-uncut s z t is-low (inl e) lo hi off = omega arith
+first-uncut s z t is-low (inr (inl e)) lo hi off = off e
+first-uncut s z t is-low (inr (inr (inl e))) lo hi off = omega arith
+first-uncut s z t is-low (inr (inr (inr e))) lo hi off = omega arith
+first-uncut s z t is-high (inl e) lo hi off = omega arith
+first-uncut s z t is-high (inr (inl e)) lo hi off = omega arith
+first-uncut s z t is-high (inr (inr (inl e))) lo hi off = off e
+first-uncut s z t is-high (inr (inr (inr e))) lo hi off = omega arith
+
+-- one's middle lies strictly inside another only if they are the same
+first-apart : (s : ℕ) (t u : Triple) → First s t → First s u → u .l < t .m → t .m < u .r → t ≡ u
+first-apart s t u is-low is-low lo hi = refl
+first-apart s t u is-low is-high lo hi = absurd (omega arith)
+first-apart s t u is-high is-low lo hi = absurd (omega arith)
+first-apart s t u is-high is-high lo hi = refl
+
+-- both triples of a first blend are first triples
+pub record FirstBlend (w h : ℕ) (B : Blend) : Type 0 where
+  pub across : First w (B .across)
+  pub up : First h (B .up)
+
+pub first-four : (w h : ℕ) (B : Blend) → List·Memᴰ B (firstFour w h) → FirstBlend w h B
+first-four w h B m =
+    at-head (record { across = is-low; up = is-low })
+    (at-head (record { across = is-low; up = is-high })
+    (at-head (record { across = is-high; up = is-low }) (at-head (record { across = is-high; up = is-high }) (λ n. absurd (List·Memᴰ·not-nil n)))))
+    m
+  where
+    at-head : {C : Blend} {bs : List Blend} → FirstBlend w h C → (List·Memᴰ B bs → FirstBlend w h B) → List·Memᴰ B (C ∷ bs) → FirstBlend w h B
+    at-head f rest k = ⊎-elim (λ q. subst (FirstBlend w h) (sym q) f) rest (List·Memᴰ·cases-cons k)
+
+pub first-proper : (w h : ℕ) → 1 ≤ w → 1 ≤ h → AllProper w h (firstFour w h)
+first-proper w h hw hh B m =
+    let f = first-four w h B m in
+    and-of _ _ (rising-of w (B .across) (first-rises w hw (B .across) (f .across))) (rising-of h (B .up) (first-rises h hh (B .up) (f .up)))
+
+-- a fresh map's lines stand at four positions
+fresh-positions : (w h : ℕ) (d : Direction) (z k : ℕ) → mesh w h [] d z k ≡ true →
+    (z ≡ 0) ⊎ ((z ≡ 1) ⊎ ((z ≡ side d w h + 1) ⊎ (z ≡ side d w h + 2)))
+unfolding mesh freshMesh
+fresh-positions w h d z k e =
+    let f = ⊎-elim (λ q. q) (λ q. absurd (true-not-false false q refl)) (or-either (freshMesh w h d z k) false e) in
+    let p = and-both (eqb z 0 || eqb z 1 || eqb z (side d w h + 1) || eqb z (side d w h + 2)) (ltb k (side (other d) w h + 2)) f .0 in
+    ⊎-elim
+    (λ a.
+    ⊎-elim (λ b. ⊎-elim (λ c. inl (eqb-true _ _ c)) (λ c. inr (inl (eqb-true _ _ c))) (or-either (eqb z 0) (eqb z 1) b))
+    (λ b. inr (inr (inl (eqb-true _ _ b)))) (or-either (eqb z 0 || eqb z 1) (eqb z (side d w h + 1)) a))
+    (λ a. inr (inr (inr (eqb-true _ _ a)))) (or-either (eqb z 0 || eqb z 1 || eqb z (side d w h + 1)) (eqb z (side d w h + 2)) p)
+
+first-crossed : (w h : ℕ) (d : Direction) (B : Blend) → FirstBlend w h B → First (side d w h) (crossed d B)
+first-crossed w h upright B f = f .across
+first-crossed w h level B f = f .up
+
+module _ (w h : ℕ) (hw : 1 ≤ w) (hh : 1 ≤ h) where
+  pub fresh-uncut : (B : Blend) → List·Memᴰ B (firstFour w h) → Uncut (mesh w h []) B
+  fresh-uncut B m d z =
+      false-of _
+      (λ e.
+      let c = cut-fact (mesh w h []) d z B e in
+      let f = first-four w h B m in
+      let r = first-rises (side (other d) w h) (side-positive (other d)) (along d B) (first-crossed w h (other d) B f) in
+      let on = c .covered (along d B .l) (omega arith) (omega arith) in
+      first-uncut (side d w h) z (crossed d B) (first-crossed w h d B f) (fresh-positions w h d z (along d B .l) on) (c .inside .lo) (c .inside .hi) (c .inside .off))
+    where
+      side-positive : (d : Direction) → 1 ≤ side d w h
+      side-positive upright = hw
+      side-positive level = hh
+
+  fresh-members : (C : Blend) → (List·Memᴰ C (live w h (mesh w h [])) → List·Memᴰ C (firstFour w h)) × (List·Memᴰ C (firstFour w h) → List·Memᴰ C (live w h (mesh w h [])))
+  unfolding live
+  fresh-members C = (
+    λ m. let l = refine-left w h (mesh w h []) (firstFour w h) (first-proper w h hw hh) C m in
+        subst (λ (X : Blend). List·Memᴰ X (firstFour w h)) (sym (left-uncut (fresh-uncut (l .0) (l .1)) (l .2))) (l .1),
+    λ m. left-refine w h (mesh w h []) (firstFour w h) (first-proper w h hw hh) C (C, m, left-itself (fresh-uncut C m)),
+  )
+
+  own : OwnAnchors (firstFour w h)
+  own B C mB mC q r =
+      let f = first-four w h B mB in
+      let g = first-four w h C mC in
+      let ca = first-rises w hw (C .across) (g .across) in
+      let cu = first-rises h hh (C .up) (g .up) in
+      let a = first-apart w (B .across) (C .across) (f .across) (g .across) (omega arith) (omega arith) in
+      let u = first-apart h (B .up) (C .up) (f .up) (g .up) (omega arith) (omega arith) in
+      λ i. record { across = a i; up = u i }
+
+  first-ascending : h ≤ 128 → Ascending place (firstFour w h)
+  first-ascending le = (
+    λ y m. ⊎-elim (λ q. at-least y (low w) (high h) q (omega arith)) (λ n. ⊎-elim (λ q. at-least y (high w) (low h) q (omega arith)) (λ o. lone y o (omega arith)) (List·Memᴰ·cases-cons n)) (List·Memᴰ·cases-cons m),
+    (
+      λ y m. ⊎-elim (λ q. at-least y (high w) (low h) q (omega arith)) (λ o. lone y o (omega arith)) (List·Memᴰ·cases-cons m),
+      (
+        λ y m. lone y m (omega arith),
+        (λ y m. absurd (List·Memᴰ·not-nil m), tt),
+      ),
+    ),
+  )
+    where
+      at-least : {k : ℕ} (y : Blend) (s t : Triple) → y ≡ blend s t → k < place (blend s t) → k < place y
+      at-least {k} y s t q lt = subst (λ (X : Blend). k < place X) (sym q) lt
+
+      lone : {k : ℕ} (y : Blend) → List·Memᴰ y (blend (high w) (high h) ∷ []) → k < place (blend (high w) (high h)) → k < place y
+      lone y m lt = ⊎-elim (λ q. at-least y (high w) (high h) q lt) (λ n. absurd (List·Memᴰ·not-nil n)) (List·Memᴰ·cases-cons m)
+
+  -- its live blends are the first four,
+  pub fresh-live : h ≤ 128 → live w h (mesh w h []) ≡ firstFour w h
+  unfolding live refine
+  fresh-live le =
+      ascending-unique place (live w h (mesh w h [])) (firstFour w h)
+      (order-ascending w h le (once (leavesOf (mesh w h []) (firstFour w h))) (once-distinct _)
+      (λ B C mB mC. own B C (first B mB) (first C mC)))
+      (first-ascending le) (λ C. fresh-members C .0) (λ C. fresh-members C .1)
+    where
+      first : (B : Blend) → List·Memᴰ B (once (leavesOf (mesh w h []) (firstFour w h))) → List·Memᴰ B (firstFour w h)
+      first B m =
+          fresh-members B .0
+          (refine-leaves w h (mesh w h []) (firstFour w h) (first-proper w h hw hh) B .1 (once-mem (leavesOf (mesh w h []) (firstFour w h)) B m))
+
+  -- and it is sound
+  pub fresh-sound : sound w h (firstFour w h) ≡ true
+  unfolding sound fourEverywhere noneNested
+  fresh-sound =
+      and-of _ _
+      (every-of 1 w _ (λ x lx hx. every-of 1 h _ (λ y ly hy. ap (λ (bs : List Blend). eqb (length bs) 4) (only-all (overSquare x y) (firstFour w h) (λ B m. over B m x y lx hx ly hy)))))
+      (all-of _ (firstFour w h) (λ B mB. all-of _ (firstFour w h) (λ C mC. ap not (false-of (nested B C) (λ e. nest B C mB mC e)))))
+    where
+      spanned : (s : ℕ) (t : Triple) (x : ℕ) → First s t → 1 ≤ x → x < 1 + s → spans x t ≡ true
+      spanned s t x is-low lo hi = and-of _ _ (le-leb 0 x (omega arith)) (lt-ltb x (s + 1) (omega arith))
+      spanned s t x is-high lo hi = and-of _ _ (le-leb 1 x (omega arith)) (lt-ltb x (s + 2) (omega arith))
+
+      over : (B : Blend) → List·Memᴰ B (firstFour w h) → (x y : ℕ) → 1 ≤ x → x < 1 + w → 1 ≤ y → y < 1 + h → overSquare x y B ≡ true
+      over B m x y lx hx ly hy =
+          let f = first-four w h B m in
+          and-of _ _ (spanned w (B .across) x (f .across) lx hx) (spanned h (B .up) y (f .up) ly hy)
+
+      nest : (B C : Blend) → List·Memᴰ B (firstFour w h) → List·Memᴰ C (firstFour w h) → nested B C ≡ true → ⊥
+      nest B C mB mC e =
+          let f = first-four w h B mB in
+          let g = first-four w h C mC in
+          let n = and-both (not (same B C) && between (B .across .m) (C .across)) (between (B .up .m) (C .up)) e in
+          let m = and-both (not (same B C)) (between (B .across .m) (C .across)) (n .0) in
+          let a = and-both (ltb (C .across .l) (B .across .m)) (ltb (B .across .m) (C .across .r)) (m .1) in
+          let u = and-both (ltb (C .up .l) (B .up .m)) (ltb (B .up .m) (C .up .r)) (n .1) in
+          let p = first-apart w (B .across) (C .across) (f .across) (g .across) (ltb-true _ _ (a .0)) (ltb-true _ _ (a .1)) in
+          let q = first-apart h (B .up) (C .up) (f .up) (g .up) (ltb-true _ _ (u .0)) (ltb-true _ _ (u .1)) in
+          true-not-false (same B C) (blend-same B C (λ i. record { across = p i; up = q i })) (not-true _ (m .0))
