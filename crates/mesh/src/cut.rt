@@ -8,7 +8,7 @@ ghost use mathlib.Core.Bool.{true, false, cond};
 ghost use Prim.Native.Nat.{ℕ, _+_, _-_, _≤_, _<_};
 ghost use lib.ListN.{getD};
 ghost use Rattle.mesh.specs.Range.{every, all};
-ghost use Rattle.mesh.specs.Triple.{half, Side, lower, upper};
+ghost use Rattle.mesh.specs.Triple.{half, Side, lower, upper, rising};
 ghost use Rattle.mesh.specs.Lines.{Direction, upright, level};
 ghost use Rattle.mesh.specs.Blends.{below, above, nearest, cutter, leaves, leavesOf, size};
 ghost use Rattle.mesh.specs.Sound.{proper, blendsOf};
@@ -191,6 +191,20 @@ fn cut_up(uprights: &[u8], levels: &[u8], x: Blend, tried: bool, places: &mut [u
     cut_across(uprights, levels, x, true, places);
 }
 
+// Whether a triple rises within the side.
+fn rises(x: Triple, side: usize) -> bool
+    requires { ⌜ side ≤ 128 ⌝ }
+    ensures { λ r. ⌜ r ≡ rising side x ⌝ }
+{
+    if x.m <= x.l {
+        return false;
+    }
+    if x.r <= x.m {
+        return false;
+    }
+    x.r <= side + 2
+}
+
 // Whether the table's blends all rise within the sides.
 pub(crate) fn proper_table(table: Table, w: usize, h: usize) -> bool
     requires { ⌜ (table .count ≤ 1024) × (w ≤ 128) × (h ≤ 128) ⌝ }
@@ -200,9 +214,10 @@ pub(crate) fn proper_table(table: Table, w: usize, h: usize) -> bool
     let mut i = 0;
     while i < count {
         let x = table.blends[i];
-        let a = x.across;
-        let u = x.up;
-        if a.m <= a.l || a.r <= a.m || w + 2 < a.r || u.m <= u.l || u.r <= u.m || h + 2 < u.r {
+        if !rises(x.across, w) {
+            return false;
+        }
+        if !rises(x.up, h) {
             return false;
         }
         i += 1;
