@@ -8,14 +8,18 @@ use mathlib.Core.List.{List, [], _∷_, _++_}
 use native.Mathlib.Numerals.{add-one}
 use lib.ListN.{length, getD, set, take, drop, drop-of-length-le, length-take}
 use lib.Seq.{drop-cons, getD-take, length-take-le}
-use borrow.Author.Tests.{eq-eqb, ne-eqb}
+use borrow.Author.Tests.{eq-eqb, ne-eqb, eqb-true, eqb-false}
+use lib.Dec.{eqb}
 use Rattle.mesh.specs.Range.{every}
-use Rattle.mesh.specs.Bytes.{stepOn, place, packed, keep}
+use Rattle.mesh.specs.Bytes.{stepOn, Rises, Proper, place, packed, keep, keepAll, bytesMesh}
 use Rattle.mesh.specs.Sound.{none, blendsOf}
+use Rattle.mesh.proofs.Tests.{either}
 use Rattle.mesh.specs.declared.Table.{Table}
 use Rattle.mesh.specs.declared.Triple.{Triple}
 use Rattle.mesh.specs.declared.Blend.{Blend}
-use Rattle.mesh.specs.Blends.{below, above, nearest}
+use Rattle.mesh.specs.Triple.{Side, lower, upper, half}
+use Rattle.mesh.specs.Lines.{Direction, upright, level, other, Mesh}
+use Rattle.mesh.specs.Blends.{blend, below, above, nearest, coversBlend, cutter, halve, leaves, size}
 
 -- whether the line at a knot covers the n steps from knot b on
 abbrev pub over : List ℕ → ℕ → ℕ → ℕ → Bool
@@ -62,6 +66,135 @@ module _ (line : ℕ → Bool) (t : Triple) where
   pub nearest-beyond : under ≡ 0 → nearest line t ≡ beyond
   unfolding nearest
   nearest-beyond e = rw (eq-eqb _ _ e)
+
+-- a line that cuts a triple lies inside it and off the middle
+pub record Inside (z : ℕ) (t : Triple) : Type 0 where
+  pub low : t .l < z
+  pub high : z < t .r
+  pub off : z ≡ t .m → ⊥
+
+module _ (line : ℕ → Bool) where
+  below-within : (l n : ℕ) → (below line l n ≡ 0 → ⊥) → (l < below line l n) × (below line l n ≤ l + n)
+  unfolding below
+  below-within l zero ne = absurd (ne refl)
+  below-within l (suc n) ne =
+      ⊎-elim (λ e. rw e (omega arith, omega arith))
+      (λ e. let r = below-within l n (λ q. ne (rw e q)) in rw e (r .0, omega (arith, r .1)))
+      (either (line (l + suc n)))
+
+  above-within : (r n : ℕ) → (above line r n ≡ 0 → ⊥) → (above line r n < r) × (r ≤ above line r n + n)
+  unfolding above
+  above-within r zero ne = absurd (ne refl)
+  above-within r (suc n) ne =
+      ⊎-elim (λ e. let ne' : r - suc n ≡ 0 → ⊥ = (λ q. ne (rw e q)) in rw e (omega arith, omega arith))
+      (λ e. let i = above-within r n (λ q. ne (rw e q)) in rw e (i .0, omega (arith, i .1)))
+      (either (line (r - suc n)))
+
+  pub nearest-inside : (t : Triple) → Rises t → (nearest line t ≡ 0 → ⊥) → Inside (nearest line t) t
+  nearest-inside t up ne =
+      ⊎-elim
+      (λ e.
+      let far = nearest-beyond line t (eqb-true _ _ e) in
+      let i = above-within (t .r) (t .r - t .m - 1) (λ q. ne (far ∙ q)) in
+      rw far record { low = omega (arith, i .1); high = i .0; off = λ q. omega (arith, i .1) })
+      (λ e.
+      let near = nearest-under line t (eqb-false _ _ e) in
+      let i = below-within (t .l) (t .m - t .l - 1) (eqb-false _ _ e) in
+      rw near record { low = i .0; high = omega (arith, i .1); off = λ q. omega (arith, i .1) })
+      (either (eqb (under line t) 0))
+
+-- a half of a triple that rises does too, and is narrower
+half-rises : (s : Side) (z : ℕ) (t : Triple) → Rises t → Inside z t → Rises (half s z t)
+unfolding half
+half-rises lower z t up i = record { low = omega arith; high = omega arith; most = omega arith }
+half-rises upper z t up i = record { low = omega arith; high = omega arith; most = omega arith }
+
+half-narrower : (s : Side) (z : ℕ) (t : Triple) → Rises t → Inside z t → half s z t .r - half s z t .l < t .r - t .l
+unfolding half
+half-narrower lower z t up i = omega arith
+half-narrower upper z t up i = omega arith
+
+-- what a cut leaves is proper and smaller
+pub record Smaller (x y : Blend) : Type 0 where
+  pub proper : Proper y
+  pub less : size y < size x
+
+pub half-smaller : (M : Mesh) (d : Direction) (s : Side) (x : Blend) → Proper x → (cutter M d x ≡ 0 → ⊥) → Smaller x (halve d s (cutter M d x) x)
+unfolding halve
+half-smaller M upright s x p ne =
+    let i = nearest-inside (coversBlend M upright x) (x .across) (p .across) ne in
+    record { proper = record { across = half-rises s _ (x .across) (p .across) i; up = p .up }; less = omega (arith, half-narrower s _ (x .across) (p .across) i) }
+half-smaller M level s x p ne =
+    let i = nearest-inside (coversBlend M level x) (x .up) (p .up) ne in
+    record { proper = record { across = p .across; up = half-rises s _ (x .up) (p .up) i }; less = omega (arith, half-narrower s _ (x .up) (p .up) i) }
+
+-- what is left of a blend that lines of a direction cut: also where the other direction is tried first, and none of its lines cuts
+leaves-cut : (f : ℕ) (M : Mesh) (d : Direction) (x : Blend) (tried : Bool) → (cutter M d x ≡ 0 → ⊥) → (tried ≡ true → cutter M (other d) x ≡ 0) →
+    leaves (suc f) M (cond tried (other d) d) x ≡
+    leaves f M (other d) (halve d lower (cutter M d x) x) ++ leaves f M (other d) (halve d upper (cutter M d x) x)
+unfolding leaves
+leaves-cut f M upright x true ne none = rw (eq-eqb _ _ (none refl), ne-eqb _ _ ne)
+leaves-cut f M level x true ne none = rw (eq-eqb _ _ (none refl), ne-eqb _ _ ne)
+leaves-cut f M d x false ne none = rw (ne-eqb _ _ ne)
+
+leaves-none : (f : ℕ) (M : Mesh) (d : Direction) (x : Blend) → cutter M d x ≡ 0 → cutter M (other d) x ≡ 0 → leaves f M d x ≡ x ∷ []
+unfolding leaves
+leaves-none zero M d x e e' = refl
+leaves-none (suc f) M d x e e' = rw (eq-eqb _ _ e, eq-eqb _ _ e')
+
+pub keepAll-append : (places : List ℕ) (xs ys : List Blend) → keepAll places (xs ++ ys) ≡ keepAll (keepAll places xs) ys
+unfolding keepAll
+keepAll-append places [] ys = refl
+keepAll-append places (x ∷ xs) ys = keepAll-append (keep places x) xs ys
+
+-- `after` keeps what is left of a blend besides what `before` keeps, lines of direction d tried first
+abbrev pub Cut : Mesh → Direction → Blend → List ℕ → List ℕ → Type 0
+Cut M d x before after = (f : ℕ) → size x ≤ f → after ≡ keepAll before (leaves f M d x)
+
+module _ (M : Mesh) (d : Direction) (x : Blend) where
+  -- cutting both halves, one after the other, cuts the blend
+  pub cut-halves : (tried : Bool) (y y' : Blend) (p q r : List ℕ) → Proper x → (cutter M d x ≡ 0 → ⊥) → (tried ≡ true → cutter M (other d) x ≡ 0) →
+      y ≡ halve d lower (cutter M d x) x → y' ≡ halve d upper (cutter M d x) x →
+      Cut M (other d) y p q → Cut M (other d) y' q r → Cut M (cond tried (other d) d) x p r
+  cut-halves tried y y' p q r ok ne none e e' first second zero le =
+      absurd (omega (arith, half-smaller M d lower x ok ne .less))
+  cut-halves tried y y' p q r ok ne none e e' first second (suc f) le =
+      second f (rw e' (omega (arith, half-smaller M d upper x ok ne .less)))
+      ∙ ap (λ (l : List ℕ). keepAll l (leaves f M (other d) y')) (first f (rw e (omega (arith, half-smaller M d lower x ok ne .less))))
+      ∙ rw (leaves-cut f M d x tried ne none, keepAll-append, e, e')
+
+  -- a blend that no line cuts is kept as it is
+  pub cut-kept : (p q : List ℕ) → cutter M d x ≡ 0 → cutter M (other d) x ≡ 0 → q ≡ keep p x → Cut M d x p q
+  unfolding keepAll
+  cut-kept p q e e' h f le = h ∙ rw (leaves-none f M d x e e')
+
+-- the line that the code finds and the halves that it makes are those of the mesh in bytes
+module _ (uprights levels : List ℕ) (s : Side) (x : Blend) (z : ℕ) (t : Triple) where
+  pub across-half : z ≡ cutter (bytesMesh uprights levels) upright x → t ≡ half s z (x .across) →
+      blend t (x .up) ≡ halve upright s (cutter (bytesMesh uprights levels) upright x) x
+  unfolding halve
+  across-half h e = rw (e, h)
+
+  pub up-half : z ≡ cutter (bytesMesh uprights levels) level x → t ≡ half s z (x .up) →
+      blend (x .across) t ≡ halve level s (cutter (bytesMesh uprights levels) level x) x
+  unfolding halve
+  up-half h e = rw (e, h)
+
+-- What the recursion counts down: a half is smaller, and a blend is handed on as it is once at most.
+abbrev pub ahead : Blend → Bool → ℕ
+ahead x tried = size x + size x + cond tried 0 1
+
+pub half-ahead : {x y : Blend} (tried : Bool) (t : ℕ) → Smaller x y → ahead x tried ≡ t → ahead y false < t
+half-ahead {x} {y} tried t h e = fall (size x) (size y) (cond tried 0 1) e (h .less)
+  where
+    fall : (a b k : ℕ) → a + a + k ≡ t → b < a → b + b + 1 < t
+    fall a b k e h = omega arith
+
+pub handed-ahead : (x : Blend) (tried : Bool) (t : ℕ) → ahead x tried ≡ t → tried ≡ false → ahead x true < t
+handed-ahead x tried t e h = fall (size x) (rw h at e)
+  where
+    fall : (a : ℕ) → a + a + 1 ≡ t → a + a + 0 < t
+    fall a e = omega arith
 
 -- keeping a blend at a free place, at the place of the same blend, and at that of another
 module _ (places : List ℕ) (B : Blend) where
