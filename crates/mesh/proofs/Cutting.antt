@@ -3,23 +3,23 @@ use Prim.Native.Nat.{ℕ, zero, suc, _+_, _-_, _≤_, _<_, min, max}
 use native.Mathlib.Omega.{arith}
 use mathlib.Core.Path.{_≡_, refl, sym, ap, subst, _∙_}
 use mathlib.Core.Logic.{_⊎_, inl, inr, ⊎-elim}
-use mathlib.Core.Bool.{Bool, true, false, cond}
+use mathlib.Core.Bool.{Bool, true, false, cond, _&&_}
 use mathlib.Core.List.{List, [], _∷_, _++_}
 use native.Mathlib.Numerals.{add-one}
 use lib.ListN.{length, getD, set, take, drop, drop-of-length-le, length-take}
 use lib.Seq.{drop-cons, getD-take, length-take-le}
-use borrow.Author.Tests.{eq-eqb, ne-eqb, eqb-true, eqb-false}
-use lib.Dec.{eqb}
+use borrow.Author.Tests.{eq-eqb, ne-eqb, eqb-true, eqb-false, ltb-true, leb-true}
+use lib.Dec.{eqb, ltb, leb}
 use Rattle.mesh.specs.Range.{every}
 use Rattle.mesh.specs.Bytes.{stepOn, Rises, Proper, place, packed, keep, keepAll, bytesMesh}
-use Rattle.mesh.specs.Sound.{none, blendsOf}
-use Rattle.mesh.proofs.Tests.{either}
+use Rattle.mesh.specs.Sound.{proper, none, blendsOf}
+use Rattle.mesh.proofs.Tests.{either, and-both}
 use Rattle.mesh.specs.declared.Table.{Table}
 use Rattle.mesh.specs.declared.Triple.{Triple}
 use Rattle.mesh.specs.declared.Blend.{Blend}
-use Rattle.mesh.specs.Triple.{Side, lower, upper, half}
+use Rattle.mesh.specs.Triple.{Side, lower, upper, half, rising}
 use Rattle.mesh.specs.Lines.{Direction, upright, level, other, Mesh}
-use Rattle.mesh.specs.Blends.{blend, below, above, nearest, coversBlend, cutter, halve, leaves, size}
+use Rattle.mesh.specs.Blends.{blend, below, above, nearest, coversBlend, cutter, halve, leaves, leavesOf, size}
 
 -- whether the line at a knot covers the n steps from knot b on
 abbrev pub over : List ℕ → ℕ → ℕ → ℕ → Bool
@@ -163,6 +163,12 @@ module _ (M : Mesh) (d : Direction) (x : Blend) where
       ∙ ap (λ (l : List ℕ). keepAll l (leaves f M (other d) y')) (first f (rw e (omega (arith, half-smaller M d lower x ok ne .less))))
       ∙ rw (leaves-cut f M d x tried ne none, keepAll-append, e, e')
 
+  -- cutting the first of some blends
+  pub cut-first : (p q : List ℕ) (xs : List Blend) → Cut M upright x p q → keepAll q (leavesOf M xs) ≡ keepAll p (leavesOf M (x ∷ xs))
+  unfolding leavesOf
+  cut-first p q xs h =
+      ap (λ (l : List ℕ). keepAll l (leavesOf M xs)) (h (size x) (omega arith)) ∙ sym (keepAll-append p (leaves (size x) M upright x) (leavesOf M xs))
+
   -- a blend that no line cuts is kept as it is
   pub cut-kept : (p q : List ℕ) → cutter M d x ≡ 0 → cutter M (other d) x ≡ 0 → q ≡ keep p x → Cut M d x p q
   unfolding keepAll
@@ -195,6 +201,18 @@ handed-ahead x tried t e h = fall (size x) (rw h at e)
   where
     fall : (a : ℕ) → a + a + 1 ≡ t → a + a + 0 < t
     fall a e = omega arith
+
+-- a blend that is proper for sides of at most 128 has its knots within 0 to 130
+rises-of : (side : ℕ) (t : Triple) → side ≤ 128 → rising side t ≡ true → Rises t
+rises-of side t h e =
+    let a = and-both (ltb (t .l) (t .m) && ltb (t .m) (t .r)) (leb (t .r) (side + 2)) e in
+    let b = and-both (ltb (t .l) (t .m)) (ltb (t .m) (t .r)) (a .0) in
+    record { low = ltb-true _ _ (b .0); high = ltb-true _ _ (b .1); most = omega (arith, leb-true (t .r) (side + 2) (a .1)) }
+
+pub proper-of : (w h : ℕ) (B : Blend) → w ≤ 128 → h ≤ 128 → proper w h B ≡ true → Proper B
+proper-of w h B hw hh e =
+    let a = and-both (rising w (B .across)) (rising h (B .up)) e in
+    record { across = rises-of w (B .across) hw (a .0); up = rises-of h (B .up) hh (a .1) }
 
 -- keeping a blend at a free place, at the place of the same blend, and at that of another
 module _ (places : List ℕ) (B : Blend) where

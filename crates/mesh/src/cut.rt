@@ -228,7 +228,7 @@ pub(crate) fn proper_table(table: Table, w: usize, h: usize) -> bool
 // Cuts every blend of a table to the end and keeps what is left.
 pub(crate) fn cut_all(uprights: &[u8], levels: &[u8], table: Table, places: &mut [u64])
     requires { ⌜ Square (now uprights) × Square (now levels) × Square (now places) × (table .count ≤ 1024) ×
-        ((w h : ℕ) → w ≤ 128 → h ≤ 128 → all (proper w h) (blendsOf table) ≡ true) ⌝ }
+        (all (proper 128 128) (blendsOf table) ≡ true) ⌝ }
     ensures { λ _. ⌜ now (places .exit) ≡
         keepAll (now (places .entry)) (leavesOf (bytesMesh (now (uprights .entry)) (now (levels .entry))) (blendsOf table)) ⌝ }
 {
