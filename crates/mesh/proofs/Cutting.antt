@@ -1,25 +1,25 @@
 -- Cutting a blend: the search for the line that cuts first, the halves, and what is kept.
-use Prim.Native.Nat.{ℕ, zero, suc, _+_, _-_, _≤_, _<_, min, max}
+use Prim.Native.Nat.{ℕ, zero, suc, _+_, _-_, _≤_, _<_}
 use native.Mathlib.Omega.{arith}
-use mathlib.Core.Path.{_≡_, refl, sym, ap, subst, _∙_}
-use mathlib.Core.Logic.{_⊎_, inl, inr, ⊎-elim}
+use native.Mathlib.Numerals.{add-one}
+use borrow.Author.Tests.{eq-eqb, ne-eqb, eqb-true, eqb-false, ltb-true, leb-true, lt-ltb, le-leb}
+use mathlib.Core.Path.{_≡_, refl, sym, ap, _∙_}
+use mathlib.Core.Logic.{⊎-elim}
 use mathlib.Core.Bool.{Bool, true, false, cond, _&&_}
 use mathlib.Core.List.{List, [], _∷_, _++_}
-use native.Mathlib.Numerals.{add-one}
-use lib.ListN.{length, getD, set, take, drop, drop-of-length-le, length-take}
+use lib.ListN.{length, getD, set, drop, drop-of-length-le, length-take}
 use lib.Seq.{drop-cons, getD-take, length-take-le}
-use borrow.Author.Tests.{eq-eqb, ne-eqb, eqb-true, eqb-false, ltb-true, leb-true}
 use lib.Dec.{eqb, ltb, leb}
-use Rattle.mesh.specs.Range.{every}
-use Rattle.mesh.specs.Bytes.{stepOn, Rises, Proper, place, packed, keep, keepAll, bytesMesh}
+use Rattle.mesh.specs.Range.{every, all}
+use Rattle.mesh.specs.Triple.{Side, lower, upper, half, rising}
+use Rattle.mesh.specs.Lines.{Direction, upright, level, other, Mesh}
+use Rattle.mesh.specs.Bytes.{stepOn, Rises, Proper, place, packed, keep, keepAll}
+use Rattle.mesh.specs.Blends.{blend, crossed, below, above, nearest, coversBlend, cutter, halve, leaves, leavesOf, size}
 use Rattle.mesh.specs.Sound.{proper, none, blendsOf}
-use Rattle.mesh.proofs.Tests.{either, and-both}
 use Rattle.mesh.specs.declared.Table.{Table}
 use Rattle.mesh.specs.declared.Triple.{Triple}
 use Rattle.mesh.specs.declared.Blend.{Blend}
-use Rattle.mesh.specs.Triple.{Side, lower, upper, half, rising}
-use Rattle.mesh.specs.Lines.{Direction, upright, level, other, Mesh}
-use Rattle.mesh.specs.Blends.{blend, below, above, nearest, coversBlend, cutter, halve, leaves, leavesOf, size}
+use Rattle.mesh.proofs.Tests.{either, and-both}
 
 -- whether the line at a knot covers the n steps from knot b on
 abbrev pub over : List ℕ → ℕ → ℕ → ℕ → Bool
@@ -114,19 +114,25 @@ unfolding half
 half-narrower lower z t up i = omega arith
 half-narrower upper z t up i = omega arith
 
--- what a cut leaves is proper and smaller
+-- so a half of a proper blend is proper, and smaller
 pub record Smaller (x y : Blend) : Type 0 where
   pub proper : Proper y
   pub less : size y < size x
 
-pub half-smaller : (M : Mesh) (d : Direction) (s : Side) (x : Blend) → Proper x → (cutter M d x ≡ 0 → ⊥) → Smaller x (halve d s (cutter M d x) x)
+crossed-rises : (d : Direction) (x : Blend) → Proper x → Rises (crossed d x)
+crossed-rises upright x ok = ok .across
+crossed-rises level x ok = ok .up
+
+pub half-smaller : (d : Direction) (s : Side) (z : ℕ) (x : Blend) → Proper x → Inside z (crossed d x) → Smaller x (halve d s z x)
 unfolding halve
-half-smaller M upright s x p ne =
-    let i = nearest-inside (coversBlend M upright x) (x .across) (p .across) ne in
-    record { proper = record { across = half-rises s _ (x .across) (p .across) i; up = p .up }; less = omega (arith, half-narrower s _ (x .across) (p .across) i) }
-half-smaller M level s x p ne =
-    let i = nearest-inside (coversBlend M level x) (x .up) (p .up) ne in
-    record { proper = record { across = p .across; up = half-rises s _ (x .up) (p .up) i }; less = omega (arith, half-narrower s _ (x .up) (p .up) i) }
+half-smaller upright s z x ok i = record {
+  proper = record { across = half-rises s z (x .across) (ok .across) i; up = ok .up };
+  less = omega (arith, half-narrower s z (x .across) (ok .across) i);
+}
+half-smaller level s z x ok i = record {
+  proper = record { across = ok .across; up = half-rises s z (x .up) (ok .up) i };
+  less = omega (arith, half-narrower s z (x .up) (ok .up) i);
+}
 
 -- what is left of a blend that lines of a direction cut: also where the other direction is tried first, and none of its lines cuts
 leaves-cut : (f : ℕ) (M : Mesh) (d : Direction) (x : Blend) (tried : Bool) → (cutter M d x ≡ 0 → ⊥) → (tried ≡ true → cutter M (other d) x ≡ 0) →
@@ -147,44 +153,47 @@ unfolding keepAll
 keepAll-append places [] ys = refl
 keepAll-append places (x ∷ xs) ys = keepAll-append (keep places x) xs ys
 
--- `after` keeps what is left of a blend besides what `before` keeps, lines of direction d tried first
+-- the places q are the places p with what is left of a blend kept besides, lines of direction d tried first
 abbrev pub Cut : Mesh → Direction → Blend → List ℕ → List ℕ → Type 0
-Cut M d x before after = (f : ℕ) → size x ≤ f → after ≡ keepAll before (leaves f M d x)
+Cut M d x p q = (f : ℕ) → size x ≤ f → q ≡ keepAll p (leaves f M d x)
 
-module _ (M : Mesh) (d : Direction) (x : Blend) where
-  -- cutting both halves, one after the other, cuts the blend
-  pub cut-halves : (tried : Bool) (y y' : Blend) (p q r : List ℕ) → Proper x → (cutter M d x ≡ 0 → ⊥) → (tried ≡ true → cutter M (other d) x ≡ 0) →
-      y ≡ halve d lower (cutter M d x) x → y' ≡ halve d upper (cutter M d x) x →
-      Cut M (other d) y p q → Cut M (other d) y' q r → Cut M (cond tried (other d) d) x p r
-  cut-halves tried y y' p q r ok ne none e e' first second zero le =
-      absurd (omega (arith, half-smaller M d lower x ok ne .less))
-  cut-halves tried y y' p q r ok ne none e e' first second (suc f) le =
-      second f (rw e' (omega (arith, half-smaller M d upper x ok ne .less)))
-      ∙ ap (λ (l : List ℕ). keepAll l (leaves f M (other d) y')) (first f (rw e (omega (arith, half-smaller M d lower x ok ne .less))))
-      ∙ rw (leaves-cut f M d x tried ne none, keepAll-append, e, e')
+-- a blend with another triple across the lines of a direction: a half, as the code makes it
+abbrev pub put : Direction → Triple → Blend → Blend
+put upright t x = blend t (x .up)
+put level t x = blend (x .across) t
 
-  -- cutting the first of some blends
-  pub cut-first : (p q : List ℕ) (xs : List Blend) → Cut M upright x p q → keepAll q (leavesOf M xs) ≡ keepAll p (leavesOf M (x ∷ xs))
-  unfolding leavesOf
-  cut-first p q xs h =
-      ap (λ (l : List ℕ). keepAll l (leavesOf M xs)) (h (size x) (omega arith)) ∙ sym (keepAll-append p (leaves (size x) M upright x) (leavesOf M xs))
+put-half : (d : Direction) (s : Side) (z : ℕ) (x : Blend) (t : Triple) → t ≡ half s z (crossed d x) → put d t x ≡ halve d s z x
+unfolding halve
+put-half upright s z x t e = rw e
+put-half level s z x t e = rw e
 
-  -- a blend that no line cuts is kept as it is
-  pub cut-kept : (p q : List ℕ) → cutter M d x ≡ 0 → cutter M (other d) x ≡ 0 → q ≡ keep p x → Cut M d x p q
-  unfolding keepAll
-  cut-kept p q e e' h f le = h ∙ rw (leaves-none f M d x e e')
+-- cutting both halves by the line that was found, one after the other, cuts the blend
+module _ (M : Mesh) (d : Direction) (x : Blend) (ok : Proper x) (z : ℕ) (found : z ≡ cutter M d x) (some : z ≡ 0 → ⊥) where
+  pub put-smaller : (s : Side) (t : Triple) → t ≡ half s z (crossed d x) → Smaller x (put d t x)
+  put-smaller s t e =
+      let i = nearest-inside (coversBlend M d x) (crossed d x) (crossed-rises d x ok) (λ q. some (found ∙ q)) in
+      rw (put-half d s z x t e, found) (half-smaller d s (cutter M d x) x ok i)
 
--- the line that the code finds and the halves that it makes are those of the mesh in bytes
-module _ (uprights levels : List ℕ) (s : Side) (x : Blend) (z : ℕ) (t : Triple) where
-  pub across-half : z ≡ cutter (bytesMesh uprights levels) upright x → t ≡ half s z (x .across) →
-      blend t (x .up) ≡ halve upright s (cutter (bytesMesh uprights levels) upright x) x
-  unfolding halve
-  across-half h e = rw (e, h)
+  pub cut-halves : (tried : Bool) (t u : Triple) (p q r : List ℕ) → (tried ≡ true → cutter M (other d) x ≡ 0) →
+      t ≡ half lower z (crossed d x) → u ≡ half upper z (crossed d x) →
+      Cut M (other d) (put d t x) p q → Cut M (other d) (put d u x) q r → Cut M (cond tried (other d) d) x p r
+  cut-halves tried t u p q r none e e' first second zero le = absurd (omega (arith, put-smaller lower t e .less))
+  cut-halves tried t u p q r none e e' first second (suc f) le =
+      second f (omega (arith, put-smaller upper u e' .less))
+      ∙ ap (λ (l : List ℕ). keepAll l (leaves f M (other d) (put d u x))) (first f (omega (arith, put-smaller lower t e .less)))
+      ∙ rw (leaves-cut f M d x tried (λ q. some (found ∙ q)) none, keepAll-append, put-half d lower z x t e, put-half d upper z x u e', found)
 
-  pub up-half : z ≡ cutter (bytesMesh uprights levels) level x → t ≡ half s z (x .up) →
-      blend (x .across) t ≡ halve level s (cutter (bytesMesh uprights levels) level x) x
-  unfolding halve
-  up-half h e = rw (e, h)
+-- a blend that no line cuts is kept as it is
+pub cut-kept : (M : Mesh) (d : Direction) (x : Blend) (p q : List ℕ) → cutter M d x ≡ 0 → cutter M (other d) x ≡ 0 → q ≡ keep p x → Cut M d x p q
+unfolding keepAll
+cut-kept M d x p q e e' h f le = h ∙ rw (leaves-none f M d x e e')
+
+-- cutting the first of some blends
+pub cut-first : (M : Mesh) (x : Blend) (xs : List Blend) (p q : List ℕ) → Cut M upright x p q →
+    keepAll q (leavesOf M xs) ≡ keepAll p (leavesOf M (x ∷ xs))
+unfolding leavesOf
+cut-first M x xs p q h =
+    ap (λ (l : List ℕ). keepAll l (leavesOf M xs)) (h (size x) (omega arith)) ∙ sym (keepAll-append p (leaves (size x) M upright x) (leavesOf M xs))
 
 -- What the recursion counts down: a half is smaller, and a blend is handed on as it is once at most.
 abbrev pub ahead : Blend → Bool → ℕ
@@ -213,6 +222,19 @@ pub proper-of : (w h : ℕ) (B : Blend) → w ≤ 128 → h ≤ 128 → proper w
 proper-of w h B hw hh e =
     let a = and-both (rising w (B .across)) (rising h (B .up)) e in
     record { across = rises-of w (B .across) hw (a .0); up = rises-of h (B .up) hh (a .1) }
+
+-- a table that is proper for sides of at most 128 is so for sides of 128
+rising-most : (side : ℕ) (t : Triple) → side ≤ 128 → rising side t ≡ true → rising 128 t ≡ true
+rising-most side t h e =
+    let r = rises-of side t h e in
+    rw (lt-ltb _ _ (r .low), lt-ltb _ _ (r .high), le-leb _ _ (r .most))
+
+pub proper-most : (w h : ℕ) (bs : List Blend) → w ≤ 128 → h ≤ 128 → all (proper w h) bs ≡ true → all (proper 128 128) bs ≡ true
+proper-most w h [] hw hh e = refl
+proper-most w h (B ∷ bs) hw hh e =
+    let a = and-both (proper w h B) (all (proper w h) bs) e in
+    let b = and-both (rising w (B .across)) (rising h (B .up)) (a .0) in
+    rw (rising-most w (B .across) hw (b .0), rising-most h (B .up) hh (b .1)) (proper-most w h bs hw hh (a .1))
 
 -- keeping a blend at a free place, at the place of the same blend, and at that of another
 module _ (places : List ℕ) (B : Blend) where

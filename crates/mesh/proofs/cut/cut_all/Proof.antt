@@ -1,22 +1,18 @@
 -- `mesh::cut::cut_all` meets its contract. The invariant: the blends that remain, cut into the places as they are, give the whole answer.
 use Prim.Native.Nat.{_+_, _-_, _≤_}
 use native.Mathlib.Omega.{arith}
-use mathlib.Core.Path.{_≡_, refl, sym, ap, _∙_}
+use mathlib.Core.Path.{_≡_, refl, _∙_}
 use mathlib.Core.Bool.{true}
 use mathlib.Core.List.{_∷_}
 use lib.ListN.{drop, getD, length, length-map}
 use Rattle.mesh.specs.Range.{all}
-use Rattle.mesh.specs.Lines.{upright}
 use Rattle.mesh.specs.Blends.{leavesOf}
 use Rattle.mesh.specs.Sound.{proper, none, blendsOf}
-use Rattle.mesh.specs.Bytes.{bytesMesh, Proper, keepAll}
+use Rattle.mesh.specs.Bytes.{bytesMesh, keepAll}
 use Rattle.mesh.proofs.Tests.{and-both, true-not-false}
 use Rattle.mesh.proofs.Cutting.{blends-turn, blends-end, proper-of, cut-first}
 use Rattle.mesh.proofs.cut.cut_all.Statement.{statement}
 use Rattle.mesh.proofs.cut.cut_all.Tie as tie
-use Rattle.mesh.proofs.cut.cut_all.Reads as reads
-use Rattle.mesh.proofs.cut.cut_all.Lts as lts
-use Rattle.mesh.proofs.cut.cut_across.Reads as cut-across-reads
 
 abbrev Inv-loop : tie.InvT-loop
 Inv-loop uprights levels places₀ table count i₀ places i =
@@ -59,9 +55,13 @@ cut-across-requires : tie.Need-cut-across-requires Inv-loop μ-loop
 cut-across-requires c κs =
     let l = c .before .before .before .loop in
     let b = c .before .before .before .before .before .before .before in
-    let x = getD (b .args .t3 .blends) (l .i) none in
-    (b .pre .0, b .pre .1, l .inv .1 ∙ b .pre .2,
-    proper-of 128 128 x (omega arith) (omega arith) (proper-turn (c .before .before) .0), λ e. absurd (true-not-false _ e refl))
+    let x = getD (b .args .t3 .blends) (l .i) none in (
+      b .pre .0,
+      b .pre .1,
+      l .inv .1 ∙ b .pre .2,
+      proper-of 128 128 x (omega arith) (omega arith) (proper-turn (c .before .before) .0),
+      λ e. absurd (true-not-false _ e refl),
+    )
 
 add-i : tie.Need-add-i Inv-loop μ-loop
 add-i c = omega arith
@@ -75,10 +75,13 @@ loop-again c =
     let a = c .before .before .before .before .before .before .before .before .before .before .args in
     let call = c .before .before .cut-across in
     let first =
-        cut-first (bytesMesh (a .uprights .now) (a .levels .now)) upright (getD (a .t3 .blends) (l .i) none) (l .places) (call .last .1 .1 .1 .1 .0)
-        (drop (l .i + 1) (blendsOf (a .t3))) (call .ensures) in
-    (omega arith, call .kept .1 .1 .1 .1 .0 ∙ l .inv .1, proper-turn (c .before .before .before .before .before) .1,
-    first ∙ (rw (turn (c .before .before .before .before .before)) at (l .inv .3)))
+    cut-first (bytesMesh (a .uprights .now) (a .levels .now)) _ (drop (l .i + 1) (blendsOf (a .t3))) (l .places) (call .last .1 .1 .1 .1 .0)
+    (call .ensures) in (
+      omega arith,
+      call .kept .1 .1 .1 .1 .0 ∙ l .inv .1,
+      proper-turn (c .before .before .before .before .before) .1,
+      first ∙ (rw (turn (c .before .before .before .before .before)) at (l .inv .3)),
+    )
 
 same-length : tie.Need-same-length Inv-loop μ-loop
 same-length c = c .before .loop .inv .1

@@ -1,86 +1,65 @@
+-- `mesh::cut::keep_blend` meets its contract: a free place, another blend's, and its own. Knots below 131 keep place and pack in range.
+use borrow.Author.Needs.{needs}
 use mathlib.Core.Path.{sym}
 use Rattle.mesh.proofs.Cutting.{keep-first, keep-again, keep-other}
-use borrow.Author.Needs.{needs}
-use native.Mathlib.Omega.{arith}
-use borrow.Author.Needs.{needs}
 use Rattle.mesh.proofs.cut.keep_blend.Statement.{statement}
 use Rattle.mesh.proofs.cut.keep_blend.Tie as tie
-use Rattle.mesh.proofs.cut.keep_blend.Reads as reads
-use Rattle.mesh.proofs.cut.keep_blend.Lts as lts
 
--- src/cut.rt:104:17
 mul-place : tie.Need-mul-place
 mul-place c = search needs
 
--- src/cut.rt:104:17
 add-place : tie.Need-add-place
 add-place c = search needs
 
--- src/cut.rt:105:20
 mul-packed : tie.Need-mul-packed
 mul-packed c = search needs
 
--- src/cut.rt:105:20
 add-packed : tie.Need-add-packed
 add-packed c = search needs
 
--- src/cut.rt:105:19
 mul-packed-2 : tie.Need-mul-packed-2
 mul-packed-2 c = search needs
 
--- src/cut.rt:105:19
 add-packed-2 : tie.Need-add-packed-2
 add-packed-2 c = search needs
 
--- src/cut.rt:105:18
 mul-packed-3 : tie.Need-mul-packed-3
 mul-packed-3 c = search needs
 
--- src/cut.rt:105:18
 add-packed-3 : tie.Need-add-packed-3
 add-packed-3 c = search needs
 
--- src/cut.rt:106:15
 mul-old : tie.Need-mul-old
 mul-old c = search needs
 
--- src/cut.rt:106:15
 slice-read-old : tie.Need-slice-read-old
 slice-read-old c = search needs
 
--- src/cut.rt:108:9
 mul-places : tie.Need-mul-places
 mul-places c = search needs
 
--- src/cut.rt:108:9
 slice-write-places : tie.Need-slice-write-places
 slice-write-places c = search needs
 
--- src/cut.rt:110:9
 slice-write-places-2 : tie.Need-slice-write-places-2
 slice-write-places-2 c = search needs
 
--- src/cut.rt:98:1
 same-length : tie.Need-same-length
 same-length c = search needs
 
--- src/cut.rt:98:1
 returns : tie.Need-returns
 returns c =
     let a = c .before .before .before .before .before .before .before .before .before .before .args in
     sym (keep-first (a .places .now) (a .x) (c .if1 .taken))
 
--- src/cut.rt:98:1
 same-length-2 : tie.Need-same-length-2
 same-length-2 c = search needs
 
--- src/cut.rt:98:1
 returns-2 : tie.Need-returns-2
 returns-2 c =
     let a = c .before .before .before .before .before .before .before .before .before .before .before .args in
     sym (keep-other (a .places .now) (a .x) (c .before .if1 .left) (c .if2 .taken))
 
--- src/cut.rt:98:1
 returns-3 : tie.Need-returns-3
 returns-3 c =
     let a = c .before .before .before .before .before .before .before .before .before .before .before .args in

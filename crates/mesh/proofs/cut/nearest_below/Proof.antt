@@ -1,15 +1,13 @@
-use Prim.Native.Nat.{ℕ, _+_, _-_, _≤_, _<_}
-use mathlib.Core.Path.{_≡_, refl, sym, ap, _∙_}
-use mathlib.Core.Bool.{Bool, true, false, cond}
-use Rattle.mesh.specs.Blends.{below, above}
-use Rattle.mesh.proofs.Cutting.{over, below-turn, below-none, above-turn, above-none}
-use borrow.Author.Needs.{needs}
+-- `mesh::cut::nearest_below` meets its contract. The invariant: what is left to search decides the whole answer.
+use Prim.Native.Nat.{_-_, _≤_}
 use native.Mathlib.Omega.{arith}
+use borrow.Author.Needs.{needs}
+use mathlib.Core.Path.{_≡_, refl, sym, _∙_}
+use mathlib.Core.Bool.{true, false}
+use Rattle.mesh.specs.Blends.{below}
+use Rattle.mesh.proofs.Cutting.{over, below-turn, below-none}
 use Rattle.mesh.proofs.cut.nearest_below.Statement.{statement}
 use Rattle.mesh.proofs.cut.nearest_below.Tie as tie
-use Rattle.mesh.proofs.cut.nearest_below.Reads as reads
-use Rattle.mesh.proofs.cut.nearest_below.Lts as lts
-use Rattle.mesh.proofs.steps.covers.Reads as covers-reads
 
 abbrev Inv-loop : tie.InvT-loop
 Inv-loop steps b n l z₀ z =
@@ -18,19 +16,15 @@ Inv-loop steps b n l z₀ z =
 abbrev μ-loop : tie.MeasureT-loop
 μ-loop steps b n l z₀ z = z
 
--- src/cut.rt:23:17
 sub-z : tie.Need-sub-z Inv-loop μ-loop
 sub-z c = search needs
 
--- src/cut.rt:24:5
 loop-holds : tie.Need-loop-holds Inv-loop μ-loop
 loop-holds c = (omega arith, refl)
 
--- src/cut.rt:25:12
 covers-requires : tie.Need-covers-requires Inv-loop μ-loop
 covers-requires c κs = search needs
 
--- src/cut.rt:26:13
 returns : tie.Need-returns Inv-loop μ-loop
 returns c =
     let l = c .before .before .before .loop in
@@ -40,15 +34,12 @@ returns c =
     let hit : over (a .steps .now) (a .b) (a .n) (l .z) ≡ true = sym (c .before .covers .ensures) ∙ c .if1 .taken in
     rw (← whole, ← l .inv .1, turn, hit)
 
--- src/cut.rt:28:9
 sub-z-2 : tie.Need-sub-z-2 Inv-loop μ-loop
 sub-z-2 c = search needs
 
--- src/cut.rt:24:5
 loop-less : tie.Need-loop-less Inv-loop μ-loop
 loop-less c = search needs
 
--- src/cut.rt:24:5
 loop-again : tie.Need-loop-again Inv-loop μ-loop
 loop-again c =
     let l = c .before .before .before .loop in
@@ -57,7 +48,6 @@ loop-again c =
     let miss : over (a .steps .now) (a .b) (a .n) (l .z) ≡ false = sym (c .before .covers .ensures) ∙ c .if1 .left in
     (omega arith, sym (turn ∙ rw miss) ∙ l .inv .1)
 
--- src/cut.rt:18:1
 returns-2 : tie.Need-returns-2 Inv-loop μ-loop
 returns-2 c =
     let l = c .before .loop in

@@ -1,19 +1,16 @@
+-- `mesh::cut::proper_table` meets its contract. The invariant: the blends that remain decide the whole answer.
 use Prim.Native.Nat.{_≤_, _+_, _-_}
+use native.Mathlib.Omega.{arith}
+use borrow.Author.Tests.{not-true, not-false}
 use mathlib.Core.Path.{_≡_, refl, sym, ap, _∙_}
 use mathlib.Core.Bool.{true, false, _&&_}
-use Rattle.mesh.proofs.Cutting.{blends-turn, blends-end}
-use lib.ListN.{drop, take, getD, length, length-map}
+use lib.ListN.{drop, getD, length, length-map}
 use Rattle.mesh.specs.Range.{all}
 use Rattle.mesh.specs.Sound.{proper, blendsOf, none}
 use Rattle.mesh.specs.Triple.{rising}
-use borrow.Author.Needs.{needs}
-use borrow.Author.Tests.{not-true, not-false}
-use native.Mathlib.Omega.{arith}
+use Rattle.mesh.proofs.Cutting.{blends-turn, blends-end}
 use Rattle.mesh.proofs.cut.proper_table.Statement.{statement}
 use Rattle.mesh.proofs.cut.proper_table.Tie as tie
-use Rattle.mesh.proofs.cut.proper_table.Reads as reads
-use Rattle.mesh.proofs.cut.proper_table.Lts as lts
-use Rattle.mesh.proofs.cut.rises.Reads as rises-reads
 
 abbrev Inv-loop : tie.InvT-loop
 Inv-loop w h table count i₀ i =
@@ -34,23 +31,18 @@ turn c =
     let full : length (a .t1 .blends) ≡ 1024 = simp length-map at (c .before .before .good .0 .1 .1 .1 .0 .1 .0 .1) in
     sym (l .inv .1) ∙ ap (all (proper (a .w) (a .h))) (blends-turn (a .t1) (l .i) (omega arith) (omega arith))
 
--- src/cut.rt:209:5
 loop-holds : tie.Need-loop-holds Inv-loop μ-loop
 loop-holds c = (omega arith, refl)
 
--- src/cut.rt:210:17
 mul-x : tie.Need-mul-x Inv-loop μ-loop
 mul-x c = omega arith
 
--- src/cut.rt:210:17
 element-copy-out-x : tie.Need-element-copy-out-x Inv-loop μ-loop
 element-copy-out-x c = omega arith
 
--- src/cut.rt:211:13
 rises-requires : tie.Need-rises-requires Inv-loop μ-loop
 rises-requires c κs = omega arith
 
--- src/cut.rt:212:13
 returns : tie.Need-returns Inv-loop μ-loop
 returns c =
     let l = c .before .before .before .before .loop in
@@ -58,11 +50,9 @@ returns c =
     let low : rising (a .w) (getD (a .t1 .blends) (l .i) none .across) ≡ false = sym (c .before .rises .ensures) ∙ not-true _ (c .if1 .taken) in
     sym (turn (c .before .before .before) ∙ rw low)
 
--- src/cut.rt:214:13
 rises-requires-2 : tie.Need-rises-requires-2 Inv-loop μ-loop
 rises-requires-2 c κs = omega arith
 
--- src/cut.rt:215:13
 returns-2 : tie.Need-returns-2 Inv-loop μ-loop
 returns-2 c =
     let l = c .before .before .before .before .before .before .loop in
@@ -71,15 +61,12 @@ returns-2 c =
     let high : rising (a .h) (getD (a .t1 .blends) (l .i) none .up) ≡ false = sym (c .before .rises2 .ensures) ∙ not-true _ (c .if2 .taken) in
     sym (turn (c .before .before .before .before .before) ∙ rw (low, high))
 
--- src/cut.rt:217:9
 add-i : tie.Need-add-i Inv-loop μ-loop
 add-i c = omega arith
 
--- src/cut.rt:209:5
 loop-less : tie.Need-loop-less Inv-loop μ-loop
 loop-less c = omega arith
 
--- src/cut.rt:209:5
 loop-again : tie.Need-loop-again Inv-loop μ-loop
 loop-again c =
     let l = c .before .before .before .before .before .before .loop in
@@ -88,7 +75,6 @@ loop-again c =
     let high : rising (a .h) (getD (a .t1 .blends) (l .i) none .up) ≡ true = sym (c .before .rises2 .ensures) ∙ not-false _ (c .if2 .left) in
     (omega arith, sym (turn (c .before .before .before .before .before) ∙ rw (low, high)))
 
--- src/cut.rt:203:1
 returns-3 : tie.Need-returns-3 Inv-loop μ-loop
 returns-3 c =
     let l = c .before .loop in

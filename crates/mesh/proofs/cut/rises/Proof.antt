@@ -1,25 +1,18 @@
+-- `mesh::cut::rises` meets its contract.
 use borrow.Author.Tests.{lt-ltb, le-ltb}
-use borrow.Author.Needs.{needs}
-use native.Mathlib.Omega.{arith}
 use borrow.Author.Needs.{needs}
 use Rattle.mesh.proofs.cut.rises.Statement.{statement}
 use Rattle.mesh.proofs.cut.rises.Tie as tie
-use Rattle.mesh.proofs.cut.rises.Reads as reads
-use Rattle.mesh.proofs.cut.rises.Lts as lts
 
--- src/cut.rt:200:9
 returns : tie.Need-returns
 returns c = rw (le-ltb _ _ (c .if1 .taken))
 
--- src/cut.rt:203:9
 returns-2 : tie.Need-returns-2
 returns-2 c = rw (lt-ltb _ _ (c .before .before .if1 .left), le-ltb _ _ (c .if2 .taken))
 
--- src/cut.rt:205:12
 add-result : tie.Need-add-result
 add-result c = search needs
 
--- src/cut.rt:195:1
 returns-3 : tie.Need-returns-3
 returns-3 c = rw (lt-ltb _ _ (c .before .before .before .if1 .left), lt-ltb _ _ (c .before .if2 .left))
 

@@ -1,30 +1,16 @@
-use Prim.Native.Nat.{min, max}
-use mathlib.Core.Path.{_≡_}
+-- `mesh::cut::upper_half` meets its contract.
+use native.Mathlib.Nat.{le-of-lt, min-eq-left, min-eq-right, max-eq-left, max-eq-right}
 use Rattle.mesh.specs.Triple.{half}
-use borrow.Author.Needs.{needs}
-use native.Mathlib.Omega.{arith}
 use Rattle.mesh.proofs.cut.upper_half.Statement.{statement}
 use Rattle.mesh.proofs.cut.upper_half.Tie as tie
-use Rattle.mesh.proofs.cut.upper_half.Reads as reads
-use Rattle.mesh.proofs.cut.upper_half.Lts as lts
 
--- src/cut.rt:79:1
 returns : tie.Need-returns
 unfolding half
-returns c =
-    let a = c .before .before .args in
-    let e : min (a .z) (a .x .m) ≡ a .z = omega arith in
-    let f : max (a .z) (a .x .m) ≡ a .x .m = omega arith in
-    rw (e, f)
+returns c = rw (min-eq-left (le-of-lt (c .if1 .taken)), max-eq-right (le-of-lt (c .if1 .taken)))
 
--- src/cut.rt:79:1
 returns-2 : tie.Need-returns-2
 unfolding half
-returns-2 c =
-    let a = c .before .before .args in
-    let e : min (a .z) (a .x .m) ≡ a .x .m = omega arith in
-    let f : max (a .z) (a .x .m) ≡ a .z = omega arith in
-    rw (e, f)
+returns-2 c = rw (min-eq-right (c .if1 .left), max-eq-left (c .if1 .left))
 
 pub upper-half-spec : {M : Type 1} → statement M
 upper-half-spec = tie.close (tie.spec returns returns-2)
