@@ -8,9 +8,11 @@ pub mod Tables
 pub mod Places
 pub mod Ascending
 pub mod Live
-pub mod Few
 pub mod Fresh
+pub mod Few
 pub mod Scale
 pub mod Hats
 pub mod Weights
 pub mod SoundMaps
+pub mod Cutting
+pub mod Drawing

@@ -1,0 +1,71 @@
+-- `mesh::cut::nearest_above` meets its contract. The invariant: what is left to search decides the whole answer.
+use Prim.Native.Nat.{_+_, _-_, _≤_}
+use native.Mathlib.Omega.{arith}
+use borrow.Author.Needs.{needs}
+use mathlib.Core.Path.{_≡_, refl, sym, _∙_}
+use mathlib.Core.Bool.{true, false}
+use Rattle.mesh.specs.Blends.{above}
+use Rattle.mesh.proofs.Cutting.{over, above-turn, above-none}
+use Rattle.mesh.proofs.cut.nearest_above.Statement.{statement}
+use Rattle.mesh.proofs.cut.nearest_above.Tie as tie
+
+abbrev Inv-loop : tie.InvT-loop
+Inv-loop steps b n r z₀ z =
+    (z₀ ≤ z) × (above (over steps b n) r (r - z) ≡ above (over steps b n) r (r - z₀))
+
+abbrev μ-loop : tie.MeasureT-loop
+μ-loop steps b n r z₀ z = r - z
+
+add-z : tie.Need-add-z Inv-loop μ-loop
+add-z c = search needs
+
+loop-holds : tie.Need-loop-holds Inv-loop μ-loop
+loop-holds c = (omega arith, refl)
+
+covers-requires : tie.Need-covers-requires Inv-loop μ-loop
+covers-requires c κs = search needs
+
+returns : tie.Need-returns Inv-loop μ-loop
+returns c =
+    let l = c .before .before .before .loop in
+    let a = c .before .before .before .before .before .before .args in
+    let turn = above-turn (over (a .steps .now) (a .b) (a .n)) (a .x .r) (l .z) (omega arith) in
+    let whole : a .x .r - (a .x .m + 1) ≡ a .x .r - a .x .m - 1 = omega arith in
+    let hit : over (a .steps .now) (a .b) (a .n) (l .z) ≡ true = sym (c .before .covers .ensures) ∙ c .if1 .taken in
+    rw (← whole, ← l .inv .1, turn, hit)
+
+add-z-2 : tie.Need-add-z-2 Inv-loop μ-loop
+add-z-2 c = search needs
+
+loop-less : tie.Need-loop-less Inv-loop μ-loop
+loop-less c = search needs
+
+loop-again : tie.Need-loop-again Inv-loop μ-loop
+loop-again c =
+    let l = c .before .before .before .loop in
+    let a = c .before .before .before .before .before .before .args in
+    let turn = above-turn (over (a .steps .now) (a .b) (a .n)) (a .x .r) (l .z) (omega arith) in
+    let miss : over (a .steps .now) (a .b) (a .n) (l .z) ≡ false = sym (c .before .covers .ensures) ∙ c .if1 .left in
+    (omega arith, sym (turn ∙ rw miss) ∙ l .inv .1)
+
+returns-2 : tie.Need-returns-2 Inv-loop μ-loop
+returns-2 c =
+    let l = c .before .loop in
+    let a = c .before .before .before .before .args in
+    let whole : a .x .r - (a .x .m + 1) ≡ a .x .r - a .x .m - 1 = omega arith in
+    rw (← whole, ← l .inv .1) (sym (above-none (over (a .steps .now) (a .b) (a .n)) (a .x .r) (a .x .r - l .z) (omega arith)))
+
+pub nearest-above-spec : {M : Type 1} → statement M
+nearest-above-spec =
+    tie.close
+    (tie.spec
+    Inv-loop
+    μ-loop
+    add-z
+    loop-holds
+    covers-requires
+    returns
+    add-z-2
+    loop-less
+    loop-again
+    returns-2)

@@ -1,0 +1,100 @@
+-- `mesh::cut::proper_table` meets its contract. The invariant: the blends that remain decide the whole answer.
+use Prim.Native.Nat.{_≤_, _+_, _-_}
+use native.Mathlib.Omega.{arith}
+use borrow.Author.Tests.{not-true, not-false}
+use mathlib.Core.Path.{_≡_, refl, sym, ap, _∙_}
+use mathlib.Core.Bool.{true, false, _&&_}
+use lib.ListN.{drop, getD, length, length-map}
+use Rattle.mesh.specs.Range.{all}
+use Rattle.mesh.specs.Sound.{proper, blendsOf, none}
+use Rattle.mesh.specs.Triple.{rising}
+use Rattle.mesh.proofs.Cutting.{blends-turn, blends-end}
+use Rattle.mesh.proofs.cut.proper_table.Statement.{statement}
+use Rattle.mesh.proofs.cut.proper_table.Tie as tie
+
+abbrev Inv-loop : tie.InvT-loop
+Inv-loop w h table count i₀ i =
+    (i ≤ count) × (all (proper w h) (drop i (blendsOf table)) ≡ all (proper w h) (blendsOf table))
+
+abbrev μ-loop : tie.MeasureT-loop
+μ-loop w h table count i₀ i = count - i
+
+-- one turn decides the whole answer by the next blend and those behind it
+turn : (c : tie.In-loop Inv-loop μ-loop) →
+    let l = c .before .loop in
+    let a = c .before .before .args in
+    all (proper (a .w) (a .h)) (blendsOf (a .t1)) ≡
+    (proper (a .w) (a .h) (getD (a .t1 .blends) (l .i) none) && all (proper (a .w) (a .h)) (drop (l .i + 1) (blendsOf (a .t1))))
+turn c =
+    let l = c .before .loop in
+    let a = c .before .before .args in
+    let full : length (a .t1 .blends) ≡ 1024 = simp length-map at (c .before .before .good .0 .1 .1 .1 .0 .1 .0 .1) in
+    sym (l .inv .1) ∙ ap (all (proper (a .w) (a .h))) (blends-turn (a .t1) (l .i) (omega arith) (omega arith))
+
+loop-holds : tie.Need-loop-holds Inv-loop μ-loop
+loop-holds c = (omega arith, refl)
+
+mul-x : tie.Need-mul-x Inv-loop μ-loop
+mul-x c = omega arith
+
+element-copy-out-x : tie.Need-element-copy-out-x Inv-loop μ-loop
+element-copy-out-x c = omega arith
+
+rises-requires : tie.Need-rises-requires Inv-loop μ-loop
+rises-requires c κs = omega arith
+
+returns : tie.Need-returns Inv-loop μ-loop
+returns c =
+    let l = c .before .before .before .before .loop in
+    let a = c .before .before .before .before .before .args in
+    let low : rising (a .w) (getD (a .t1 .blends) (l .i) none .across) ≡ false = sym (c .before .rises .ensures) ∙ not-true _ (c .if1 .taken) in
+    sym (turn (c .before .before .before) ∙ rw low)
+
+rises-requires-2 : tie.Need-rises-requires-2 Inv-loop μ-loop
+rises-requires-2 c κs = omega arith
+
+returns-2 : tie.Need-returns-2 Inv-loop μ-loop
+returns-2 c =
+    let l = c .before .before .before .before .before .before .loop in
+    let a = c .before .before .before .before .before .before .before .args in
+    let low : rising (a .w) (getD (a .t1 .blends) (l .i) none .across) ≡ true = sym (c .before .before .before .rises .ensures) ∙ not-false _ (c .before .before .if1 .left) in
+    let high : rising (a .h) (getD (a .t1 .blends) (l .i) none .up) ≡ false = sym (c .before .rises2 .ensures) ∙ not-true _ (c .if2 .taken) in
+    sym (turn (c .before .before .before .before .before) ∙ rw (low, high))
+
+add-i : tie.Need-add-i Inv-loop μ-loop
+add-i c = omega arith
+
+loop-less : tie.Need-loop-less Inv-loop μ-loop
+loop-less c = omega arith
+
+loop-again : tie.Need-loop-again Inv-loop μ-loop
+loop-again c =
+    let l = c .before .before .before .before .before .before .loop in
+    let a = c .before .before .before .before .before .before .before .args in
+    let low : rising (a .w) (getD (a .t1 .blends) (l .i) none .across) ≡ true = sym (c .before .before .before .rises .ensures) ∙ not-false _ (c .before .before .if1 .left) in
+    let high : rising (a .h) (getD (a .t1 .blends) (l .i) none .up) ≡ true = sym (c .before .rises2 .ensures) ∙ not-false _ (c .if2 .left) in
+    (omega arith, sym (turn (c .before .before .before .before .before) ∙ rw (low, high)))
+
+returns-3 : tie.Need-returns-3 Inv-loop μ-loop
+returns-3 c =
+    let l = c .before .loop in
+    let a = c .before .before .args in
+    sym (sym (l .inv .1) ∙ rw (blends-end (a .t1) (l .i) (omega arith)))
+
+pub proper-table-spec : {M : Type 1} → statement M
+proper-table-spec =
+    tie.close
+    (tie.spec
+    Inv-loop
+    μ-loop
+    loop-holds
+    mul-x
+    element-copy-out-x
+    rises-requires
+    returns
+    rises-requires-2
+    returns-2
+    add-i
+    loop-less
+    loop-again
+    returns-3)

@@ -1,0 +1,20 @@
+-- `mesh::cut::rises` meets its contract.
+use borrow.Author.Tests.{lt-ltb, le-ltb}
+use borrow.Author.Needs.{needs}
+use Rattle.mesh.proofs.cut.rises.Statement.{statement}
+use Rattle.mesh.proofs.cut.rises.Tie as tie
+
+returns : tie.Need-returns
+returns c = rw (le-ltb _ _ (c .if1 .taken))
+
+returns-2 : tie.Need-returns-2
+returns-2 c = rw (lt-ltb _ _ (c .before .before .if1 .left), le-ltb _ _ (c .if2 .taken))
+
+add-result : tie.Need-add-result
+add-result c = search needs
+
+returns-3 : tie.Need-returns-3
+returns-3 c = rw (lt-ltb _ _ (c .before .before .before .if1 .left), lt-ltb _ _ (c .before .if2 .left))
+
+pub rises-spec : {M : Type 1} → statement M
+rises-spec = tie.close (tie.spec returns returns-2 add-result returns-3)

@@ -1,0 +1,241 @@
+// Cutting: an upright cut hands its halves to the level cuts, a level cut hands its halves back, until neither cuts.
+use crate::Blend;
+use crate::Table;
+use crate::Triple;
+use crate::steps::covers;
+ghost use mathlib.Core.Path.{_≡_};
+ghost use mathlib.Core.Bool.{true, cond};
+ghost use Prim.Native.Nat.{ℕ, _+_, _-_, _≤_};
+ghost use Rattle.mesh.specs.Range.{every, all};
+ghost use Rattle.mesh.specs.Triple.{half, lower, upper, rising};
+ghost use Rattle.mesh.specs.Lines.{upright, level};
+ghost use Rattle.mesh.specs.Blends.{below, above, nearest, cutter, leaves, leavesOf, size};
+ghost use Rattle.mesh.specs.Sound.{proper, blendsOf};
+ghost use Rattle.mesh.specs.Bytes.{Square, stepOn, bytesMesh, Rises, Proper, keep, keepAll};
+
+// The nearest line below the middle that covers the n steps from knot b on; 0 if there is none.
+fn nearest_below(steps: &[u8], x: Triple, b: usize, n: usize) -> usize
+    requires { ⌜ Square (now steps) × Rises x × (b + n ≤ 131) ⌝ }
+    ensures { λ r. ⌜ r ≡ below (λ z. every b n (stepOn (now (steps .entry)) z)) (x .l) (x .m - x .l - 1) ⌝ }
+{
+    let l = x.l;
+    let mut z = x.m - 1;
+    while l < z {
+        if covers(steps, z, b, n) {
+            return z;
+        }
+        z -= 1;
+    }
+    0
+}
+
+// The nearest line above the middle that covers the n steps from knot b on; 0 if there is none.
+fn nearest_above(steps: &[u8], x: Triple, b: usize, n: usize) -> usize
+    requires { ⌜ Square (now steps) × Rises x × (b + n ≤ 131) ⌝ }
+    ensures { λ r. ⌜ r ≡ above (λ z. every b n (stepOn (now (steps .entry)) z)) (x .r) (x .r - x .m - 1) ⌝ }
+{
+    let r = x.r;
+    let mut z = x.m + 1;
+    while z < r {
+        if covers(steps, z, b, n) {
+            return z;
+        }
+        z += 1;
+    }
+    0
+}
+
+// The line that cuts a triple first, if it covers the n steps from knot b on; 0 if none does.
+fn first_line(steps: &[u8], x: Triple, b: usize, n: usize) -> usize
+    requires { ⌜ Square (now steps) × Rises x × (b + n ≤ 131) ⌝ }
+    ensures { λ r. ⌜ r ≡ nearest (λ z. every b n (stepOn (now (steps .entry)) z)) x ⌝ }
+{
+    let z = nearest_below(steps, x, b, n);
+    if z != 0 {
+        return z;
+    }
+    nearest_above(steps, x, b, n)
+}
+
+fn lower_half(z: usize, x: Triple) -> Triple
+    ensures { λ r. ⌜ r ≡ half lower z x ⌝ }
+{
+    if z < x.m {
+        Triple {
+            l: x.l,
+            m: z,
+            r: x.m,
+        }
+    } else {
+        Triple {
+            l: x.l,
+            m: x.m,
+            r: z,
+        }
+    }
+}
+
+fn upper_half(z: usize, x: Triple) -> Triple
+    ensures { λ r. ⌜ r ≡ half upper z x ⌝ }
+{
+    if z < x.m {
+        Triple {
+            l: z,
+            m: x.m,
+            r: x.r,
+        }
+    } else {
+        Triple {
+            l: x.m,
+            m: z,
+            r: x.r,
+        }
+    }
+}
+
+// Keeps a blend at its anchor's place.
+pub(crate) fn keep_blend(places: &mut [u64], x: Blend)
+    requires { ⌜ Square (now places) × Proper x ⌝ }
+    ensures { λ _. ⌜ now (places .exit) ≡ keep (now (places .entry)) x ⌝ }
+{
+    let a = x.across;
+    let u = x.up;
+    let place = a.m * 131 + u.m;
+    let packed = ((a.l * 256 + a.r) * 256 + u.l) * 256 + u.r;
+    let old = places[place];
+    if old == 0 {
+        places[place] = packed as u64;
+    } else if old != packed as u64 {
+        places[0] = 1;
+    }
+}
+
+// Cuts a blend by uprights and hands the halves to the level cuts. `tried` tells that no level cuts the blend.
+fn cut_across(uprights: &[u8], levels: &[u8], x: Blend, tried: bool, places: &mut [u64])
+    requires { ⌜ Square (now uprights) × Square (now levels) × Square (now places) × Proper x ×
+        (tried ≡ true → cutter (bytesMesh (now uprights) (now levels)) level x ≡ 0) ⌝ }
+    ensures { λ _. ⌜ ((f : ℕ) → size x ≤ f → now (places .exit) ≡
+        keepAll (now (places .entry)) (leaves f (bytesMesh (now (uprights .entry)) (now (levels .entry))) (cond tried level upright) x)) ⌝ }
+{
+    let a = x.across;
+    let u = x.up;
+    let z = first_line(uprights, a, u.l, u.r - u.l);
+    if z != 0 {
+        cut_up(
+            uprights,
+            levels,
+            Blend {
+                across: lower_half(z, a),
+                up: u,
+            },
+            false,
+            places,
+        );
+        cut_up(
+            uprights,
+            levels,
+            Blend {
+                across: upper_half(z, a),
+                up: u,
+            },
+            false,
+            places,
+        );
+        return;
+    }
+    if tried {
+        keep_blend(places, x);
+        return;
+    }
+    cut_up(uprights, levels, x, true, places);
+}
+
+// Cuts a blend by levels and hands the halves back to the upright cuts. `tried` tells that no upright cuts the blend.
+fn cut_up(uprights: &[u8], levels: &[u8], x: Blend, tried: bool, places: &mut [u64])
+    requires { ⌜ Square (now uprights) × Square (now levels) × Square (now places) × Proper x ×
+        (tried ≡ true → cutter (bytesMesh (now uprights) (now levels)) upright x ≡ 0) ⌝ }
+    ensures { λ _. ⌜ ((f : ℕ) → size x ≤ f → now (places .exit) ≡
+        keepAll (now (places .entry)) (leaves f (bytesMesh (now (uprights .entry)) (now (levels .entry))) (cond tried upright level) x)) ⌝ }
+{
+    let a = x.across;
+    let u = x.up;
+    let z = first_line(levels, u, a.l, a.r - a.l);
+    if z != 0 {
+        cut_across(
+            uprights,
+            levels,
+            Blend {
+                across: a,
+                up: lower_half(z, u),
+            },
+            false,
+            places,
+        );
+        cut_across(
+            uprights,
+            levels,
+            Blend {
+                across: a,
+                up: upper_half(z, u),
+            },
+            false,
+            places,
+        );
+        return;
+    }
+    if tried {
+        keep_blend(places, x);
+        return;
+    }
+    cut_across(uprights, levels, x, true, places);
+}
+
+// Whether a triple rises within the side.
+fn rises(x: Triple, side: usize) -> bool
+    requires { ⌜ side ≤ 128 ⌝ }
+    ensures { λ r. ⌜ r ≡ rising side x ⌝ }
+{
+    if x.m <= x.l {
+        return false;
+    }
+    if x.r <= x.m {
+        return false;
+    }
+    x.r <= side + 2
+}
+
+// Whether the table's blends all rise within the sides.
+pub(crate) fn proper_table(table: Table, w: usize, h: usize) -> bool
+    requires { ⌜ (table .count ≤ 1024) × (w ≤ 128) × (h ≤ 128) ⌝ }
+    ensures { λ r. ⌜ r ≡ all (proper w h) (blendsOf table) ⌝ }
+{
+    let count = table.count;
+    let mut i = 0;
+    while i < count {
+        let x = table.blends[i];
+        if !rises(x.across, w) {
+            return false;
+        }
+        if !rises(x.up, h) {
+            return false;
+        }
+        i += 1;
+    }
+    true
+}
+
+// Cuts every blend of a table to the end and keeps what is left.
+pub(crate) fn cut_all(uprights: &[u8], levels: &[u8], table: Table, places: &mut [u64])
+    requires { ⌜ Square (now uprights) × Square (now levels) × Square (now places) × (table .count ≤ 1024) ×
+        (all (proper 128 128) (blendsOf table) ≡ true) ⌝ }
+    ensures { λ _. ⌜ now (places .exit) ≡
+        keepAll (now (places .entry)) (leavesOf (bytesMesh (now (uprights .entry)) (now (levels .entry))) (blendsOf table)) ⌝ }
+{
+    let count = table.count;
+    let mut i = 0;
+    while i < count {
+        let x = table.blends[i];
+        cut_across(uprights, levels, x, false, places);
+        i += 1;
+    }
+}

@@ -1,0 +1,120 @@
+// A mesh in bytes: a byte for each unit step of the lines of one direction.
+use crate::Lines;
+use crate::Split;
+ghost use mathlib.Core.Path.{_≡_};
+ghost use mathlib.Core.Bool.{true, _||_};
+ghost use Prim.Native.Nat.{ℕ, _+_, _≤_, _<_};
+ghost use Rattle.mesh.specs.Range.{every};
+ghost use Rattle.mesh.specs.Lines.{Direction, number, other, side, draws, inRange, allowed, meshOf};
+ghost use Rattle.mesh.specs.Bytes.{Square, stepOn, Drawn, empty};
+
+// Whether the line at knot z is on at each of the n steps from knot b on.
+pub(crate) fn covers(steps: &[u8], z: usize, b: usize, n: usize) -> bool
+    requires { ⌜ Square (now steps) × (z < 131) × (b + n ≤ 131) ⌝ }
+    ensures { λ r. ⌜ r ≡ every b n (stepOn (now (steps .entry)) z) ⌝ }
+{
+    let mut k = b;
+    let mut left = n;
+    while 0 < left {
+        if steps[z * 131 + k] == 0 {
+            return false;
+        }
+        k += 1;
+        left -= 1;
+    }
+    true
+}
+
+// Switches on the steps from knot `from` to knot `to` of the line at knot z.
+pub(crate) fn draw(steps: &mut [u8], z: usize, from: usize, to: usize)
+    requires { ⌜ Square (now steps) × (z < 131) × (to ≤ 131) ⌝ }
+    ensures { λ _. ⌜ Drawn (now (steps .entry)) (now (steps .exit)) z from to ⌝ }
+{
+    let mut k = from;
+    while k < to {
+        steps[z * 131 + k] = 1;
+        k += 1;
+    }
+}
+
+// Whether a split keeps to the ranges of the sides.
+pub(crate) fn in_range(w: usize, h: usize, s: Split) -> bool
+    ensures { λ r. ⌜ r ≡ inRange w h s ⌝ }
+{
+    let mut crossed = w;
+    let mut run = h;
+    if s.direction != 0 {
+        if s.direction != 1 {
+            return false;
+        }
+        crossed = h;
+        run = w;
+    }
+    0 < s.position && s.position < crossed && s.from < s.to && s.to <= run
+}
+
+// Whether sides, count and splits keep to their ranges.
+pub(crate) fn allowed_lines(lines: Lines) -> bool
+    ensures { λ r. ⌜ r ≡ allowed lines ⌝ }
+{
+    let w = lines.w;
+    let h = lines.h;
+    let count = lines.count;
+    if w < 1 || 128 < w || h < 1 || 128 < h || 60 < count {
+        return false;
+    }
+    let mut i = 0;
+    while i < count {
+        let s = lines.splits[i];
+        if !in_range(w, h, s) {
+            return false;
+        }
+        i += 1;
+    }
+    true
+}
+
+// Draws a split, with its run-out, if it has the direction.
+fn draw_split(s: Split, direction: usize, run: usize, steps: &mut [u8])
+    requires { ⌜ Square (now steps) × (s .position < 128) × (s .from < s .to) × (s .to ≤ run) × (run ≤ 128) × (direction < 2) ⌝ }
+    ensures { λ _. ⌜ Square (now (steps .exit)) ×
+        ((d : Direction) (w h : ℕ) → number d ≡ direction → side (other d) w h ≡ run → (z k : ℕ) →
+        stepOn (now (steps .exit)) z k ≡ (stepOn (now (steps .entry)) z k || draws w h d z k s)) ⌝ }
+{
+    if s.direction == direction {
+        let mut from = s.from + 1;
+        if s.from == 0 {
+            from = 0;
+        }
+        let mut to = s.to + 1;
+        if s.to == run {
+            to = run + 2;
+        }
+        draw(steps, s.position + 1, from, to);
+    }
+}
+
+// Draws the lines of one direction: the fresh map's, and each split's with its run-out.
+pub(crate) fn draw_lines(lines: Lines, direction: usize, steps: &mut [u8])
+    requires { ⌜ (allowed lines ≡ true) × (direction < 2) × (now steps ≡ empty) ⌝ }
+    ensures { λ _. ⌜ Square (now (steps .exit)) ×
+        ((d : Direction) → number d ≡ direction → (z k : ℕ) → stepOn (now (steps .exit)) z k ≡ meshOf lines d z k) ⌝ }
+{
+    let mut crossed = lines.w;
+    let mut run = lines.h;
+    if direction == 1 {
+        crossed = lines.h;
+        run = lines.w;
+    }
+    draw(steps, 0, 0, run + 2);
+    draw(steps, 1, 0, run + 2);
+    draw(steps, crossed + 1, 0, run + 2);
+    draw(steps, crossed + 2, 0, run + 2);
+    let count = lines.count;
+    let mut i = 0;
+    while i < count {
+        let s = lines.splits[i];
+        draw_split(s, direction, run, steps);
+        i += 1;
+    }
+}
