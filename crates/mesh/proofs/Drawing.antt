@@ -1,0 +1,96 @@
+-- What a store, a line and a split do to the steps of a mesh in bytes.
+use Prim.Native.Nat.{ℕ, zero, suc, _+_, _*_, _-_, _≤_, _<_, max}
+use native.Mathlib.Omega.{arith}
+use mathlib.Core.Path.{_≡_, refl, sym, ap, _∙_}
+use mathlib.Core.Logic.{⊎-elim}
+use mathlib.Core.Bool.{Bool, true, false, _&&_, _||_, not, or-false, or-assoc}
+use mathlib.Core.List.{List}
+use borrow.Author.Tests.{ltb-true, leb-true, eqb-true, eqb-false, not-true, lt-ltb, le-leb, eq-eqb, ne-eqb}
+use lib.Dec.{eqb, ltb, leb}
+use lib.ListN.{length, getD, set, length-set}
+use lib.Seq.{getD-set-same, getD-set-other}
+use Rattle.mesh.specs.Bytes.{Square, stepOn, at, Drawn}
+use Rattle.mesh.proofs.Tests.{either, same-test, and-both, and-of, or-either, or-left, or-right, true-not-false, false-of}
+use Rattle.mesh.proofs.Bytes.{step-byte, step-on}
+
+-- two tests after the same two, equal where those hold
+guarded : (a b c d : Bool) → (a ≡ true → b ≡ true → c ≡ d) → (a && b && c) ≡ (a && b && d)
+guarded true true c d f = f refl refl
+guarded true false c d f = refl
+guarded false b c d f = refl
+
+-- a step whose byte is the same in two tables, where it has one, is the same
+step-same : (before after : List ℕ) (y j : ℕ) →
+    (y < 131 → j < 131 → getD after (at y j) 0 ≡ getD before (at y j) 0) → stepOn after y j ≡ stepOn before y j
+unfolding stepOn
+step-same before after y j same =
+    guarded (ltb y 131) (ltb j 131) _ _ (λ p q. rw (same (ltb-true y 131 p) (ltb-true j 131 q)))
+
+-- Places of the table are one-to-one, so a store at one switches on its own step and no other.
+pub step-set : (bytes : List ℕ) (z k : ℕ) → Square bytes → z < 131 → k < 131 → (y j : ℕ) →
+    stepOn (set bytes (at z k) 1) y j ≡ (stepOn bytes y j || (eqb y z && eqb j k))
+step-set bytes z k square hz hk y j =
+    ⊎-elim
+    (λ e. let p = and-both (eqb y z) (eqb j k) e in here (eqb-true y z (p .0)) (eqb-true j k (p .1)) ∙ sym (or-right (stepOn bytes y j) _ e))
+    (λ e. other e ∙ sym (rw e (or-false (stepOn bytes y j))))
+    (either (eqb y z && eqb j k))
+  where
+    here : y ≡ z → j ≡ k → stepOn (set bytes (at z k) 1) y j ≡ true
+    here ez ek =
+        let e : getD (set bytes (at z k) 1) (at z k) 0 ≡ 1 = getD-set-same bytes (at z k) 1 0 (omega arith) in
+        rw (ez, ek) (step-on (set bytes (at z k) 1) z k hz hk (λ q. omega arith))
+
+    other : (eqb y z && eqb j k) ≡ false → stepOn (set bytes (at z k) 1) y j ≡ stepOn bytes y j
+    other off =
+        step-same bytes (set bytes (at z k) 1) y j
+        (λ hy hj. getD-set-other bytes (at z k) (at y j) 1 0
+        (λ e. true-not-false _ (and-of _ _ (eq-eqb y z (omega arith)) (eq-eqb j k (omega arith))) off))
+
+-- a line from a knot to itself has no step
+pub drawn-none : (bytes : List ℕ) (z from : ℕ) → Square bytes → Drawn bytes bytes z from from
+drawn-none bytes z from square =
+    record {
+      square = square;
+      on = λ y j. sym (ap (λ (b : Bool). stepOn bytes y j || b) (none y j) ∙ or-false (stepOn bytes y j));
+    }
+  where
+    none : (y j : ℕ) → (eqb y z && leb from j && ltb j from) ≡ false
+    none y j =
+        false-of _ (λ e. let p = and-both (eqb y z && leb from j) (ltb j from) e in
+        let le = leb-true from j (and-both (eqb y z) (leb from j) (p .0) .1) in
+        let lt = ltb-true j from (p .1) in
+        omega arith)
+
+-- a line drawn as far as knot k, and the step from k besides
+pub drawn-more : {before after : List ℕ} {z from k : ℕ} → Drawn before after z from k → from ≤ k → z < 131 → k < 131 →
+    Drawn before (set after (at z k) 1) z from (k + 1)
+drawn-more {before} {after} {z} {from} {k} d hf hz hk =
+    record {
+      square = rw length-set (d .square);
+      on = λ y j.
+          let past : eqb j k ≡ true → leb from j ≡ true = λ e. let eq = eqb-true j k e in le-leb from j (omega arith) in
+          rw (step-set after z k (d .square) hz hk y j, d .on y j, or-assoc, spread _ _ _ _ past, next j);
+    }
+  where
+    next : (j : ℕ) → ltb j (k + 1) ≡ (ltb j k || eqb j k)
+    next j =
+        same-test _ _
+        (λ e. ⊎-elim (λ q. or-right (ltb j k) _ q) (λ q. or-left _ (eqb j k) (let lt = ltb-true j (k + 1) e in let ne = eqb-false j k q in lt-ltb j k (omega arith))) (either (eqb j k)))
+        (λ e. lt-ltb j (k + 1) (⊎-elim (λ q. let lt = ltb-true j k q in omega arith) (λ q. let eq = eqb-true j k q in omega arith) (or-either (ltb j k) (eqb j k) e)))
+
+    spread : (a b c e : Bool) → (e ≡ true → b ≡ true) → (a && b && c || a && e) ≡ (a && b && (c || e))
+    spread true true c e f = refl
+    spread true false c true f = sym (f refl)
+    spread true false c false f = refl
+    spread false b c e f = refl
+
+-- a line drawn as far as knot k is drawn as far as `to` where k is the first knot from `from` on that is not below `to`
+pub drawn-until : {before after : List ℕ} {z from k to : ℕ} → Drawn before after z from k → to ≤ k → k ≤ max from to →
+    Drawn before after z from to
+drawn-until {before} {after} {z} {from} {k} {to} d lo hi =
+    record {
+      square = d .square;
+      on = λ y j. d .on y j ∙ ap (λ (b : Bool). stepOn before y j || b)
+          (guarded (eqb y z) (leb from j) (ltb j k) (ltb j to) (λ p q. let le = leb-true from j q in
+          same-test (ltb j k) (ltb j to) (λ e. let lt = ltb-true j k e in lt-ltb j to (omega arith)) (λ e. let lt = ltb-true j to e in lt-ltb j k (omega arith))));
+    }
