@@ -5,7 +5,7 @@ ghost use mathlib.Core.Path.{_≡_};
 ghost use mathlib.Core.Bool.{true, _||_};
 ghost use Prim.Native.Nat.{ℕ, _+_, _≤_, _<_};
 ghost use Rattle.mesh.specs.Range.{every};
-ghost use Rattle.mesh.specs.Lines.{Direction, number, other, side, draws, inRange, allowed, meshOf};
+ghost use Rattle.mesh.specs.Lines.{Direction, number, other, side, draws, fits, inRange, allowed, meshOf};
 ghost use Rattle.mesh.specs.Bytes.{Square, stepOn, Drawn, empty};
 
 // Whether the line at knot z is on at each of the n steps from knot b on.
@@ -37,20 +37,33 @@ pub(crate) fn draw(steps: &mut [u8], z: usize, from: usize, to: usize)
     }
 }
 
-// Whether a split keeps to the ranges of the sides.
+// Whether a split keeps to the ranges, of the side that it crosses and the side that it runs along.
+fn split_fits(crossed: usize, run: usize, s: Split) -> bool
+    ensures { λ r. ⌜ r ≡ fits crossed run s ⌝ }
+{
+    if s.position < 1 {
+        return false;
+    }
+    if crossed <= s.position {
+        return false;
+    }
+    if s.to <= s.from {
+        return false;
+    }
+    s.to <= run
+}
+
+// Whether a split has a direction, and keeps to the ranges of the sides.
 pub(crate) fn in_range(w: usize, h: usize, s: Split) -> bool
     ensures { λ r. ⌜ r ≡ inRange w h s ⌝ }
 {
-    let mut crossed = w;
-    let mut run = h;
-    if s.direction != 0 {
-        if s.direction != 1 {
-            return false;
-        }
-        crossed = h;
-        run = w;
+    if s.direction == 0 {
+        return split_fits(w, h, s);
     }
-    0 < s.position && s.position < crossed && s.from < s.to && s.to <= run
+    if s.direction == 1 {
+        return split_fits(h, w, s);
+    }
+    false
 }
 
 // Whether sides, count and splits keep to their ranges.
