@@ -1,15 +1,17 @@
 -- What a store, a line and a split do to the steps of a mesh in bytes.
 use Prim.Native.Nat.{ℕ, zero, suc, _+_, _*_, _-_, _≤_, _<_, max}
 use native.Mathlib.Omega.{arith}
+use native.Mathlib.Numerals.{add-one}
 use mathlib.Core.Path.{_≡_, refl, sym, ap, _∙_}
 use mathlib.Core.Logic.{⊎-elim}
 use mathlib.Core.Bool.{Bool, true, false, _&&_, _||_, not, or-false, or-assoc}
-use mathlib.Core.List.{List}
+use mathlib.Core.List.{List, [], _∷_}
 use borrow.Author.Tests.{ltb-true, leb-true, eqb-true, eqb-false, not-true, lt-ltb, le-leb, eq-eqb, ne-eqb}
 use lib.Dec.{eqb, ltb, leb}
-use lib.ListN.{length, getD, set, length-set}
-use lib.Seq.{getD-set-same, getD-set-other}
+use lib.ListN.{length, getD, set, take, drop, length-set, drop-of-length-le}
+use lib.Seq.{getD-set-same, getD-set-other, getD-take, length-take-le, drop-cons}
 use Rattle.mesh.specs.Bytes.{Square, stepOn, at, Drawn}
+use Rattle.mesh.specs.declared.Split.{Split}
 use Rattle.mesh.proofs.Tests.{either, same-test, and-both, and-of, or-either, or-left, or-right, true-not-false, false-of}
 use Rattle.mesh.proofs.Bytes.{step-byte, step-on}
 
@@ -94,3 +96,20 @@ drawn-until {before} {after} {z} {from} {k} {to} d lo hi =
           (guarded (eqb y z) (leb from j) (ltb j k) (ltb j to) (λ p q. let le = leb-true from j q in
           same-test (ltb j k) (ltb j to) (λ e. let lt = ltb-true j k e in lt-ltb j to (omega arith)) (λ e. let lt = ltb-true j to e in lt-ltb j k (omega arith))));
     }
+
+-- what an array of splits reads as past its end
+abbrev pub blank : Split
+blank = record { direction = 0; position = 0; from = 0; to = 0 }
+
+-- the first n entries of a list, one by one, as a loop takes them
+module _ {ℓ} {A : Type ℓ} where
+  pub left-turn : (xs : List A) (d : A) (n i : ℕ) → n ≤ length xs → i < n →
+      drop i (take n xs) ≡ getD xs i d ∷ drop (i + 1) (take n xs)
+  left-turn xs d n i le lt =
+      let h : i < length (take n xs) = rw (length-take-le n xs le) lt in
+      rw (drop-cons (take n xs) i d h, getD-take n xs i d lt, add-one)
+
+  pub left-none : (xs : List A) (n i : ℕ) → n ≤ length xs → n ≤ i → drop i (take n xs) ≡ []
+  left-none xs n i le done =
+      let h : length (take n xs) ≤ i = rw (length-take-le n xs le) done in
+      drop-of-length-le (take n xs) h

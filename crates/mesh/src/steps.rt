@@ -5,7 +5,7 @@ ghost use mathlib.Core.Path.{_≡_};
 ghost use mathlib.Core.Bool.{true, _||_};
 ghost use Prim.Native.Nat.{ℕ, _+_, _≤_, _<_};
 ghost use Rattle.mesh.specs.Range.{every};
-ghost use Rattle.mesh.specs.Lines.{Direction, number, other, side, draws, fits, inRange, allowed, meshOf};
+ghost use Rattle.mesh.specs.Lines.{Direction, number, other, side, draws, allowedSide, fits, inRange, allowed, meshOf};
 ghost use Rattle.mesh.specs.Bytes.{Square, stepOn, Drawn, empty};
 
 // Whether the line at knot z is on at each of the n steps from knot b on.
@@ -66,6 +66,16 @@ pub(crate) fn in_range(w: usize, h: usize, s: Split) -> bool
     false
 }
 
+// Whether a side keeps to its range.
+fn allowed_side(side: usize) -> bool
+    ensures { λ r. ⌜ r ≡ allowedSide side ⌝ }
+{
+    if side < 1 {
+        return false;
+    }
+    side <= 128
+}
+
 // Whether sides, count and splits keep to their ranges.
 pub(crate) fn allowed_lines(lines: Lines) -> bool
     ensures { λ r. ⌜ r ≡ allowed lines ⌝ }
@@ -73,7 +83,13 @@ pub(crate) fn allowed_lines(lines: Lines) -> bool
     let w = lines.w;
     let h = lines.h;
     let count = lines.count;
-    if w < 1 || 128 < w || h < 1 || 128 < h || 60 < count {
+    if !allowed_side(w) {
+        return false;
+    }
+    if !allowed_side(h) {
+        return false;
+    }
+    if 60 < count {
         return false;
     }
     let mut i = 0;
