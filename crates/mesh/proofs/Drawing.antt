@@ -11,6 +11,7 @@ use lib.Dec.{eqb, ltb, leb}
 use lib.ListN.{length, getD, set, take, drop, length-set, drop-of-length-le}
 use lib.Seq.{getD-set-same, getD-set-other, getD-take, length-take-le, drop-cons}
 use Rattle.mesh.specs.Bytes.{Square, stepOn, at, Drawn}
+use Rattle.mesh.specs.Lines.{Direction, number, other, side, start, end, draws}
 use Rattle.mesh.specs.declared.Split.{Split}
 use Rattle.mesh.proofs.Tests.{either, same-test, and-both, and-of, or-either, or-left, or-right, true-not-false, false-of}
 use Rattle.mesh.proofs.Bytes.{step-byte, step-on}
@@ -113,3 +114,20 @@ module _ {ℓ} {A : Type ℓ} where
   left-none xs n i le done =
       let h : length (take n xs) ≤ i = rw (length-take-le n xs le) done in
       drop-of-length-le (take n xs) h
+
+-- a split's line, from its first knot to its last, is what the split draws; a split of the other direction draws nothing
+module _ (s : Split) (direction : ℕ) (d : Direction) (w h : ℕ) (same : number d ≡ direction) where
+  pub split-drawn : {before after : List ℕ} {z from to : ℕ} (run : ℕ) → Drawn before after z from to →
+      s .direction ≡ direction → z ≡ s .position + 1 → from ≡ start s → to ≡ end run s → side (other d) w h ≡ run →
+      (y k : ℕ) → stepOn after y k ≡ (stepOn before y k || draws w h d y k s)
+  unfolding draws
+  split-drawn run drawn e ez ef et er y k =
+      let n : s .direction ≡ number d = e ∙ sym same in
+      rw (drawn .on y k, eq-eqb _ _ n, ez, ef, et, er)
+
+  pub split-passed : (bytes : List ℕ) → (s .direction ≡ direction → ⊥) →
+      (y k : ℕ) → stepOn bytes y k ≡ (stepOn bytes y k || draws w h d y k s)
+  unfolding draws
+  split-passed bytes ne y k =
+      let n : eqb (s .direction) (number d) ≡ false = ne-eqb _ _ (λ e. ne (e ∙ same)) in
+      sym (rw n (or-false (stepOn bytes y k)))

@@ -5,7 +5,7 @@ ghost use mathlib.Core.Path.{_≡_};
 ghost use mathlib.Core.Bool.{true, _||_};
 ghost use Prim.Native.Nat.{ℕ, _+_, _≤_, _<_};
 ghost use Rattle.mesh.specs.Range.{every};
-ghost use Rattle.mesh.specs.Lines.{Direction, number, other, side, draws, allowedSide, fits, inRange, allowed, meshOf};
+ghost use Rattle.mesh.specs.Lines.{Direction, number, other, side, start, end, draws, allowedSide, fits, inRange, allowed, meshOf};
 ghost use Rattle.mesh.specs.Bytes.{Square, stepOn, Drawn, empty};
 
 // Whether the line at knot z is on at each of the n steps from knot b on.
@@ -103,23 +103,39 @@ pub(crate) fn allowed_lines(lines: Lines) -> bool
     true
 }
 
+// The first and the last knot of a split: a drawn end at a side runs out.
+fn first_knot(s: Split) -> usize
+    requires { ⌜ s .from < 128 ⌝ }
+    ensures { λ r. ⌜ r ≡ start s ⌝ }
+{
+    if s.from == 0 {
+        return 0;
+    }
+    s.from + 1
+}
+
+fn last_knot(run: usize, s: Split) -> usize
+    requires { ⌜ (s .to ≤ run) × (run ≤ 128) ⌝ }
+    ensures { λ r. ⌜ (r ≡ end run s) × (r ≤ 130) ⌝ }
+{
+    if s.to == run {
+        return run + 2;
+    }
+    s.to + 1
+}
+
 // Draws a split, with its run-out, if it has the direction.
 fn draw_split(s: Split, direction: usize, run: usize, steps: &mut [u8])
-    requires { ⌜ Square (now steps) × (s .position < 128) × (s .from < s .to) × (s .to ≤ run) × (run ≤ 128) × (direction < 2) ⌝ }
+    requires { ⌜ Square (now steps) × (s .position < 128) × (s .from < s .to) × (s .to ≤ run) × (run ≤ 128) ⌝ }
     ensures { λ _. ⌜ Square (now (steps .exit)) ×
         ((d : Direction) (w h : ℕ) → number d ≡ direction → side (other d) w h ≡ run → (z k : ℕ) →
         stepOn (now (steps .exit)) z k ≡ (stepOn (now (steps .entry)) z k || draws w h d z k s)) ⌝ }
 {
     if s.direction == direction {
-        let mut from = s.from + 1;
-        if s.from == 0 {
-            from = 0;
-        }
-        let mut to = s.to + 1;
-        if s.to == run {
-            to = run + 2;
-        }
-        draw(steps, s.position + 1, from, to);
+        let at = s.position + 1;
+        let from = first_knot(s);
+        let to = last_knot(run, s);
+        draw(steps, at, from, to);
     }
 }
 

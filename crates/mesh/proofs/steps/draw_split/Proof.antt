@@ -1,0 +1,64 @@
+use borrow.Author.Needs.{needs}
+use native.Mathlib.Omega.{arith}
+use borrow.Author.Needs.{needs}
+use mathlib.Core.Path.{refl}
+use Rattle.mesh.proofs.Drawing.{split-drawn, split-passed}
+use Rattle.mesh.proofs.steps.draw_split.Statement.{statement}
+use Rattle.mesh.proofs.steps.draw_split.Tie as tie
+use Rattle.mesh.proofs.steps.draw_split.Reads as reads
+use Rattle.mesh.proofs.steps.draw_split.Lts as lts
+use Rattle.mesh.proofs.steps.draw.Reads as draw-reads
+use Rattle.mesh.proofs.steps.first_knot.Reads as first-knot-reads
+use Rattle.mesh.proofs.steps.last_knot.Reads as last-knot-reads
+
+-- src/steps.rt:135:18
+add-at : tie.Need-add-at
+add-at c = search needs
+
+-- src/steps.rt:136:13
+first-knot-requires : tie.Need-first-knot-requires
+first-knot-requires c κs = search needs
+
+-- src/steps.rt:137:13
+last-knot-requires : tie.Need-last-knot-requires
+last-knot-requires c κs = search needs
+
+-- src/steps.rt:138:9
+draw-requires : tie.Need-draw-requires
+draw-requires c κs = search needs
+
+-- src/steps.rt:128:1
+same-length : tie.Need-same-length
+same-length c = search needs
+
+-- src/steps.rt:128:1
+returns : tie.Need-returns
+returns c =
+    let drawn = c .before .before in
+    let last = drawn .before .before in
+    let first = last .before in
+    let then = first .before .before in
+    let a = then .before .before .before .args in (
+      drawn .draw .ensures .square,
+      λ d w h same along.
+          split-drawn (a .s) (a .direction) d w h same (a .run) (drawn .draw .ensures) (then .if1 .taken) refl (first .first-knot .ensures)
+          (last .last-knot .ensures .0) along,
+    )
+
+returns-2 : tie.Need-returns-2
+returns-2 c =
+    let start = c .before .before .before in
+    let a = start .args in
+    (start .pre .0, λ d w h same along. split-passed (a .s) (a .direction) d w h same (a .steps .now) (c .if1 .left))
+
+pub draw-split-spec : {M : Type 1} → statement M
+draw-split-spec =
+    tie.close
+    (tie.spec
+    add-at
+    first-knot-requires
+    last-knot-requires
+    draw-requires
+    same-length
+    returns
+    returns-2)
