@@ -4,13 +4,13 @@ use native.Mathlib.Omega.{arith}
 use native.Mathlib.Numerals.{add-one}
 use mathlib.Core.Path.{_≡_, refl, sym, ap, _∙_}
 use mathlib.Core.Logic.{⊎-elim}
-use mathlib.Core.Bool.{Bool, true, false, _&&_, _||_, not, or-false, or-assoc}
+use mathlib.Core.Bool.{Bool, true, false, _&&_, _||_, not, or-false, or-assoc, and-true, and-false, and-or-distrib-right}
 use mathlib.Core.List.{List, [], _∷_}
-use borrow.Author.Tests.{ltb-true, leb-true, eqb-true, eqb-false, not-true, lt-ltb, le-leb, eq-eqb, ne-eqb}
-use lib.Dec.{eqb, ltb, leb}
-use lib.ListN.{length, getD, set, take, drop, length-set, drop-of-length-le}
+use borrow.Author.Tests.{ltb-true, ltb-false, leb-true, eqb-true, eqb-false, not-true, lt-ltb, le-leb, eq-eqb, ne-eqb}
+use lib.Dec.{eqb, ltb, leb, leb·zero}
+use lib.ListN.{length, getD, set, take, drop, length-set, drop-of-length-le, replicate, length-replicate, getD-replicate, List·getD-eq-default}
 use lib.Seq.{getD-set-same, getD-set-other, getD-take, length-take-le, drop-cons}
-use Rattle.mesh.specs.Bytes.{Square, stepOn, at, Drawn}
+use Rattle.mesh.specs.Bytes.{Square, stepOn, at, Drawn, empty}
 use Rattle.mesh.specs.Lines.{Direction, number, other, side, start, end, draws}
 use Rattle.mesh.specs.declared.Split.{Split}
 use Rattle.mesh.proofs.Tests.{either, same-test, and-both, and-of, or-either, or-left, or-right, true-not-false, false-of}
@@ -131,3 +131,25 @@ module _ (s : Split) (direction : ℕ) (d : Direction) (w h : ℕ) (same : numbe
   split-passed bytes ne y k =
       let n : eqb (s .direction) (number d) ≡ false = ne-eqb _ _ (λ e. ne (e ∙ same)) in
       sym (rw n (or-false (stepOn bytes y k)))
+
+-- bytes that are all 0 have no step on
+off : (n y k : ℕ) → stepOn (replicate n 0) y k ≡ false
+unfolding stepOn
+off n y k = rw (all-zero (at y k)) (and-false (ltb y 131 && ltb k 131))
+  where
+    all-zero : (i : ℕ) → _≡_ {A = ℕ} (getD (replicate n 0) i 0) 0
+    all-zero i =
+        ⊎-elim
+        (λ e. getD-replicate n i 0 0 (ltb-true i n e))
+        (λ e. List·getD-eq-default (replicate n 0) 0 (rw length-replicate (ltb-false i n e)))
+        (either (ltb i n))
+
+pub empty-square : {bytes : List ℕ} → bytes ≡ empty → Square bytes
+empty-square e = ap length e ∙ length-replicate {A = ℕ} 17161 0
+
+-- four lines over no steps: the lines of a fresh map
+pub fresh-drawn : {b₀ b₁ b₂ b₃ b₄ : List ℕ} {p q r s to : ℕ} → b₀ ≡ empty →
+    Drawn b₀ b₁ p 0 to → Drawn b₁ b₂ q 0 to → Drawn b₂ b₃ r 0 to → Drawn b₃ b₄ s 0 to →
+    (y k : ℕ) → stepOn b₄ y k ≡ ((eqb y p || eqb y q || eqb y r || eqb y s) && ltb k to)
+fresh-drawn e d₁ d₂ d₃ d₄ y k =
+    rw (d₄ .on y k, d₃ .on y k, d₂ .on y k, d₁ .on y k, e, off 17161 y k, leb·zero k) (simp (and-true, and-or-distrib-right))

@@ -5,7 +5,7 @@ ghost use mathlib.Core.Path.{_≡_};
 ghost use mathlib.Core.Bool.{true, _||_};
 ghost use Prim.Native.Nat.{ℕ, _+_, _≤_, _<_};
 ghost use Rattle.mesh.specs.Range.{every};
-ghost use Rattle.mesh.specs.Lines.{Direction, number, other, side, start, end, draws, allowedSide, fits, inRange, allowed, meshOf};
+ghost use Rattle.mesh.specs.Lines.{Direction, number, other, side, start, end, draws, allowedSide, fits, inRange, allowed, freshMesh, meshOf};
 ghost use Rattle.mesh.specs.Bytes.{Square, stepOn, Drawn, empty};
 
 // Whether the line at knot z is on at each of the n steps from knot b on.
@@ -126,7 +126,7 @@ fn last_knot(run: usize, s: Split) -> usize
 
 // Draws a split, with its run-out, if it has the direction.
 fn draw_split(s: Split, direction: usize, run: usize, steps: &mut [u8])
-    requires { ⌜ Square (now steps) × (s .position < 128) × (s .from < s .to) × (s .to ≤ run) × (run ≤ 128) ⌝ }
+    requires { ⌜ Square (now steps) × (run ≤ 128) × (s .direction ≡ direction → (s .position < 128) × (s .from < s .to) × (s .to ≤ run)) ⌝ }
     ensures { λ _. ⌜ Square (now (steps .exit)) ×
         ((d : Direction) (w h : ℕ) → number d ≡ direction → side (other d) w h ≡ run → (z k : ℕ) →
         stepOn (now (steps .exit)) z k ≡ (stepOn (now (steps .entry)) z k || draws w h d z k s)) ⌝ }
@@ -139,22 +139,43 @@ fn draw_split(s: Split, direction: usize, run: usize, steps: &mut [u8])
     }
 }
 
+// Draws the fresh map's lines of one direction, over a mesh with none.
+fn draw_fresh(crossed: usize, run: usize, steps: &mut [u8])
+    requires { ⌜ (now steps ≡ empty) × (crossed ≤ 128) × (run ≤ 128) ⌝ }
+    ensures { λ _. ⌜ Square (now (steps .exit)) ×
+        ((d : Direction) (w h : ℕ) → side d w h ≡ crossed → side (other d) w h ≡ run → (z k : ℕ) →
+        stepOn (now (steps .exit)) z k ≡ freshMesh w h d z k) ⌝ }
+{
+    let to = run + 2;
+    let far = crossed + 1;
+    let beyond = crossed + 2;
+    draw(steps, 0, 0, to);
+    draw(steps, 1, 0, to);
+    draw(steps, far, 0, to);
+    draw(steps, beyond, 0, to);
+}
+
+// The side that lines of the direction cross.
+fn side_of(direction: usize, w: usize, h: usize) -> usize
+    ensures { λ r. ⌜ ((d : Direction) → number d ≡ direction → side d w h ≡ r) ⌝ }
+{
+    if direction == 0 {
+        return w;
+    }
+    h
+}
+
 // Draws the lines of one direction: the fresh map's, and each split's with its run-out.
 pub(crate) fn draw_lines(lines: Lines, direction: usize, steps: &mut [u8])
     requires { ⌜ (allowed lines ≡ true) × (direction < 2) × (now steps ≡ empty) ⌝ }
     ensures { λ _. ⌜ Square (now (steps .exit)) ×
         ((d : Direction) → number d ≡ direction → (z k : ℕ) → stepOn (now (steps .exit)) z k ≡ meshOf lines d z k) ⌝ }
 {
-    let mut crossed = lines.w;
-    let mut run = lines.h;
-    if direction == 1 {
-        crossed = lines.h;
-        run = lines.w;
-    }
-    draw(steps, 0, 0, run + 2);
-    draw(steps, 1, 0, run + 2);
-    draw(steps, crossed + 1, 0, run + 2);
-    draw(steps, crossed + 2, 0, run + 2);
+    let w = lines.w;
+    let h = lines.h;
+    let crossed = side_of(direction, w, h);
+    let run = side_of(direction, h, w);
+    draw_fresh(crossed, run, steps);
     let count = lines.count;
     let mut i = 0;
     while i < count {

@@ -1,6 +1,7 @@
 use borrow.Author.Needs.{needs}
 use native.Mathlib.Omega.{arith}
 use borrow.Author.Needs.{needs}
+use Prim.Native.Nat.{ℕ, _≤_, _<_}
 use mathlib.Core.Path.{refl}
 use Rattle.mesh.proofs.Drawing.{split-drawn, split-passed}
 use Rattle.mesh.proofs.steps.draw_split.Statement.{statement}
@@ -11,27 +12,26 @@ use Rattle.mesh.proofs.steps.draw.Reads as draw-reads
 use Rattle.mesh.proofs.steps.first_knot.Reads as first-knot-reads
 use Rattle.mesh.proofs.steps.last_knot.Reads as last-knot-reads
 
--- src/steps.rt:135:18
+-- the ranges of a split of the direction
+ranges : (c : tie.Then1) →
+    let s = c .before .before .before .args .s in (s .position < 128) × (s .from < s .to) × (s .to ≤ c .before .before .before .args .run)
+ranges c = c .before .before .before .pre .2 (c .if1 .taken)
+
 add-at : tie.Need-add-at
-add-at c = search needs
+add-at c = let r = ranges (c .before) in omega arith
 
--- src/steps.rt:136:13
 first-knot-requires : tie.Need-first-knot-requires
-first-knot-requires c κs = search needs
+first-knot-requires c κs = let r = ranges (c .before) in omega arith
 
--- src/steps.rt:137:13
 last-knot-requires : tie.Need-last-knot-requires
-last-knot-requires c κs = search needs
+last-knot-requires c κs = let r = ranges (c .before .before) in omega arith
 
--- src/steps.rt:138:9
 draw-requires : tie.Need-draw-requires
-draw-requires c κs = search needs
+draw-requires c κs = let r = ranges (c .before .before .before .before) in omega arith
 
--- src/steps.rt:128:1
 same-length : tie.Need-same-length
 same-length c = search needs
 
--- src/steps.rt:128:1
 returns : tie.Need-returns
 returns c =
     let drawn = c .before .before in
