@@ -11,8 +11,10 @@ use lib.Dec.{eqb, ltb, leb, leb·zero}
 use lib.ListN.{length, getD, set, take, drop, length-set, drop-of-length-le, replicate, length-replicate, getD-replicate, List·getD-eq-default}
 use lib.Seq.{getD-set-same, getD-set-other, getD-take, length-take-le, drop-cons}
 use Rattle.mesh.specs.Bytes.{Square, stepOn, at, Drawn, empty}
-use Rattle.mesh.specs.Lines.{Direction, number, other, side, start, end, draws}
+use Rattle.mesh.specs.Lines.{Direction, upright, level, number, other, side, start, end, draws, allowedSide, fits, inRange, allowed, splitsOf, freshMesh, mesh, meshOf}
+use Rattle.mesh.specs.Range.{all, any}
 use Rattle.mesh.specs.declared.Split.{Split}
+use Rattle.mesh.specs.declared.Lines.{Lines}
 use Rattle.mesh.proofs.Tests.{either, same-test, and-both, and-of, or-either, or-left, or-right, true-not-false, false-of}
 use Rattle.mesh.proofs.Bytes.{step-byte, step-on}
 
@@ -153,3 +155,106 @@ pub fresh-drawn : {b₀ b₁ b₂ b₃ b₄ : List ℕ} {p q r s to : ℕ} → b
     (y k : ℕ) → stepOn b₄ y k ≡ ((eqb y p || eqb y q || eqb y r || eqb y s) && ltb k to)
 fresh-drawn e d₁ d₂ d₃ d₄ y k =
     rw (d₄ .on y k, d₃ .on y k, d₂ .on y k, d₁ .on y k, e, off 17161 y k, leb·zero k) (simp (and-true, and-or-distrib-right))
+
+-- what the tests of lines say
+pub record Allowed (L : Lines) : Type 0 where
+  pub w-most : L .w ≤ 128
+  pub h-most : L .h ≤ 128
+  pub count-most : L .count ≤ 60
+  pub splits : all (inRange (L .w) (L .h)) (splitsOf L) ≡ true
+
+pub allowed-says : (L : Lines) → allowed L ≡ true → Allowed L
+unfolding allowed
+allowed-says L e =
+    let p = and-both (allowedSide (L .w) && allowedSide (L .h) && leb (L .count) 60) (all (inRange (L .w) (L .h)) (splitsOf L)) e in
+    let q = and-both (allowedSide (L .w) && allowedSide (L .h)) (leb (L .count) 60) (p .0) in
+    let r = and-both (allowedSide (L .w)) (allowedSide (L .h)) (q .0) in
+    record {
+      w-most = most (L .w) (r .0);
+      h-most = most (L .h) (r .1);
+      count-most = leb-true (L .count) 60 (q .1);
+      splits = p .1;
+    }
+  where
+    most : (s : ℕ) → allowedSide s ≡ true → s ≤ 128
+    most s e = leb-true s 128 (and-both (leb 1 s) (leb s 128) e .1)
+
+fits-says : (crossed run : ℕ) (s : Split) → fits crossed run s ≡ true → (s .position < crossed) × (s .from < s .to) × (s .to ≤ run)
+fits-says crossed run s e =
+    let p = and-both (ltb 0 (s .position) && ltb (s .position) crossed && ltb (s .from) (s .to)) (leb (s .to) run) e in
+    let q = and-both (ltb 0 (s .position) && ltb (s .position) crossed) (ltb (s .from) (s .to)) (p .0) in
+    let r = and-both (ltb 0 (s .position)) (ltb (s .position) crossed) (q .0) in
+    (ltb-true (s .position) crossed (r .1), ltb-true (s .from) (s .to) (q .1), leb-true (s .to) run (p .1))
+
+pub in-range-says : (w h : ℕ) (d : Direction) (s : Split) → inRange w h s ≡ true → s .direction ≡ number d →
+    (s .position < side d w h) × (s .from < s .to) × (s .to ≤ side (other d) w h)
+unfolding inRange
+in-range-says w h upright s e q = fits-says w h s (rw q at e)
+in-range-says w h level s e q = fits-says h w s (rw q at e)
+
+pub direction-of : (n : ℕ) → n < 2 → (d : Direction) × (number d ≡ n)
+direction-of zero lt = (upright, refl)
+direction-of (suc zero) lt = (level, refl)
+direction-of (suc (suc n)) lt = absurd (omega arith)
+
+-- the side that lines run along is the one that they cross, of the two sides in the other order
+pub side-along : (d : Direction) (w h : ℕ) → side (other d) w h ≡ side d h w
+side-along upright w h = refl
+side-along level w h = refl
+
+-- Part of the way through the splits: the steps so far, and those of the splits from the i-th on, are the mesh.
+pub record Drawing (L : Lines) (direction i : ℕ) (steps : List ℕ) : Type 0 where
+  pub square : Square steps
+  pub within : i ≤ L .count
+  pub held : L .count ≤ 60
+  pub room : length (L .splits) ≡ 60
+  pub ranges : all (inRange (L .w) (L .h)) (drop i (splitsOf L)) ≡ true
+  pub on : (d : Direction) → number d ≡ direction → (z k : ℕ) →
+      (stepOn steps z k || any (draws (L .w) (L .h) d z k) (drop i (splitsOf L))) ≡ meshOf L d z k
+
+module _ (L : Lines) (direction : ℕ) where
+  pub drawing-none : (steps : List ℕ) → allowed L ≡ true → length (L .splits) ≡ 60 → Square steps →
+      ((d : Direction) → number d ≡ direction → (z k : ℕ) → stepOn steps z k ≡ freshMesh (L .w) (L .h) d z k) →
+      Drawing L direction 0 steps
+  unfolding mesh
+  drawing-none steps e room square fresh =
+      let a = allowed-says L e in
+      record {
+        square = square;
+        within = omega arith;
+        held = a .count-most;
+        room = room;
+        ranges = a .splits;
+        on = λ d same z k. rw (fresh d same z k);
+      }
+
+  module _ (i : ℕ) (before : List ℕ) (drawing : Drawing L direction i before) where
+    next : i < L .count → drop i (splitsOf L) ≡ getD (L .splits) i blank ∷ drop (i + 1) (splitsOf L)
+    next lt = left-turn (L .splits) blank (L .count) i (omega arith) lt
+
+    next-ranges : i < L .count →
+        (inRange (L .w) (L .h) (getD (L .splits) i blank) ≡ true) × (all (inRange (L .w) (L .h)) (drop (i + 1) (splitsOf L)) ≡ true)
+    next-ranges lt = and-both (inRange (L .w) (L .h) (getD (L .splits) i blank)) _ (rw (next lt) at (drawing .ranges))
+
+    -- the split that is next keeps to its ranges
+    pub drawing-next : i < L .count → inRange (L .w) (L .h) (getD (L .splits) i blank) ≡ true
+    drawing-next lt = next-ranges lt .0
+
+    pub drawing-more : (after : List ℕ) → i < L .count → Square after →
+        ((d : Direction) → number d ≡ direction → (z k : ℕ) →
+        stepOn after z k ≡ (stepOn before z k || draws (L .w) (L .h) d z k (getD (L .splits) i blank))) →
+        Drawing L direction (i + 1) after
+    drawing-more after lt square drawn =
+        record {
+          square = square;
+          within = omega arith;
+          held = drawing .held;
+          room = drawing .room;
+          ranges = next-ranges lt .1;
+          on = λ d same z k. rw (drawn d same z k, or-assoc) (rw (next lt) at (drawing .on d same z k));
+        }
+
+    pub drawing-done : L .count ≤ i → (d : Direction) → number d ≡ direction → (z k : ℕ) → stepOn before z k ≡ meshOf L d z k
+    drawing-done done d same z k =
+        let none = left-none (L .splits) (L .count) i (omega arith) done in
+        sym (or-false (stepOn before z k)) ∙ rw none at (drawing .on d same z k)

@@ -3,7 +3,7 @@ use crate::Lines;
 use crate::Split;
 ghost use mathlib.Core.Path.{_≡_};
 ghost use mathlib.Core.Bool.{true, _||_};
-ghost use Prim.Native.Nat.{ℕ, _+_, _≤_, _<_};
+ghost use Prim.Native.Nat.{ℕ, _+_, _≤_, _<_, max};
 ghost use Rattle.mesh.specs.Range.{every};
 ghost use Rattle.mesh.specs.Lines.{Direction, number, other, side, start, end, draws, allowedSide, fits, inRange, allowed, freshMesh, meshOf};
 ghost use Rattle.mesh.specs.Bytes.{Square, stepOn, Drawn, empty};
@@ -157,7 +157,7 @@ fn draw_fresh(crossed: usize, run: usize, steps: &mut [u8])
 
 // The side that lines of the direction cross.
 fn side_of(direction: usize, w: usize, h: usize) -> usize
-    ensures { λ r. ⌜ ((d : Direction) → number d ≡ direction → side d w h ≡ r) ⌝ }
+    ensures { λ r. ⌜ (r ≤ max w h) × ((d : Direction) → number d ≡ direction → side d w h ≡ r) ⌝ }
 {
     if direction == 0 {
         return w;

@@ -17,10 +17,11 @@ up upright w h ne = absurd (ne refl)
 up level w h ne = refl
 
 returns : tie.Need-returns
-returns c = λ d e. across d (c .before .args .w) (c .before .args .h) (e ∙ c .if1 .taken)
+returns c = (omega arith, λ d e. across d (c .before .args .w) (c .before .args .h) (e ∙ c .if1 .taken))
 
 returns-2 : tie.Need-returns-2
-returns-2 c = λ d e. up d (c .before .args .w) (c .before .args .h) (λ z. c .if1 .left (sym e ∙ z))
+returns-2 c =
+    (omega arith, λ d e. up d (c .before .args .w) (c .before .args .h) (λ z. c .if1 .left (sym e ∙ z)))
 
 pub side-of-spec : {M : Type 1} → statement M
 side-of-spec = tie.close (tie.spec returns returns-2)
