@@ -37,7 +37,7 @@ pub(crate) fn draw(steps: &mut [u8], z: usize, from: usize, to: usize)
     }
 }
 
-// Whether a split keeps to the ranges, of the side that it crosses and the side that it runs along.
+// Whether a split keeps to the side that it crosses and the side that it runs along.
 fn split_fits(crossed: usize, run: usize, s: Split) -> bool
     ensures { λ r. ⌜ r ≡ fits crossed run s ⌝ }
 {
@@ -126,7 +126,8 @@ fn last_knot(run: usize, s: Split) -> usize
 
 // Draws a split, with its run-out, if it has the direction.
 fn draw_split(s: Split, direction: usize, run: usize, steps: &mut [u8])
-    requires { ⌜ Square (now steps) × (run ≤ 128) × (s .direction ≡ direction → (s .position < 128) × (s .from < s .to) × (s .to ≤ run)) ⌝ }
+    requires { ⌜ Square (now steps) × (run ≤ 128) ×
+        (s .direction ≡ direction → (s .position < 128) × (s .from < s .to) × (s .to ≤ run)) ⌝ }
     ensures { λ _. ⌜ Square (now (steps .exit)) ×
         ((d : Direction) (w h : ℕ) → number d ≡ direction → side (other d) w h ≡ run → (z k : ℕ) →
         stepOn (now (steps .exit)) z k ≡ (stepOn (now (steps .entry)) z k || draws w h d z k s)) ⌝ }

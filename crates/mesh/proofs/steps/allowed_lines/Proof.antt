@@ -1,20 +1,16 @@
 -- `mesh::steps::allowed_lines` meets its contract. The invariant: the splits that are left decide the whole answer.
-use Prim.Native.Nat.{ℕ, _+_, _*_, _-_, _≤_, _<_}
+use Prim.Native.Nat.{_+_, _-_, _≤_}
 use native.Mathlib.Omega.{arith}
 use borrow.Author.Needs.{needs}
 use borrow.Author.Tests.{not-true, not-false, le-leb, lt-leb}
-use mathlib.Core.Path.{_≡_, refl, sym, ap, _∙_}
-use mathlib.Core.Bool.{Bool, true, false, _&&_}
+use mathlib.Core.Path.{_≡_, sym, _∙_}
+use mathlib.Core.Bool.{true, _&&_}
 use lib.ListN.{drop, length, length-map}
 use Rattle.mesh.specs.Range.{all}
 use Rattle.mesh.specs.Lines.{allowed, allowedSide, inRange, splitsOf}
 use Rattle.mesh.proofs.Drawing.{left-turn, left-none, blank}
 use Rattle.mesh.proofs.steps.allowed_lines.Statement.{statement}
 use Rattle.mesh.proofs.steps.allowed_lines.Tie as tie
-use Rattle.mesh.proofs.steps.allowed_lines.Reads as reads
-use Rattle.mesh.proofs.steps.allowed_lines.Lts as lts
-use Rattle.mesh.proofs.steps.allowed_side.Reads as allowed-side-reads
-use Rattle.mesh.proofs.steps.in_range.Reads as in-range-reads
 
 abbrev Inv-loop : tie.InvT-loop
 Inv-loop lines w h count i₀ i = (i ≤ count) × (allowed lines ≡ all (inRange w h) (drop i (splitsOf lines)))
@@ -77,7 +73,7 @@ turn c =
     let l = c .before .before .before .loop in
     let n = sixty s in
     l .inv .1 ∙ rw
-    (left-turn (s .args .t1 .splits) blank (s .args .t1 .count) (l .i) (omega arith) (omega arith), c .in-range .ensures)
+    (left-turn (s .args .t1 .splits) (s .args .t1 .count) (l .i) (omega arith) blank (omega arith), c .in-range .ensures)
 
 returns-4 : tie.Need-returns-4 Inv-loop μ-loop
 returns-4 c = sym (turn (c .before) ∙ rw (not-true (c .before .in-range .result) (c .if4 .taken)))

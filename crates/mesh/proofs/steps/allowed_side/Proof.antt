@@ -3,8 +3,6 @@ use native.Mathlib.Omega.{arith}
 use borrow.Author.Tests.{le-leb, lt-leb}
 use Rattle.mesh.proofs.steps.allowed_side.Statement.{statement}
 use Rattle.mesh.proofs.steps.allowed_side.Tie as tie
-use Rattle.mesh.proofs.steps.allowed_side.Reads as reads
-use Rattle.mesh.proofs.steps.allowed_side.Lts as lts
 
 returns : tie.Need-returns
 returns c = rw (lt-leb 1 (c .before .args .side) (omega arith))

@@ -1,13 +1,10 @@
 -- `mesh::steps::draw` meets its contract. The invariant: the line is drawn as far as k.
-use Prim.Native.Nat.{ℕ, _+_, _*_, _-_, _≤_, _<_, max}
+use Prim.Native.Nat.{_-_, _≤_, max}
 use native.Mathlib.Omega.{arith}
-use lib.ListN.{length}
-use Rattle.mesh.specs.Bytes.{Drawn, at}
+use Rattle.mesh.specs.Bytes.{Drawn}
 use Rattle.mesh.proofs.Drawing.{drawn-none, drawn-more, drawn-until}
 use Rattle.mesh.proofs.steps.draw.Statement.{statement}
 use Rattle.mesh.proofs.steps.draw.Tie as tie
-use Rattle.mesh.proofs.steps.draw.Reads as reads
-use Rattle.mesh.proofs.steps.draw.Lts as lts
 
 abbrev Inv-loop : tie.InvT-loop
 Inv-loop steps₀ z from to k₀ steps k = (from ≤ k) × (k ≤ max from to) × Drawn steps₀ steps z from k

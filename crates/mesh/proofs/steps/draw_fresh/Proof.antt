@@ -5,9 +5,6 @@ use Rattle.mesh.specs.Lines.{freshMesh}
 use Rattle.mesh.proofs.Drawing.{empty-square, fresh-drawn}
 use Rattle.mesh.proofs.steps.draw_fresh.Statement.{statement}
 use Rattle.mesh.proofs.steps.draw_fresh.Tie as tie
-use Rattle.mesh.proofs.steps.draw_fresh.Reads as reads
-use Rattle.mesh.proofs.steps.draw_fresh.Lts as lts
-use Rattle.mesh.proofs.steps.draw.Reads as draw-reads
 
 add-to : tie.Need-add-to
 add-to c = search needs

@@ -1,18 +1,13 @@
 -- `mesh::steps::draw_lines` meets its contract. The invariant: the steps so far, and those of the splits that are left, are the mesh.
-use Prim.Native.Nat.{ℕ, _+_, _*_, _-_, _≤_, _<_}
+use Prim.Native.Nat.{_-_}
 use native.Mathlib.Omega.{arith}
 use borrow.Author.Needs.{needs}
-use mathlib.Core.Path.{_≡_, refl, sym, ap, _∙_}
+use mathlib.Core.Path.{_≡_, sym, _∙_}
 use lib.ListN.{length, length-map}
 use Rattle.mesh.specs.Lines.{Direction, number, other, side}
-use Rattle.mesh.proofs.Drawing.{empty-square, allowed-says, in-range-says, direction-of, side-along, Drawing, drawing-none, drawing-next, drawing-more, drawing-done}
+use Rattle.mesh.proofs.Drawing.{empty-square, allowed-says, in-range-says, direction-of, side-along, Drawing, drawing-none, drawing-ranges, drawing-more, drawing-done}
 use Rattle.mesh.proofs.steps.draw_lines.Statement.{statement}
 use Rattle.mesh.proofs.steps.draw_lines.Tie as tie
-use Rattle.mesh.proofs.steps.draw_lines.Reads as reads
-use Rattle.mesh.proofs.steps.draw_lines.Lts as lts
-use Rattle.mesh.proofs.steps.draw_fresh.Reads as draw-fresh-reads
-use Rattle.mesh.proofs.steps.draw_split.Reads as draw-split-reads
-use Rattle.mesh.proofs.steps.side_of.Reads as side-of-reads
 
 abbrev Inv-loop : tie.InvT-loop
 Inv-loop direction steps₀ lines w h crossed run count i₀ steps i = Drawing lines direction i steps
@@ -37,8 +32,11 @@ sixty c = simp length-map at (c .good .0 .1 .1 .1 .1 .1 .0 .1 .0 .1)
 
 -- the side that the lines run along
 along : (c : tie.After-side-of2 Inv-loop μ-loop) (d : Direction) →
-    let a = c .before .before .before .args in number d ≡ a .direction → side (other d) (a .t1 .w) (a .t1 .h) ≡ c .side-of2 .result
-along c d same = let L = c .before .before .before .args .t1 in side-along d (L .w) (L .h) ∙ c .side-of2 .ensures .1 d same
+    let a = c .before .before .before .args in
+    number d ≡ a .direction → side (other d) (a .t1 .w) (a .t1 .h) ≡ c .side-of2 .result
+along c d same =
+    let L = c .before .before .before .args .t1 in
+    side-along d (L .w) (L .h) ∙ c .side-of2 .ensures .1 d same
 
 loop-holds : tie.Need-loop-holds Inv-loop μ-loop
 loop-holds c =
@@ -48,7 +46,8 @@ loop-holds c =
     let start = crossed .before .before in
     let L = start .args .t1 in
     drawing-none L (start .args .direction) _ (start .pre .0) (sixty start) (fresh .draw-fresh .ensures .0)
-    (λ d same. fresh .draw-fresh .ensures .1 d (L .w) (L .h) (crossed .side-of .ensures .1 d same) (along run d same))
+    (λ d same. fresh .draw-fresh .ensures .1 d (L .w) (L .h)
+    (crossed .side-of .ensures .1 d same) (along run d same))
 
 mul-s : tie.Need-mul-s Inv-loop μ-loop
 mul-s c = omega arith
@@ -68,7 +67,8 @@ draw-split-requires c κs =
       l .inv .square,
       omega arith,
       λ e.
-          let r = in-range-says (L .w) (L .h) (dir .0) _ (drawing-next L _ (l .i) (l .steps) (l .inv) (omega arith)) (e ∙ sym (dir .1)) in
+          let s = drawing-ranges L _ (l .i) (l .steps) (l .inv) (omega arith) .0 in
+          let r = in-range-says (L .w) (L .h) (dir .0) _ s (e ∙ sym (dir .1)) in
           let across = crossed .side-of .ensures .1 (dir .0) (dir .1) in
           let up = along run (dir .0) (dir .1) in
           omega arith,
@@ -86,7 +86,8 @@ loop-again c =
     let l = c .before .before .before .before .before .before .loop in
     let run = c .before .before .before .before .before .before .before .before .before .before .before in
     let L = run .before .before .before .args .t1 in
-    drawing-more L _ (l .i) (l .steps) (l .inv) _ (omega arith) (drawn .ensures .0) (λ d same. drawn .ensures .1 d (L .w) (L .h) same (along run d same))
+    drawing-more L _ (l .i) (l .steps) (l .inv) _ (omega arith) (drawn .ensures .0)
+    (λ d same. drawn .ensures .1 d (L .w) (L .h) same (along run d same))
 
 same-length : tie.Need-same-length Inv-loop μ-loop
 same-length c =

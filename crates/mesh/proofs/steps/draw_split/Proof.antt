@@ -1,20 +1,16 @@
-use borrow.Author.Needs.{needs}
+-- `mesh::steps::draw_split` meets its contract: a split of the direction is one line, and any other is passed.
+use Prim.Native.Nat.{_≤_, _<_}
 use native.Mathlib.Omega.{arith}
 use borrow.Author.Needs.{needs}
-use Prim.Native.Nat.{ℕ, _≤_, _<_}
 use mathlib.Core.Path.{refl}
 use Rattle.mesh.proofs.Drawing.{split-drawn, split-passed}
 use Rattle.mesh.proofs.steps.draw_split.Statement.{statement}
 use Rattle.mesh.proofs.steps.draw_split.Tie as tie
-use Rattle.mesh.proofs.steps.draw_split.Reads as reads
-use Rattle.mesh.proofs.steps.draw_split.Lts as lts
-use Rattle.mesh.proofs.steps.draw.Reads as draw-reads
-use Rattle.mesh.proofs.steps.first_knot.Reads as first-knot-reads
-use Rattle.mesh.proofs.steps.last_knot.Reads as last-knot-reads
 
 -- the ranges of a split of the direction
 ranges : (c : tie.Then1) →
-    let s = c .before .before .before .args .s in (s .position < 128) × (s .from < s .to) × (s .to ≤ c .before .before .before .args .run)
+    let a = c .before .before .before .args in
+    (a .s .position < 128) × (a .s .from < a .s .to) × (a .s .to ≤ a .run)
 ranges c = c .before .before .before .pre .2 (c .if1 .taken)
 
 add-at : tie.Need-add-at
@@ -48,8 +44,11 @@ returns c =
 returns-2 : tie.Need-returns-2
 returns-2 c =
     let start = c .before .before .before in
-    let a = start .args in
-    (start .pre .0, λ d w h same along. split-passed (a .s) (a .direction) d w h same (a .steps .now) (c .if1 .left))
+    let a = start .args in (
+      start .pre .0,
+      λ d w h same along.
+          split-passed (a .s) (a .direction) d w h same (a .steps .now) (c .if1 .left),
+    )
 
 pub draw-split-spec : {M : Type 1} → statement M
 draw-split-spec =

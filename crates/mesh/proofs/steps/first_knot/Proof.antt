@@ -3,8 +3,6 @@ use borrow.Author.Needs.{needs}
 use borrow.Author.Tests.{eq-eqb, ne-eqb}
 use Rattle.mesh.proofs.steps.first_knot.Statement.{statement}
 use Rattle.mesh.proofs.steps.first_knot.Tie as tie
-use Rattle.mesh.proofs.steps.first_knot.Reads as reads
-use Rattle.mesh.proofs.steps.first_knot.Lts as lts
 
 returns : tie.Need-returns
 returns c = rw (eq-eqb _ _ (c .if1 .taken))

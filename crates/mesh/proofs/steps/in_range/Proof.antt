@@ -4,9 +4,6 @@ use borrow.Author.Tests.{eq-eqb, ne-eqb}
 use Rattle.mesh.specs.Lines.{inRange}
 use Rattle.mesh.proofs.steps.in_range.Statement.{statement}
 use Rattle.mesh.proofs.steps.in_range.Tie as tie
-use Rattle.mesh.proofs.steps.in_range.Reads as reads
-use Rattle.mesh.proofs.steps.in_range.Lts as lts
-use Rattle.mesh.proofs.steps.split_fits.Reads as split-fits-reads
 
 split-fits-requires : tie.Need-split-fits-requires
 split-fits-requires c κs = search needs

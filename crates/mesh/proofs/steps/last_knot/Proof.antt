@@ -4,8 +4,6 @@ use borrow.Author.Needs.{needs}
 use borrow.Author.Tests.{eq-eqb, ne-eqb}
 use Rattle.mesh.proofs.steps.last_knot.Statement.{statement}
 use Rattle.mesh.proofs.steps.last_knot.Tie as tie
-use Rattle.mesh.proofs.steps.last_knot.Reads as reads
-use Rattle.mesh.proofs.steps.last_knot.Lts as lts
 
 add-result : tie.Need-add-result
 add-result c = search needs

@@ -5,8 +5,6 @@ use mathlib.Core.Path.{_≡_, refl, sym, _∙_}
 use Rattle.mesh.specs.Lines.{Direction, upright, level, number, side}
 use Rattle.mesh.proofs.steps.side_of.Statement.{statement}
 use Rattle.mesh.proofs.steps.side_of.Tie as tie
-use Rattle.mesh.proofs.steps.side_of.Reads as reads
-use Rattle.mesh.proofs.steps.side_of.Lts as lts
 
 across : (d : Direction) (w h : ℕ) → number d ≡ 0 → side d w h ≡ w
 across upright w h e = refl

@@ -3,8 +3,6 @@ use native.Mathlib.Omega.{arith}
 use borrow.Author.Tests.{lt-ltb, le-ltb}
 use Rattle.mesh.proofs.steps.split_fits.Statement.{statement}
 use Rattle.mesh.proofs.steps.split_fits.Tie as tie
-use Rattle.mesh.proofs.steps.split_fits.Reads as reads
-use Rattle.mesh.proofs.steps.split_fits.Lts as lts
 
 returns : tie.Need-returns
 returns c = let s = c .before .before .args .s in rw (le-ltb 0 (s .position) (omega arith))
