@@ -3,9 +3,9 @@ use crate::Lines;
 use crate::Split;
 ghost use mathlib.Core.Path.{_≡_};
 ghost use mathlib.Core.Bool.{true, _||_};
-ghost use Prim.Native.Nat.{ℕ, _+_, _≤_, _<_};
+ghost use Prim.Native.Nat.{ℕ, _+_, _≤_, _<_, max};
 ghost use Rattle.mesh.specs.Range.{every};
-ghost use Rattle.mesh.specs.Lines.{Direction, number, other, side, draws, inRange, allowed, meshOf};
+ghost use Rattle.mesh.specs.Lines.{Direction, number, other, side, start, end, draws, allowedSide, fits, inRange, allowed, freshMesh, meshOf};
 ghost use Rattle.mesh.specs.Bytes.{Square, stepOn, Drawn, empty};
 
 // Whether the line at knot z is on at each of the n steps from knot b on.
@@ -37,20 +37,43 @@ pub(crate) fn draw(steps: &mut [u8], z: usize, from: usize, to: usize)
     }
 }
 
-// Whether a split keeps to the ranges of the sides.
+// Whether a split keeps to the side that it crosses and the side that it runs along.
+fn split_fits(crossed: usize, run: usize, s: Split) -> bool
+    ensures { λ r. ⌜ r ≡ fits crossed run s ⌝ }
+{
+    if s.position < 1 {
+        return false;
+    }
+    if crossed <= s.position {
+        return false;
+    }
+    if s.to <= s.from {
+        return false;
+    }
+    s.to <= run
+}
+
+// Whether a split has a direction, and keeps to the ranges of the sides.
 pub(crate) fn in_range(w: usize, h: usize, s: Split) -> bool
     ensures { λ r. ⌜ r ≡ inRange w h s ⌝ }
 {
-    let mut crossed = w;
-    let mut run = h;
-    if s.direction != 0 {
-        if s.direction != 1 {
-            return false;
-        }
-        crossed = h;
-        run = w;
+    if s.direction == 0 {
+        return split_fits(w, h, s);
     }
-    0 < s.position && s.position < crossed && s.from < s.to && s.to <= run
+    if s.direction == 1 {
+        return split_fits(h, w, s);
+    }
+    false
+}
+
+// Whether a side keeps to its range.
+fn allowed_side(side: usize) -> bool
+    ensures { λ r. ⌜ r ≡ allowedSide side ⌝ }
+{
+    if side < 1 {
+        return false;
+    }
+    side <= 128
 }
 
 // Whether sides, count and splits keep to their ranges.
@@ -60,7 +83,13 @@ pub(crate) fn allowed_lines(lines: Lines) -> bool
     let w = lines.w;
     let h = lines.h;
     let count = lines.count;
-    if w < 1 || 128 < w || h < 1 || 128 < h || 60 < count {
+    if !allowed_side(w) {
+        return false;
+    }
+    if !allowed_side(h) {
+        return false;
+    }
+    if 60 < count {
         return false;
     }
     let mut i = 0;
@@ -74,24 +103,67 @@ pub(crate) fn allowed_lines(lines: Lines) -> bool
     true
 }
 
+// The first and the last knot of a split: a drawn end at a side runs out.
+fn first_knot(s: Split) -> usize
+    requires { ⌜ s .from < 128 ⌝ }
+    ensures { λ r. ⌜ r ≡ start s ⌝ }
+{
+    if s.from == 0 {
+        return 0;
+    }
+    s.from + 1
+}
+
+fn last_knot(run: usize, s: Split) -> usize
+    requires { ⌜ (s .to ≤ run) × (run ≤ 128) ⌝ }
+    ensures { λ r. ⌜ (r ≡ end run s) × (r ≤ 130) ⌝ }
+{
+    if s.to == run {
+        return run + 2;
+    }
+    s.to + 1
+}
+
 // Draws a split, with its run-out, if it has the direction.
 fn draw_split(s: Split, direction: usize, run: usize, steps: &mut [u8])
-    requires { ⌜ Square (now steps) × (s .position < 128) × (s .from < s .to) × (s .to ≤ run) × (run ≤ 128) × (direction < 2) ⌝ }
+    requires { ⌜ Square (now steps) × (run ≤ 128) ×
+        (s .direction ≡ direction → (s .position < 128) × (s .from < s .to) × (s .to ≤ run)) ⌝ }
     ensures { λ _. ⌜ Square (now (steps .exit)) ×
         ((d : Direction) (w h : ℕ) → number d ≡ direction → side (other d) w h ≡ run → (z k : ℕ) →
         stepOn (now (steps .exit)) z k ≡ (stepOn (now (steps .entry)) z k || draws w h d z k s)) ⌝ }
 {
     if s.direction == direction {
-        let mut from = s.from + 1;
-        if s.from == 0 {
-            from = 0;
-        }
-        let mut to = s.to + 1;
-        if s.to == run {
-            to = run + 2;
-        }
-        draw(steps, s.position + 1, from, to);
+        let at = s.position + 1;
+        let from = first_knot(s);
+        let to = last_knot(run, s);
+        draw(steps, at, from, to);
     }
+}
+
+// Draws the fresh map's lines of one direction, over a mesh with none.
+fn draw_fresh(crossed: usize, run: usize, steps: &mut [u8])
+    requires { ⌜ (now steps ≡ empty) × (crossed ≤ 128) × (run ≤ 128) ⌝ }
+    ensures { λ _. ⌜ Square (now (steps .exit)) ×
+        ((d : Direction) (w h : ℕ) → side d w h ≡ crossed → side (other d) w h ≡ run → (z k : ℕ) →
+        stepOn (now (steps .exit)) z k ≡ freshMesh w h d z k) ⌝ }
+{
+    let to = run + 2;
+    let far = crossed + 1;
+    let beyond = crossed + 2;
+    draw(steps, 0, 0, to);
+    draw(steps, 1, 0, to);
+    draw(steps, far, 0, to);
+    draw(steps, beyond, 0, to);
+}
+
+// The side that lines of the direction cross.
+fn side_of(direction: usize, w: usize, h: usize) -> usize
+    ensures { λ r. ⌜ (r ≤ max w h) × ((d : Direction) → number d ≡ direction → side d w h ≡ r) ⌝ }
+{
+    if direction == 0 {
+        return w;
+    }
+    h
 }
 
 // Draws the lines of one direction: the fresh map's, and each split's with its run-out.
@@ -100,16 +172,11 @@ pub(crate) fn draw_lines(lines: Lines, direction: usize, steps: &mut [u8])
     ensures { λ _. ⌜ Square (now (steps .exit)) ×
         ((d : Direction) → number d ≡ direction → (z k : ℕ) → stepOn (now (steps .exit)) z k ≡ meshOf lines d z k) ⌝ }
 {
-    let mut crossed = lines.w;
-    let mut run = lines.h;
-    if direction == 1 {
-        crossed = lines.h;
-        run = lines.w;
-    }
-    draw(steps, 0, 0, run + 2);
-    draw(steps, 1, 0, run + 2);
-    draw(steps, crossed + 1, 0, run + 2);
-    draw(steps, crossed + 2, 0, run + 2);
+    let w = lines.w;
+    let h = lines.h;
+    let crossed = side_of(direction, w, h);
+    let run = side_of(direction, h, w);
+    draw_fresh(crossed, run, steps);
     let count = lines.count;
     let mut i = 0;
     while i < count {

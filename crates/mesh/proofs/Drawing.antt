@@ -1,0 +1,274 @@
+-- What a store, a line and a split do to the steps of a mesh in bytes.
+use Prim.Native.Nat.{ℕ, zero, suc, _+_, _≤_, _<_, max}
+use native.Mathlib.Omega.{arith}
+use native.Mathlib.Numerals.{add-one}
+use mathlib.Core.Path.{_≡_, refl, sym, ap, _∙_}
+use mathlib.Core.Logic.{⊎-elim}
+use mathlib.Core.Bool.{Bool, true, false, _&&_, _||_, or-false, or-assoc, and-true, and-false, and-or-distrib-right}
+use mathlib.Core.List.{List, [], _∷_}
+use borrow.Author.Tests.{ltb-true, ltb-false, leb-true, eqb-true, eqb-false, lt-ltb, le-ltb, le-leb, eq-eqb, ne-eqb}
+use lib.Dec.{eqb, ltb, leb, leb·zero}
+use lib.ListN.{length, getD, set, take, drop, replicate, length-set, length-replicate, getD-replicate, drop-of-length-le, List·getD-eq-default}
+use lib.Seq.{getD-set-same, getD-set-other, getD-take, length-take-le, drop-cons}
+use Rattle.mesh.specs.Range.{all, any}
+use Rattle.mesh.specs.Lines.{Direction, upright, level, number, other, side, start, end, draws, allowedSide, fits, inRange, allowed, splitsOf, freshMesh, mesh, meshOf}
+use Rattle.mesh.specs.Bytes.{Square, stepOn, at, Drawn, empty}
+use Rattle.mesh.specs.declared.Split.{Split}
+use Rattle.mesh.specs.declared.Lines.{Lines}
+use Rattle.mesh.proofs.Tests.{either, same-test, and-both, and-of, or-either, or-left, or-right, true-not-false}
+use Rattle.mesh.proofs.Bytes.{step-on}
+
+-- two tests after the same two, equal where those hold
+guarded : (a b c d : Bool) → (a ≡ true → b ≡ true → c ≡ d) → (a && b && c) ≡ (a && b && d)
+guarded true true c d f = f refl refl
+guarded true false c d f = refl
+guarded false b c d f = refl
+
+-- a step whose byte is the same in two tables, where it has one, is the same
+step-same : (before after : List ℕ) (y j : ℕ) →
+    (y < 131 → j < 131 → getD after (at y j) 0 ≡ getD before (at y j) 0) → stepOn after y j ≡ stepOn before y j
+unfolding stepOn
+step-same before after y j same =
+    guarded (ltb y 131) (ltb j 131) _ _ (λ p q. rw (same (ltb-true y 131 p) (ltb-true j 131 q)))
+
+-- Places of the table are one-to-one, so a store at one switches on its own step and no other.
+pub step-set : (bytes : List ℕ) (z k : ℕ) → Square bytes → z < 131 → k < 131 → (y j : ℕ) →
+    stepOn (set bytes (at z k) 1) y j ≡ (stepOn bytes y j || (eqb y z && eqb j k))
+step-set bytes z k square hz hk y j =
+    ⊎-elim
+    (λ e. here e ∙ sym (or-right (stepOn bytes y j) _ e))
+    (λ e. elsewhere e ∙ sym (rw e (or-false (stepOn bytes y j))))
+    (either (eqb y z && eqb j k))
+  where
+    here : (eqb y z && eqb j k) ≡ true → stepOn (set bytes (at z k) 1) y j ≡ true
+    here e =
+        let p = and-both (eqb y z) (eqb j k) e in
+        let one : getD (set bytes (at z k) 1) (at z k) 0 ≡ 1 = getD-set-same bytes (at z k) 1 0 (omega arith) in
+        rw (eqb-true y z (p .0), eqb-true j k (p .1))
+        (step-on (set bytes (at z k) 1) z k hz hk (λ q. omega arith))
+
+    elsewhere : (eqb y z && eqb j k) ≡ false → stepOn (set bytes (at z k) 1) y j ≡ stepOn bytes y j
+    elsewhere e =
+        let apart : y < 131 → j < 131 → at y j ≡ at z k → ⊥ =
+        λ hy hj q. true-not-false _ (and-of _ _ (eq-eqb y z (omega arith)) (eq-eqb j k (omega arith))) e in
+        step-same bytes (set bytes (at z k) 1) y j (λ hy hj. getD-set-other bytes (at z k) (at y j) 1 0 (apart hy hj))
+
+-- a line from a knot to itself has no step
+pub drawn-none : (bytes : List ℕ) (z from : ℕ) → Square bytes → Drawn bytes bytes z from from
+drawn-none bytes z from square =
+    record {
+      square = square;
+      on = λ y j. sym (ap (λ (b : Bool). stepOn bytes y j || b) (none y j) ∙ or-false (stepOn bytes y j));
+    }
+  where
+    none : (y j : ℕ) → (eqb y z && leb from j && ltb j from) ≡ false
+    none y j =
+        guarded (eqb y z) (leb from j) (ltb j from) false (λ p q. le-ltb j from (leb-true from j q)) ∙
+        and-false (eqb y z && leb from j)
+
+-- a line drawn as far as knot k, and the step from k besides
+pub drawn-more : {before after : List ℕ} {z from k : ℕ} → Drawn before after z from k → from ≤ k → z < 131 → k < 131 →
+    Drawn before (set after (at z k) 1) z from (k + 1)
+drawn-more {before} {after} {z} {from} {k} d hf hz hk =
+    record {
+      square = rw length-set (d .square);
+      on = λ y j.
+          rw (step-set after z k (d .square) hz hk y j, d .on y j, or-assoc, spread _ _ _ _ (past j), next j);
+    }
+  where
+    past : (j : ℕ) → eqb j k ≡ true → leb from j ≡ true
+    past j e = let q = eqb-true j k e in le-leb from j (omega arith)
+
+    next : (j : ℕ) → ltb j (k + 1) ≡ (ltb j k || eqb j k)
+    next j =
+        same-test _ _
+        (λ e. let lt = ltb-true j (k + 1) e in
+        ⊎-elim
+        (λ q. or-right (ltb j k) (eqb j k) q)
+        (λ q. let ne = eqb-false j k q in or-left (ltb j k) (eqb j k) (lt-ltb j k (omega arith)))
+        (either (eqb j k)))
+        (λ e. lt-ltb j (k + 1)
+        (⊎-elim (λ q. omega (arith, ltb-true j k q)) (λ q. omega (arith, eqb-true j k q)) (or-either (ltb j k) (eqb j k) e)))
+
+    spread : (a b c e : Bool) → (e ≡ true → b ≡ true) → (a && b && c || a && e) ≡ (a && b && (c || e))
+    spread true true c e f = refl
+    spread true false c true f = sym (f refl)
+    spread true false c false f = refl
+    spread false b c e f = refl
+
+-- A line drawn as far as knot k is drawn as far as `to`, where k is the first knot from `from` on that is not below `to`.
+pub drawn-until : {before after : List ℕ} {z from k to : ℕ} → Drawn before after z from k → to ≤ k → k ≤ max from to →
+    Drawn before after z from to
+drawn-until {before} {after} {z} {from} {k} {to} d lo hi =
+    record {
+      square = d .square;
+      on = λ y j. d .on y j ∙ ap (λ (b : Bool). stepOn before y j || b)
+          (guarded (eqb y z) (leb from j) (ltb j k) (ltb j to) (λ p q. below j (leb-true from j q)));
+    }
+  where
+    below : (j : ℕ) → from ≤ j → ltb j k ≡ ltb j to
+    below j le =
+        same-test _ _
+        (λ e. let lt = ltb-true j k e in lt-ltb j to (omega arith))
+        (λ e. let lt = ltb-true j to e in lt-ltb j k (omega arith))
+
+-- bytes that are all 0 have no step on
+off : (n y k : ℕ) → stepOn (replicate n 0) y k ≡ false
+unfolding stepOn
+off n y k = rw (all-zero (at y k)) (and-false (ltb y 131 && ltb k 131))
+  where
+    all-zero : (i : ℕ) → _≡_ {A = ℕ} (getD (replicate n 0) i 0) 0
+    all-zero i =
+        ⊎-elim
+        (λ e. getD-replicate n i 0 0 (ltb-true i n e))
+        (λ e. List·getD-eq-default (replicate n 0) 0 (rw length-replicate (ltb-false i n e)))
+        (either (ltb i n))
+
+pub empty-square : {bytes : List ℕ} → bytes ≡ empty → Square bytes
+empty-square e = ap length e ∙ length-replicate {A = ℕ} 17161 0
+
+-- four lines over no steps, as a fresh map has them
+pub fresh-drawn : {b₀ b₁ b₂ b₃ b₄ : List ℕ} {p q r s to : ℕ} → b₀ ≡ empty →
+    Drawn b₀ b₁ p 0 to → Drawn b₁ b₂ q 0 to → Drawn b₂ b₃ r 0 to → Drawn b₃ b₄ s 0 to →
+    (y k : ℕ) → stepOn b₄ y k ≡ ((eqb y p || eqb y q || eqb y r || eqb y s) && ltb k to)
+fresh-drawn e d₁ d₂ d₃ d₄ y k =
+    rw (d₄ .on y k, d₃ .on y k, d₂ .on y k, d₁ .on y k, e, off 17161 y k, leb·zero k)
+    (simp (and-true, and-or-distrib-right))
+
+-- A split's line, from its first knot to its last, is what the split draws; a split of the other direction draws nothing.
+module _ (s : Split) (direction : ℕ) (d : Direction) (w h : ℕ) (same : number d ≡ direction) where
+  pub split-drawn : {before after : List ℕ} {z from to : ℕ} (run : ℕ) → Drawn before after z from to →
+      s .direction ≡ direction → z ≡ s .position + 1 → from ≡ start s → to ≡ end run s → side (other d) w h ≡ run →
+      (y k : ℕ) → stepOn after y k ≡ (stepOn before y k || draws w h d y k s)
+  unfolding draws
+  split-drawn run drawn e ez ef et er y k =
+      let n : s .direction ≡ number d = e ∙ sym same in
+      rw (drawn .on y k, eq-eqb _ _ n, ez, ef, et, er)
+
+  pub split-passed : (bytes : List ℕ) → (s .direction ≡ direction → ⊥) →
+      (y k : ℕ) → stepOn bytes y k ≡ (stepOn bytes y k || draws w h d y k s)
+  unfolding draws
+  split-passed bytes ne y k =
+      let n : eqb (s .direction) (number d) ≡ false = ne-eqb _ _ (λ e. ne (e ∙ same)) in
+      sym (rw n (or-false (stepOn bytes y k)))
+
+-- the number of a direction, and the sides of lines that have it
+pub direction-of : (n : ℕ) → n < 2 → (d : Direction) × (number d ≡ n)
+direction-of zero lt = (upright, refl)
+direction-of (suc zero) lt = (level, refl)
+direction-of (suc (suc n)) lt = absurd (omega arith)
+
+pub side-along : (d : Direction) (w h : ℕ) → side (other d) w h ≡ side d h w
+side-along upright w h = refl
+side-along level w h = refl
+
+-- what the tests of lines say
+pub record Allowed (L : Lines) : Type 0 where
+  pub across : (1 ≤ L .w) × (L .w ≤ 128)
+  pub up : (1 ≤ L .h) × (L .h ≤ 128)
+  pub held : L .count ≤ 60
+  pub ranges : all (inRange (L .w) (L .h)) (splitsOf L) ≡ true
+
+pub allowed-says : (L : Lines) → allowed L ≡ true → Allowed L
+unfolding allowed
+allowed-says L e =
+    let sides = allowedSide (L .w) && allowedSide (L .h) in
+    let p = and-both (sides && leb (L .count) 60) (all (inRange (L .w) (L .h)) (splitsOf L)) e in
+    let q = and-both sides (leb (L .count) 60) (p .0) in
+    let r = and-both (allowedSide (L .w)) (allowedSide (L .h)) (q .0) in
+    record {
+      across = range (L .w) (r .0);
+      up = range (L .h) (r .1);
+      held = leb-true (L .count) 60 (q .1);
+      ranges = p .1;
+    }
+  where
+    range : (s : ℕ) → allowedSide s ≡ true → (1 ≤ s) × (s ≤ 128)
+    range s e = let p = and-both (leb 1 s) (leb s 128) e in (leb-true 1 s (p .0), leb-true s 128 (p .1))
+
+fits-says : (crossed run : ℕ) (s : Split) → fits crossed run s ≡ true →
+    (s .position < crossed) × (s .from < s .to) × (s .to ≤ run)
+fits-says crossed run s e =
+    let place = ltb 0 (s .position) && ltb (s .position) crossed in
+    let p = and-both (place && ltb (s .from) (s .to)) (leb (s .to) run) e in
+    let q = and-both place (ltb (s .from) (s .to)) (p .0) in
+    let r = and-both (ltb 0 (s .position)) (ltb (s .position) crossed) (q .0) in
+    (ltb-true (s .position) crossed (r .1), ltb-true (s .from) (s .to) (q .1), leb-true (s .to) run (p .1))
+
+pub in-range-says : (w h : ℕ) (d : Direction) (s : Split) → inRange w h s ≡ true → s .direction ≡ number d →
+    (s .position < side d w h) × (s .from < s .to) × (s .to ≤ side (other d) w h)
+unfolding inRange
+in-range-says w h upright s e q = fits-says w h s (rw q at e)
+in-range-says w h level s e q = fits-says h w s (rw q at e)
+
+-- the first n entries of a list, one by one, as a loop takes them
+module _ {ℓ} {A : Type ℓ} (xs : List A) (n i : ℕ) (le : n ≤ length xs) where
+  pub left-turn : (d : A) → i < n → drop i (take n xs) ≡ getD xs i d ∷ drop (i + 1) (take n xs)
+  left-turn d lt =
+      let h : i < length (take n xs) = rw (length-take-le n xs le) lt in
+      rw (drop-cons (take n xs) i d h, getD-take n xs i d lt, add-one)
+
+  pub left-none : n ≤ i → drop i (take n xs) ≡ []
+  left-none done =
+      let h : length (take n xs) ≤ i = rw (length-take-le n xs le) done in
+      drop-of-length-le (take n xs) h
+
+-- what an array of splits reads as past its end
+abbrev pub blank : Split
+blank = record { direction = 0; position = 0; from = 0; to = 0 }
+
+-- Part of the way through the splits: the steps so far, and those of the splits from the i-th on, are the mesh.
+pub record Drawing (L : Lines) (direction i : ℕ) (steps : List ℕ) : Type 0 where
+  pub square : Square steps
+  pub within : i ≤ L .count
+  pub held : L .count ≤ 60
+  pub room : length (L .splits) ≡ 60
+  pub ranges : all (inRange (L .w) (L .h)) (drop i (splitsOf L)) ≡ true
+  pub on : (d : Direction) → number d ≡ direction → (z k : ℕ) →
+      (stepOn steps z k || any (draws (L .w) (L .h) d z k) (drop i (splitsOf L))) ≡ meshOf L d z k
+
+module _ (L : Lines) (direction : ℕ) where
+  pub drawing-none : (steps : List ℕ) → allowed L ≡ true → length (L .splits) ≡ 60 → Square steps →
+      ((d : Direction) → number d ≡ direction → (z k : ℕ) → stepOn steps z k ≡ freshMesh (L .w) (L .h) d z k) →
+      Drawing L direction 0 steps
+  unfolding mesh
+  drawing-none steps e room square fresh =
+      let a = allowed-says L e in
+      record {
+        square = square;
+        within = omega arith;
+        held = a .held;
+        room = room;
+        ranges = a .ranges;
+        on = λ d same z k. rw (fresh d same z k);
+      }
+
+  module _ (i : ℕ) (steps : List ℕ) (drawing : Drawing L direction i steps) where
+    turn : i < L .count → drop i (splitsOf L) ≡ getD (L .splits) i blank ∷ drop (i + 1) (splitsOf L)
+    turn lt = left-turn (L .splits) (L .count) i (omega arith) blank lt
+
+    -- the next split keeps to its ranges, and so do those after it
+    pub drawing-ranges : i < L .count →
+        (inRange (L .w) (L .h) (getD (L .splits) i blank) ≡ true) ×
+        (all (inRange (L .w) (L .h)) (drop (i + 1) (splitsOf L)) ≡ true)
+    drawing-ranges lt = and-both (inRange (L .w) (L .h) (getD (L .splits) i blank)) _ (rw (turn lt) at (drawing .ranges))
+
+    pub drawing-more : (after : List ℕ) → i < L .count → Square after →
+        ((d : Direction) → number d ≡ direction → (z k : ℕ) →
+        stepOn after z k ≡ (stepOn steps z k || draws (L .w) (L .h) d z k (getD (L .splits) i blank))) →
+        Drawing L direction (i + 1) after
+    drawing-more after lt square drawn =
+        record {
+          square = square;
+          within = omega arith;
+          held = drawing .held;
+          room = drawing .room;
+          ranges = drawing-ranges lt .1;
+          on = λ d same z k. rw (drawn d same z k, or-assoc) (rw (turn lt) at (drawing .on d same z k));
+        }
+
+    pub drawing-done : L .count ≤ i → (d : Direction) → number d ≡ direction → (z k : ℕ) →
+        stepOn steps z k ≡ meshOf L d z k
+    drawing-done done d same z k =
+        let none = left-none (L .splits) (L .count) i (omega arith) done in
+        sym (or-false (stepOn steps z k)) ∙ rw none at (drawing .on d same z k)

@@ -1,0 +1,119 @@
+-- `mesh::steps::draw_lines` meets its contract. The invariant: the steps so far, and those of the splits that are left, are the mesh.
+use Prim.Native.Nat.{_-_}
+use native.Mathlib.Omega.{arith}
+use borrow.Author.Needs.{needs}
+use mathlib.Core.Path.{_≡_, sym, _∙_}
+use lib.ListN.{length, length-map}
+use Rattle.mesh.specs.Lines.{Direction, number, other, side}
+use Rattle.mesh.proofs.Drawing.{empty-square, allowed-says, in-range-says, direction-of, side-along, Drawing, drawing-none, drawing-ranges, drawing-more, drawing-done}
+use Rattle.mesh.proofs.steps.draw_lines.Statement.{statement}
+use Rattle.mesh.proofs.steps.draw_lines.Tie as tie
+
+abbrev Inv-loop : tie.InvT-loop
+Inv-loop direction steps₀ lines w h crossed run count i₀ steps i = Drawing lines direction i steps
+
+abbrev μ-loop : tie.MeasureT-loop
+μ-loop direction steps₀ lines w h crossed run count i₀ steps i = count - i
+
+side-of-requires : tie.Need-side-of-requires Inv-loop μ-loop
+side-of-requires c κs = search needs
+
+side-of-requires-2 : tie.Need-side-of-requires-2 Inv-loop μ-loop
+side-of-requires-2 c κs = search needs
+
+draw-fresh-requires : tie.Need-draw-fresh-requires Inv-loop μ-loop
+draw-fresh-requires c κs =
+    let start = c .before .before .before .before in
+    let a = allowed-says (start .args .t1) (start .pre .0) in
+    (start .pre .2, omega arith, omega arith)
+
+sixty : (c : tie.Start Inv-loop μ-loop) → length (c .args .t1 .splits) ≡ 60
+sixty c = simp length-map at (c .good .0 .1 .1 .1 .1 .1 .0 .1 .0 .1)
+
+-- the side that the lines run along
+along : (c : tie.After-side-of2 Inv-loop μ-loop) (d : Direction) →
+    let a = c .before .before .before .args in
+    number d ≡ a .direction → side (other d) (a .t1 .w) (a .t1 .h) ≡ c .side-of2 .result
+along c d same =
+    let L = c .before .before .before .args .t1 in
+    side-along d (L .w) (L .h) ∙ c .side-of2 .ensures .1 d same
+
+loop-holds : tie.Need-loop-holds Inv-loop μ-loop
+loop-holds c =
+    let fresh = c .before .before in
+    let run = fresh .before .before in
+    let crossed = run .before in
+    let start = crossed .before .before in
+    let L = start .args .t1 in
+    drawing-none L (start .args .direction) _ (start .pre .0) (sixty start) (fresh .draw-fresh .ensures .0)
+    (λ d same. fresh .draw-fresh .ensures .1 d (L .w) (L .h)
+    (crossed .side-of .ensures .1 d same) (along run d same))
+
+mul-s : tie.Need-mul-s Inv-loop μ-loop
+mul-s c = omega arith
+
+element-copy-out-s : tie.Need-element-copy-out-s Inv-loop μ-loop
+element-copy-out-s c = omega arith
+
+draw-split-requires : tie.Need-draw-split-requires Inv-loop μ-loop
+draw-split-requires c κs =
+    let l = c .before .before .before .loop in
+    let run = c .before .before .before .before .before .before .before .before in
+    let crossed = run .before in
+    let start = crossed .before .before in
+    let L = start .args .t1 in
+    let a = allowed-says L (start .pre .0) in
+    let dir = direction-of (start .args .direction) (start .pre .1) in (
+      l .inv .square,
+      omega arith,
+      λ e.
+          let s = drawing-ranges L _ (l .i) (l .steps) (l .inv) (omega arith) .0 in
+          let r = in-range-says (L .w) (L .h) (dir .0) _ s (e ∙ sym (dir .1)) in
+          let across = crossed .side-of .ensures .1 (dir .0) (dir .1) in
+          let up = along run (dir .0) (dir .1) in
+          omega arith,
+    )
+
+add-i : tie.Need-add-i Inv-loop μ-loop
+add-i c = omega arith
+
+loop-less : tie.Need-loop-less Inv-loop μ-loop
+loop-less c = omega arith
+
+loop-again : tie.Need-loop-again Inv-loop μ-loop
+loop-again c =
+    let drawn = c .before .before .draw-split in
+    let l = c .before .before .before .before .before .before .loop in
+    let run = c .before .before .before .before .before .before .before .before .before .before .before in
+    let L = run .before .before .before .args .t1 in
+    drawing-more L _ (l .i) (l .steps) (l .inv) _ (omega arith) (drawn .ensures .0)
+    (λ d same. drawn .ensures .1 d (L .w) (L .h) same (along run d same))
+
+same-length : tie.Need-same-length Inv-loop μ-loop
+same-length c =
+    let start = c .before .before .before .before .before .before .before .before .before in
+    c .before .loop .inv .square ∙ sym (empty-square (start .pre .2))
+
+returns : tie.Need-returns Inv-loop μ-loop
+returns c =
+    let l = c .before .loop in
+    (l .inv .square, drawing-done _ _ _ _ (l .inv) (omega arith))
+
+pub draw-lines-spec : {M : Type 1} → statement M
+draw-lines-spec =
+    tie.close
+    (tie.spec
+    Inv-loop
+    μ-loop
+    side-of-requires
+    side-of-requires-2
+    draw-fresh-requires
+    loop-holds
+    mul-s
+    element-copy-out-s
+    draw-split-requires
+    add-i
+    loop-less
+    loop-again
+    same-length
+    returns)
