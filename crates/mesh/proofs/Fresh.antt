@@ -74,7 +74,7 @@ first-proper w h hw hh B m =
     and-of _ _ (rising-of w (B .across) (first-rises w hw (B .across) (f .across))) (rising-of h (B .up) (first-rises h hh (B .up) (f .up)))
 
 -- a fresh map's lines stand at four positions
-fresh-positions : (w h : ℕ) (d : Direction) (z k : ℕ) → mesh w h [] d z k ≡ true →
+pub fresh-positions : (w h : ℕ) (d : Direction) (z k : ℕ) → mesh w h [] d z k ≡ true →
     (z ≡ 0) ⊎ ((z ≡ 1) ⊎ ((z ≡ side d w h + 1) ⊎ (z ≡ side d w h + 2)))
 unfolding mesh freshMesh
 fresh-positions w h d z k e =
@@ -86,7 +86,7 @@ fresh-positions w h d z k e =
     (λ b. inr (inr (inl (eqb-true _ _ b)))) (or-either (eqb z 0 || eqb z 1) (eqb z (side d w h + 1)) a))
     (λ a. inr (inr (inr (eqb-true _ _ a)))) (or-either (eqb z 0 || eqb z 1 || eqb z (side d w h + 1)) (eqb z (side d w h + 2)) p)
 
-first-crossed : (w h : ℕ) (d : Direction) (B : Blend) → FirstBlend w h B → First (side d w h) (crossed d B)
+pub first-crossed : (w h : ℕ) (d : Direction) (B : Blend) → FirstBlend w h B → First (side d w h) (crossed d B)
 first-crossed w h upright B f = f .across
 first-crossed w h level B f = f .up
 

@@ -14,5 +14,6 @@ pub mod Scale
 pub mod Hats
 pub mod Weights
 pub mod SoundMaps
+pub mod AtMost
 pub mod Cutting
 pub mod Drawing

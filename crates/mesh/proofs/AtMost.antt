@@ -1,0 +1,123 @@
+-- "A sound map so has at most 32 × 32 = 1,024 live blends": their anchors lie on line positions.
+use Prim.Native.Nat.{ℕ, zero, suc, _+_, _-_, _*_, _≤_, _<_}
+use native.Mathlib.Omega.{arith}
+use native.Mathlib.Nat.{le-trans}
+use mathlib.Core.Path.{_≡_, refl, sym, ap, subst, _∙_}
+use mathlib.Core.Logic.{_⊎_, inl, inr, ⊎-elim}
+use mathlib.Core.Bool.{Bool, true, false, cond, _&&_, _||_}
+use mathlib.Core.List.{List, [], _∷_, map, List·Memᴰ}
+use mathlib.Core.List.List·Memᴰ.{List·Memᴰ·head, List·Memᴰ·tail}
+use lib.Dec.{leb, ltb, eqb}
+use lib.ListN.{length, length-map}
+use borrow.Author.Tests.{eqb-true, eqb-false, eq-eqb, ne-eqb, lt-ltb}
+use Rattle.mesh.specs.Range.{any, only}
+use Rattle.mesh.specs.Lines.{Mesh, Direction, upright, level, mesh, freshMesh, draws, start, end, number, other, side}
+use Rattle.mesh.specs.Blends.{live, firstFour, crossed}
+use Rattle.mesh.specs.Sound.{sound}
+use Rattle.mesh.specs.declared.Split.{Split}
+use Rattle.mesh.specs.declared.Triple.{Triple}
+use Rattle.mesh.specs.declared.Blend.{Blend}
+use Rattle.mesh.proofs.Tests.{either, true-not-false, and-both, and-of, or-either, or-left, or-right, any-at, mem-only}
+use Rattle.mesh.proofs.Triples.{Knots}
+use Rattle.mesh.proofs.Order.{OnLine, comes-on-lines, firstFour-rises}
+use Rattle.mesh.proofs.Places.{Rises, proper-facts}
+use Rattle.mesh.proofs.Fresh.{First, is-low, is-high, first-four, first-crossed, fresh-positions}
+use Rattle.mesh.proofs.Few.{few, square-of-sum, mem-map}
+use Rattle.mesh.proofs.SoundMaps.{live-left, live-proper, live-distinct, own-anchors}
+
+or-third : (a b c e : Bool) → c ≡ true → (a || b || c || e) ≡ true
+or-third true b c e p = refl
+or-third false true c e p = refl
+or-third false false c e p = or-left c e p
+
+or-fourth : (a b c e : Bool) → e ≡ true → (a || b || c || e) ≡ true
+or-fourth a b c e p = or-right (a || b || c) e p
+
+-- the fresh map's lines are lines of every map of its sides
+on-fresh : (w h : ℕ) (splits : List Split) (d : Direction) (z : ℕ) → (eqb z 0 || eqb z 1 || eqb z (side d w h + 1) || eqb z (side d w h + 2)) ≡ true →
+    OnLine (mesh w h splits) d z
+unfolding mesh freshMesh
+on-fresh w h splits d z e = (0, or-left (freshMesh w h d z 0) _ (and-of _ _ e (lt-ltb 0 (side (other d) w h + 2) (omega arith))))
+
+first-on-lines : (w h : ℕ) (splits : List Split) (d : Direction) (t : Triple) → First (side d w h) t → Knots (OnLine (mesh w h splits) d) t
+first-on-lines w h splits d t is-low =
+    record {
+      l = on-fresh w h splits d 0 refl;
+      m = on-fresh w h splits d 1 refl;
+      r = on-fresh w h splits d (side d w h + 1) (or-third (eqb (side d w h + 1) 0) (eqb (side d w h + 1) 1) (eqb (side d w h + 1) (side d w h + 1)) (eqb (side d w h + 1) (side d w h + 2)) (eq-eqb (side d w h + 1) (side d w h + 1) refl));
+    }
+first-on-lines w h splits d t is-high =
+    record {
+      l = on-fresh w h splits d 1 refl;
+      m = on-fresh w h splits d (side d w h + 1) (or-third (eqb (side d w h + 1) 0) (eqb (side d w h + 1) 1) (eqb (side d w h + 1) (side d w h + 1)) (eqb (side d w h + 1) (side d w h + 2)) (eq-eqb (side d w h + 1) (side d w h + 1) refl));
+      r = on-fresh w h splits d (side d w h + 2) (or-fourth (eqb (side d w h + 2) 0) (eqb (side d w h + 2) 1) (eqb (side d w h + 2) (side d w h + 1)) (eqb (side d w h + 2) (side d w h + 2)) (eq-eqb (side d w h + 2) (side d w h + 2) refl));
+    }
+
+-- the splits of a direction, and the line positions within the domain
+of-direction : Direction → List Split → List Split
+of-direction d splits = only (λ s. eqb (s .direction) (number d)) splits
+
+positions : ℕ → ℕ → Direction → List Split → List ℕ
+positions w h d splits = 1 ∷ (side d w h + 1) ∷ map (λ s. s .position + 1) (of-direction d splits)
+
+both : (splits : List Split) → length (of-direction upright splits) + length (of-direction level splits) ≤ length splits
+unfolding of-direction
+both [] = omega arith
+both (s ∷ rest) =
+    let ih = both rest in
+    ⊎-elim
+    (λ (e : eqb (s .direction) 0 ≡ true).
+    let q : s .direction ≡ 0 = eqb-true _ _ e in
+    let n : eqb (s .direction) 1 ≡ false = ne-eqb (s .direction) 1 (omega arith) in
+    rw (e, n) (omega arith))
+    (λ (e : eqb (s .direction) 0 ≡ false).
+    ⊎-elim (λ (f : eqb (s .direction) 1 ≡ true). rw (e, f) (omega arith))
+    (λ (f : eqb (s .direction) 1 ≡ false). rw (e, f) (omega arith)) (either (eqb (s .direction) 1)))
+    (either (eqb (s .direction) 0))
+
+on-position : (w h : ℕ) (splits : List Split) (d : Direction) (z : ℕ) → 1 ≤ z → z ≤ side d w h + 1 → OnLine (mesh w h splits) d z →
+    List·Memᴰ z (positions w h d splits)
+unfolding mesh draws positions of-direction
+on-position w h splits d z lo hi on =
+    ⊎-elim
+    (λ f. ⊎-elim (λ (e : z ≡ 0). absurd (omega arith))
+    (⊎-elim (λ e. List·Memᴰ·head e)
+    (⊎-elim (λ e. List·Memᴰ·tail (List·Memᴰ·head e)) (λ (e : z ≡ side d w h + 2). absurd (omega arith))))
+    (fresh-positions w h d z (on .0) (or-left _ _ f)))
+    (λ a.
+    let r = any-at (draws w h d z (on .0)) splits a in
+    let s : Split = r .0 in
+    let p = and-both (eqb (s .direction) (number d) && eqb z (s .position + 1) && leb (start s) (on .0)) (ltb (on .0) (end (side (other d) w h) s)) (r .2) in
+    let q = and-both (eqb (s .direction) (number d) && eqb z (s .position + 1)) (leb (start s) (on .0)) (p .0) in
+    let t = and-both (eqb (s .direction) (number d)) (eqb z (s .position + 1)) (q .0) in
+    List·Memᴰ·tail (List·Memᴰ·tail (subst (λ (i : ℕ). List·Memᴰ i (map (λ s. s .position + 1) (of-direction d splits))) (sym (eqb-true _ _ (t .1)))
+    (mem-map (λ s. s .position + 1) (of-direction d splits) s (mem-only _ splits s (r .1) (t .0))))))
+    (or-either (freshMesh w h d z (on .0)) (any (draws w h d z (on .0)) splits) (on .1))
+
+pub at-most : (w h : ℕ) → 1 ≤ w → 1 ≤ h → h ≤ 128 → (splits : List Split) → length splits ≤ 60 →
+    sound w h (live w h (mesh w h splits)) ≡ true → length (live w h (mesh w h splits)) ≤ 1024
+unfolding positions
+at-most w h hw hh h128 splits sixty s =
+    let L = live w h (mesh w h splits) in
+    le-trans
+    (few (positions w h upright splits) (positions w h level splits) L (live-distinct w h hw hh (mesh w h splits)) (own-anchors w h hw hh (mesh w h splits) s) on)
+    (let a = length-map (of-direction upright splits) (λ (s : Split). s .position + 1) in
+    let b = length-map (of-direction level splits) (λ (s : Split). s .position + 1) in
+    let c = square-of-sum (length (of-direction upright splits)) (length (of-direction level splits)) (le-trans (both splits) sixty) in
+    rw (a, b) (omega (arith, c)))
+  where
+    on : (B : Blend) → List·Memᴰ B (live w h (mesh w h splits)) →
+        List·Memᴰ (B .across .m) (positions w h upright splits) × List·Memᴰ (B .up .m) (positions w h level splits) × (B .up .m < 131)
+    on B m =
+        let l = live-left w h hw hh (mesh w h splits) B .0 m in
+        let f = first-four w h (l .0) (l .1) in
+        let rises = firstFour-rises w h hw hh (l .0) (l .1) in
+        let p = proper-facts w h B (live-proper w h hw hh (mesh w h splits) B m) in
+        let pa = p .across in
+        let pu = p .up in
+        let a = comes-on-lines upright rises (first-on-lines w h splits upright (l .0 .across) (f .across)) (l .2 .comes) in
+        let u = comes-on-lines level rises (first-on-lines w h splits level (l .0 .up) (f .up)) (l .2 .comes) in (
+          on-position w h splits upright (B .across .m) (omega arith) (omega arith) (a .m),
+          on-position w h splits level (B .up .m) (omega arith) (omega arith) (u .m),
+          omega arith,
+        )
