@@ -4,7 +4,7 @@ use crate::Refined;
 use crate::Table;
 use crate::Triple;
 ghost use mathlib.Core.Path.{_≡_};
-ghost use mathlib.Core.Bool.{true, false};
+ghost use mathlib.Core.Bool.{cond};
 ghost use Prim.Native.Nat.{ℕ, _+_, _≤_, _<_, min, max};
 ghost use lib.Dec.{eqb};
 ghost use lib.ListN.{length, getD};
@@ -97,8 +97,7 @@ fn greater(a: usize, b: usize) -> usize
 // Adds one to each count of a run of places; false as soon as one has four already.
 fn add_run(counts: &mut [u8], from: usize, to: usize) -> bool
     requires { ⌜ to ≤ length (now counts) ⌝ }
-    ensures { λ r. ⌜ (r ≡ true → RunAdded from to (now (counts .entry)) (now (counts .exit))) ×
-        (r ≡ false → RunFull from to (now (counts .entry))) ⌝ }
+    ensures { λ r. ⌜ cond r (RunAdded from to (now (counts .entry)) (now (counts .exit))) (RunFull from to (now (counts .entry))) ⌝ }
 {
     let mut k = from;
     while k < to {
@@ -116,8 +115,7 @@ fn add_run(counts: &mut [u8], from: usize, to: usize) -> bool
 // so that all the blends together take at most four turns for each square.
 fn add_support(counts: &mut [u8], x: Blend, w: usize, h: usize) -> bool
     requires { ⌜ Square (now counts) × (w ≤ 128) × (h ≤ 128) ⌝ }
-    ensures { λ r. ⌜ (r ≡ true → Added w h x (now (counts .entry)) (now (counts .exit))) ×
-        (r ≡ false → Crowded w h x (now (counts .entry))) ⌝ }
+    ensures { λ r. ⌜ cond r (Added w h x (now (counts .entry)) (now (counts .exit))) (Crowded w h x (now (counts .entry))) ⌝ }
 {
     let a = x.across;
     let u = x.up;
