@@ -2,7 +2,7 @@
 use Prim.Native.Nat.{ℕ, _+_, _*_, _-_, _/_, _%_, _<_, _≤_}
 use mathlib.Core.Path.{_≡_}
 use mathlib.Core.Bool.{Bool, true, false, cond, _&&_, _||_, not}
-use mathlib.Core.List.{List, [], _∷_}
+use mathlib.Core.List.{List, [], _∷_, List·Memᴰ}
 use lib.Dec.{ltb, leb, eqb}
 use lib.ListN.{length, getD, set, replicate}
 use Rattle.mesh.specs.Range.{every, each, only}
@@ -38,6 +38,9 @@ pub record Rises (t : Triple) : Type 0 where
 pub record Proper (B : Blend) : Type 0 where
   pub across : Rises (B .across)
   pub up : Rises (B .up)
+
+abbrev pub AllProper : List Blend → Type 0
+AllProper bs = (B : Blend) → List·Memᴰ B bs → Proper B
 
 -- Blends by their anchors: the place of an anchor holds 0, or the support of the blend that has it.
 abbrev pub place : Blend → ℕ

@@ -10,7 +10,7 @@ ghost use lib.Dec.{eqb};
 ghost use lib.ListN.{length, getD};
 ghost use Rattle.mesh.specs.Range.{every, all};
 ghost use Rattle.mesh.specs.Sound.{answer, fourEverywhere, none, blendsOf};
-ghost use Rattle.mesh.specs.Bytes.{at, Square, Holding, RunAdded, RunFull, Added, Crowded, unpacked, walk, clear, listed, refused};
+ghost use Rattle.mesh.specs.Bytes.{at, Square, Proper, AllProper, Holding, RunAdded, RunFull, Added, Crowded, unpacked, walk, clear, listed, refused};
 
 // The blend that a place holds, taken apart.
 fn unpack(m: usize, n: usize, c: u64) -> Blend
@@ -114,7 +114,7 @@ fn add_run(counts: &mut [u8], from: usize, to: usize) -> bool
 // Adds one to the count of each unit square of the domain in a blend's support; false as soon as a square would get a fifth,
 // so that all the blends together take at most four turns for each square.
 fn add_support(counts: &mut [u8], x: Blend, w: usize, h: usize) -> bool
-    requires { ⌜ Square (now counts) × (w ≤ 128) × (h ≤ 128) ⌝ }
+    requires { ⌜ Square (now counts) × Proper x × (w ≤ 128) × (h ≤ 128) ⌝ }
     ensures { λ r. ⌜ cond r (Added w h x (now (counts .entry)) (now (counts .exit))) (Crowded w h x (now (counts .entry))) ⌝ }
 {
     let a = x.across;
@@ -134,7 +134,7 @@ fn add_support(counts: &mut [u8], x: Blend, w: usize, h: usize) -> bool
 
 // Whether every unit square of the domain lies in the supports of exactly four of the table's blends.
 fn four_everywhere(table: Table, w: usize, h: usize) -> bool
-    requires { ⌜ (table .count ≤ 1024) × (w ≤ 128) × (h ≤ 128) ⌝ }
+    requires { ⌜ (table .count ≤ 1024) × AllProper (blendsOf table) × (w ≤ 128) × (h ≤ 128) ⌝ }
     ensures { λ r. ⌜ r ≡ fourEverywhere w h (blendsOf table) ⌝ }
 {
     let mut counts = [0u8; 17161];
@@ -171,7 +171,7 @@ fn all_four(counts: &[u8], w: usize, h: usize) -> bool
 
 // Whether no place strictly inside a blend's support, other than its own anchor's, holds a blend.
 fn clear_inside(places: &[u64], x: Blend) -> bool
-    requires { ⌜ Square (now places) × (x .across .r ≤ 131) × (x .up .r ≤ 131) ⌝ }
+    requires { ⌜ Square (now places) × Proper x ⌝ }
     ensures { λ r. ⌜ r ≡ clear (now (places .entry)) x ⌝ }
 {
     let a = x.across;
@@ -197,7 +197,7 @@ fn clear_inside(places: &[u64], x: Blend) -> bool
 
 // Whether no other blend's anchor lies strictly inside the support of one of the table's.
 fn none_nested(places: &[u64], table: Table) -> bool
-    requires { ⌜ Square (now places) × (table .count ≤ 1024) ⌝ }
+    requires { ⌜ Square (now places) × (table .count ≤ 1024) × AllProper (blendsOf table) ⌝ }
     ensures { λ r. ⌜ r ≡ all (clear (now (places .entry))) (blendsOf table) ⌝ }
 {
     let count = table.count;
