@@ -5,8 +5,14 @@ use mathlib.Core.Path.{_≡_, refl, sym, ap, _∙_}
 use mathlib.Core.Logic.{_⊎_, inl, inr, ⊎-elim}
 use mathlib.Core.Bool.{Bool, true, false, cond, _&&_}
 use mathlib.Core.List.{List, [], _∷_, _++_}
+use borrow.Author.Tests.{eqb-true, eq-eqb}
+use lib.Dec.{eqb}
+use lib.ListN.{getD}
 use Rattle.mesh.specs.Range.{every, each}
-use Rattle.mesh.proofs.Tests.{every-turn, every-none, each-turn, each-none}
+use Rattle.mesh.specs.Blends.{anchored}
+use Rattle.mesh.specs.Bytes.{at, lone}
+use Rattle.mesh.specs.declared.Blend.{Blend}
+use Rattle.mesh.proofs.Tests.{and-both, and-of, or-either, or-right, false-of, every-turn, every-none, each-turn, each-none}
 
 -- runs that a loop takes up to an end
 every-run : (k e : ℕ) (test : ℕ → Bool) → k < e → every k (e - k) test ≡ (test k && every (k + 1) (e - (k + 1)) test)
@@ -42,3 +48,20 @@ module _ (r b t : ℕ) (test : ℕ → ℕ → Bool) where
 
   pub places-end : {whole : Bool} (i j : ℕ) → t ≤ j → places i j ≡ whole → rows (i + 1) ≡ whole
   places-end i j h e = sym (rw (every-none j (t - j) (test i) (omega arith))) ∙ e
+
+-- what a place holds besides a blend
+module _ (table : List ℕ) (B : Blend) (i j : ℕ) where
+  pub lone-empty : getD table (at i j) 0 ≡ 0 → lone table B i j ≡ true
+  lone-empty e = rw (eq-eqb _ _ e)
+
+  pub lone-own : B .across .m ≡ i → B .up .m ≡ j → lone table B i j ≡ true
+  lone-own p q = or-right (eqb (getD table (at i j) 0) 0) _ (and-of _ _ (eq-eqb _ _ p) (eq-eqb _ _ q))
+
+  pub lone-cases : lone table B i j ≡ true → (getD table (at i j) 0 ≡ 0) ⊎ ((B .across .m ≡ i) × (B .up .m ≡ j))
+  lone-cases e =
+      ⊎-elim (λ p. inl (eqb-true _ _ p))
+      (λ p. let b = and-both (eqb (B .across .m) i) (eqb (B .up .m) j) p in inr (eqb-true _ _ (b .0), eqb-true _ _ (b .1)))
+      (or-either (eqb (getD table (at i j) 0) 0) (anchored i j B) e)
+
+  pub lone-not : (getD table (at i j) 0 ≡ 0 → ⊥) → (B .across .m ≡ i → B .up .m ≡ j → ⊥) → lone table B i j ≡ false
+  lone-not f g = false-of _ (λ e. ⊎-elim f (λ p. g (p .0) (p .1)) (lone-cases e))

@@ -116,11 +116,14 @@ pub record Crowded (w h : ℕ) (B : Blend) (counts : List ℕ) : Type 0 where
   pub over : overSquare x y B ≡ true
   pub four : 4 ≤ getD counts (at x y) 0
 
--- the places strictly inside a blend's support, but for its own anchor's, hold nothing
+-- a place holds no blend other than B; and so do all that are strictly inside B's support
+abbrev pub lone : List ℕ → Blend → ℕ → ℕ → Bool
+lone places B i j = eqb (getD places (at i j) 0) 0 || anchored i j B
+
 abbrev pub clear : List ℕ → Blend → Bool
 clear places B =
-    every (B .across .l + 1) (B .across .r - (B .across .l + 1)) (λ i. every (B .up .l + 1) (B .up .r - (B .up .l + 1)) (λ j.
-    eqb (getD places (at i j) 0) 0 || anchored i j B))
+    every (B .across .l + 1) (B .across .r - (B .across .l + 1)) (λ i.
+    every (B .up .l + 1) (B .up .r - (B .up .l + 1)) (lone places B i))
 
 -- the answer where no sound map is found; and blends in a table, where it holds them
 abbrev pub refused : Refined
