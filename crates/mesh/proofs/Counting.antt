@@ -15,7 +15,7 @@ use Rattle.mesh.specs.Blends.{blend}
 use Rattle.mesh.specs.Sound.{overSquare, fourEverywhere}
 use Rattle.mesh.specs.Bytes.{at, Square, RunAdded, RunFull, Added, Crowded, Counted}
 use Rattle.mesh.specs.declared.Blend.{Blend}
-use Rattle.mesh.proofs.Tests.{either, true-not-false, and-both, and-of, same-test, false-of}
+use Rattle.mesh.proofs.Tests.{either, true-not-false, and-both, and-of, same-test, false-of, every-at}
 
 -- k is one of the places `from` to `to`
 abbrev within : ℕ → ℕ → ℕ → Bool
@@ -176,3 +176,56 @@ module _ (w h l r b t : ℕ) (B : Blend) (clip : Clipped w h B l r b t) where
             over = over-of i y B (omega arith) (omega arith) (omega arith) (omega arith);
             four = omega arith;
           }
+
+every-same : (from n : ℕ) (f g : ℕ → Bool) → ((k : ℕ) → from ≤ k → k < from + n → f k ≡ g k) → every from n f ≡ every from n g
+every-same from zero f g e = refl
+every-same from (suc n) f g e =
+    rw (e from (omega arith) (omega arith), every-same (from + 1) n f g (λ k lo hi. e k (omega arith) (omega arith)))
+
+-- The blends counted so far, with those that are left, are all the blends.
+abbrev pub CountedBut : ℕ → ℕ → List Blend → List Blend → List ℕ → Type 0
+CountedBut w h left bs counts =
+    (x y : ℕ) → 1 ≤ x → x ≤ w → 1 ≤ y → y ≤ h →
+    getD counts (at x y) 0 + length (only (overSquare x y) left) ≡ length (only (overSquare x y) bs)
+
+only-first : (test : Blend → Bool) (B : Blend) (bs : List Blend) → length (only test (B ∷ bs)) ≡ cond (test B) 1 0 + length (only test bs)
+only-first test B bs =
+    ⊎-elim (λ (e : test B ≡ true). rw e (omega arith)) (λ (e : test B ≡ false). rw e (omega arith)) (either (test B))
+
+zeros : (n i : ℕ) → _≡_ {A = ℕ} (getD (replicate n 0) i 0) 0
+zeros zero i = refl
+zeros (suc n) zero = refl
+zeros (suc n) (suc i) = zeros n i
+
+pub counted-none : (w h n : ℕ) (bs : List Blend) → CountedBut w h bs bs (replicate n 0)
+counted-none w h n bs x y _ _ _ _ = rw (zeros n (at x y)) (omega arith)
+
+pub counted-more : (w h : ℕ) (B : Blend) (left bs : List Blend) (before after : List ℕ) →
+    CountedBut w h (B ∷ left) bs before → Added w h B before after → CountedBut w h left bs after
+counted-more w h B left bs before after c a x y x1 xw y1 yh =
+    let old = c x y x1 xw y1 yh in
+    let first = only-first (overSquare x y) B left in
+    let new = a .adds x y x1 xw y1 yh in
+    omega arith
+
+-- a square that has a fifth
+pub counted-crowded : (w h : ℕ) (B : Blend) (left bs : List Blend) (counts : List ℕ) →
+    CountedBut w h (B ∷ left) bs counts → Crowded w h B counts → fourEverywhere w h bs ≡ false
+unfolding fourEverywhere
+counted-crowded w h B left bs counts c full =
+    false-of _ (λ e.
+    let four = every-at 1 h _ (every-at 1 w _ e (full .x) (full .left) (omega arith)) (full .y) (full .bottom) (omega arith) in
+    let is : length (only (overSquare (full .x) (full .y)) bs) ≡ 4 = eqb-true _ _ four in
+    let old = c (full .x) (full .y) (full .left) (full .right) (full .bottom) (full .top) in
+    let first : length (only (overSquare (full .x) (full .y)) (B ∷ left)) ≡ 1 + length (only (overSquare (full .x) (full .y)) left) =
+    only-first (overSquare (full .x) (full .y)) B left ∙ rw (full .over) in
+    omega arith)
+
+pub counted-all : (w h : ℕ) (bs : List Blend) (counts : List ℕ) → CountedBut w h [] bs counts → Counted w h bs counts
+counted-all w h bs counts c x y x1 xw y1 yh = let e = c x y x1 xw y1 yh in omega arith
+
+pub counted-four : (w h : ℕ) (bs : List Blend) (counts : List ℕ) → Counted w h bs counts →
+    every 1 w (λ x. every 1 h (λ y. eqb (getD counts (at x y) 0) 4)) ≡ fourEverywhere w h bs
+unfolding fourEverywhere
+counted-four w h bs counts c =
+    every-same 1 w _ _ (λ x x1 xw. every-same 1 h _ _ (λ y y1 yh. ap (λ (n : ℕ). eqb n 4) (c x y x1 (omega arith) y1 (omega arith))))

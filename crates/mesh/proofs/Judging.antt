@@ -1,13 +1,16 @@
 -- Walks over the places of a table, and what they tell of the blends that are kept there.
 use Prim.Native.Nat.{ℕ, zero, suc, _+_, _*_, _-_, _≤_, _<_}
 use native.Mathlib.Omega.{arith}
+use native.Mathlib.Numerals.{add-one}
 use mathlib.Core.Path.{_≡_, refl, sym, ap, _∙_}
 use mathlib.Core.Logic.{_⊎_, inl, inr, ⊎-elim}
 use mathlib.Core.Bool.{Bool, true, false, cond, _&&_}
-use mathlib.Core.List.{List, [], _∷_, _++_}
+use mathlib.Core.List.{List, [], _∷_, _++_, List·Memᴰ, Memᴰ·append-right}
+use mathlib.Core.List.List·Memᴰ.{List·Memᴰ·head}
 use borrow.Author.Tests.{eqb-true, eq-eqb}
 use lib.Dec.{eqb}
-use lib.ListN.{getD}
+use lib.ListN.{length, getD, take, drop, take-append-drop, drop-of-length-le}
+use lib.Seq.{drop-cons, getD-take, length-take-le}
 use Rattle.mesh.specs.Range.{every, each}
 use Rattle.mesh.specs.Blends.{anchored}
 use Rattle.mesh.specs.Bytes.{at, lone}
@@ -21,6 +24,20 @@ every-run k e test h = let less : e - k - 1 ≡ e - (k + 1) = omega arith in eve
 and-regroup : (a b c : Bool) → ((a && b) && c) ≡ (a && (b && c))
 and-regroup true b c = refl
 and-regroup false b c = refl
+
+-- the first n entries of a list, one by one, as a loop takes them
+module _ {ℓ} {A : Type ℓ} (xs : List A) (n i : ℕ) (all : n ≤ length xs) where
+  pub left-turn : (d : A) → i < n → drop i (take n xs) ≡ getD xs i d ∷ drop (i + 1) (take n xs)
+  left-turn d h =
+      let l = length-take-le n xs all in
+      drop-cons (take n xs) i d (omega arith) ∙ rw (add-one, getD-take n xs i d h)
+
+  pub left-none : n ≤ i → drop i (take n xs) ≡ []
+  left-none h = let l = length-take-le n xs all in drop-of-length-le (take n xs) {i = i} (omega arith)
+
+  pub left-mem : (d : A) → i < n → List·Memᴰ (getD xs i d) (take n xs)
+  left-mem d h =
+      rw (← take-append-drop i (take n xs)) (Memᴰ·append-right (take i (take n xs)) (rw (left-turn d h) (List·Memᴰ·head refl)))
 
 -- A test of each place from l to r and from b to t, as two loops take it: `rows` is what is left where a row begins, `places` within
 -- row i. Each lemma carries what is left, which is the whole answer, to the next turn.
