@@ -132,30 +132,29 @@ pub record Reading (whole left : List Blend) (count : ℕ) (blends : List Blend)
 pub read-none : (whole : List Blend) → Reading whole whole 0 (replicate 1024 none)
 read-none whole = record { done = []; long = refl; fits = omega arith; stored = refl; split = refl }
 
-module _ (whole left : List Blend) (count : ℕ) (blends : List Blend) where
-  pub read-more : (B : Blend) → count < 1024 → Reading whole (B ∷ left) count blends → Reading whole left (count + 1) (set blends count B)
-  read-more B h r = let next : 1024 - count ≡ suc (1024 - (count + 1)) = omega arith in record {
-      done = r .done ++ B ∷ [];
-      long = length-append (r .done) (B ∷ []) ∙ ap (λ (n : ℕ). n + 1) (r .long);
-      fits = omega arith;
-      stored =
-          ap (λ (xs : List Blend). set xs count B) (r .stored ∙ ap (λ (n : ℕ). r .done ++ replicate n none) next) ∙
-          set-at (r .done) none (replicate (1024 - (count + 1)) none) B count (r .long) ∙
-          sym (append-assoc (r .done) (B ∷ []) (replicate (1024 - (count + 1)) none));
-      split = append-assoc (r .done) (B ∷ []) left ∙ r .split;
-  }
+pub read-more : {whole left blends : List Blend} {count : ℕ} {B : Blend} → count < 1024 → Reading whole (B ∷ left) count blends → Reading whole left (count + 1) (set blends count B)
+read-more {whole} {left} {blends} {count} {B} h r = let next : 1024 - count ≡ suc (1024 - (count + 1)) = omega arith in record {
+  done = r .done ++ B ∷ [];
+  long = length-append (r .done) (B ∷ []) ∙ ap (λ (n : ℕ). n + 1) (r .long);
+  fits = omega arith;
+  stored =
+      ap (λ (xs : List Blend). set xs count B) (r .stored ∙ ap (λ (n : ℕ). r .done ++ replicate n none) next) ∙
+      set-at (r .done) none (replicate (1024 - (count + 1)) none) B count (r .long) ∙
+      sym (append-assoc (r .done) (B ∷ []) (replicate (1024 - (count + 1)) none));
+  split = append-assoc (r .done) (B ∷ []) left ∙ r .split;
+}
 
-  pub read-full : (B : Blend) → count ≡ 1024 → Reading whole (B ∷ left) count blends → listed whole ≡ refused
-  unfolding listed
-  read-full B h r =
-      let n : length whole ≡ length (r .done) + length (B ∷ left) = sym (ap length (r .split)) ∙ length-append (r .done) (B ∷ left) in
-      let more : 1024 < length whole = let l = r .long in omega arith in
-      rw (lt-leb (length whole) 1024 more)
+pub read-full : {whole left blends : List Blend} {count : ℕ} {B : Blend} → count ≡ 1024 → Reading whole (B ∷ left) count blends → listed whole ≡ refused
+unfolding listed
+read-full {whole} {left} {blends} {count} {B} h r =
+    let n : length whole ≡ length (r .done) + length (B ∷ left) = sym (ap length (r .split)) ∙ length-append (r .done) (B ∷ left) in
+    let more : 1024 < length whole = let l = r .long in omega arith in
+    rw (lt-leb (length whole) 1024 more)
 
-  pub read-all : Reading whole [] count blends → listed whole ≡ record { sound = true; table = record { count = count; blends = blends } }
-  unfolding listed table
-  read-all r =
-      let e : whole ≡ r .done = sym (r .split) ∙ append-nil (r .done) in
-      let n : length whole ≡ count = ap length e ∙ r .long in
-      let b : whole ++ replicate (1024 - length whole) none ≡ blends = rw (n, e) (sym (r .stored)) in
-      cond-true (leb (length whole) 1024) _ _ (rw n (le-leb count 1024 (r .fits))) ∙ (λ i. record { sound = true; table = record { count = n i; blends = b i } })
+pub read-all : {whole blends : List Blend} {count : ℕ} → Reading whole [] count blends → listed whole ≡ record { sound = true; table = record { count = count; blends = blends } }
+unfolding listed table
+read-all {whole} {blends} {count} r =
+    let e : whole ≡ r .done = sym (r .split) ∙ append-nil (r .done) in
+    let n : length whole ≡ count = ap length e ∙ r .long in
+    let b : whole ++ replicate (1024 - length whole) none ≡ blends = rw (n, e) (sym (r .stored)) in
+    cond-true (leb (length whole) 1024) _ _ (rw n (le-leb count 1024 (r .fits))) ∙ (λ i. record { sound = true; table = record { count = n i; blends = b i } })
