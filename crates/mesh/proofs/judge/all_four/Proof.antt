@@ -9,7 +9,7 @@ use lib.Dec.{eqb}
 use lib.ListN.{getD}
 use Rattle.mesh.specs.Range.{every}
 use Rattle.mesh.specs.Bytes.{at}
-use Rattle.mesh.proofs.Judging.{rows, places, rows-turn, rows-end, places-go, places-stop, places-end}
+use Rattle.mesh.proofs.Judging.{rowsPass, placesPass, rows-turn, rows-end, places-go, places-stop, places-end}
 use Rattle.mesh.proofs.judge.all_four.Statement.{statement}
 use Rattle.mesh.proofs.judge.all_four.Tie as tie
 use Rattle.mesh.proofs.judge.all_four.Reads as reads
@@ -23,13 +23,13 @@ abbrev Whole : List ℕ → ℕ → ℕ → Bool
 Whole counts w h = every 1 w (λ x. every 1 h (four counts x))
 
 abbrev Inv-loop2 : tie.InvT-loop2
-Inv-loop2 counts w h i j₀ j = (1 ≤ j) × (places (w + 1) 1 (h + 1) (four counts) i j ≡ Whole counts w h)
+Inv-loop2 counts w h i j₀ j = (1 ≤ j) × (placesPass (w + 1) 1 (h + 1) (four counts) i j ≡ Whole counts w h)
 
 abbrev μ-loop2 : tie.MeasureT-loop2
 μ-loop2 counts w h i j₀ j = h + 1 - j
 
 abbrev Inv-loop : tie.InvT-loop
-Inv-loop counts w h i₀ i = (1 ≤ i) × (rows (w + 1) 1 (h + 1) (four counts) i ≡ Whole counts w h)
+Inv-loop counts w h i₀ i = (1 ≤ i) × (rowsPass (w + 1) 1 (h + 1) (four counts) i ≡ Whole counts w h)
 
 abbrev μ-loop : tie.MeasureT-loop
 μ-loop counts w h i₀ i = w + 1 - i

@@ -7,20 +7,20 @@ use mathlib.Core.Bool.{Bool, true, false}
 use lib.ListN.{getD}
 use Rattle.mesh.specs.Blends.{blend}
 use Rattle.mesh.specs.Bytes.{at, lone, clear}
-use Rattle.mesh.proofs.Judging.{rows, places, rows-turn, rows-end, places-go, places-stop, places-end, lone-empty, lone-own, lone-not}
+use Rattle.mesh.proofs.Judging.{rowsPass, placesPass, rows-turn, rows-end, places-go, places-stop, places-end, lone-empty, lone-own, lone-not}
 use Rattle.mesh.proofs.judge.clear_inside.Statement.{statement}
 use Rattle.mesh.proofs.judge.clear_inside.Tie as tie
 use Rattle.mesh.proofs.judge.clear_inside.Reads as reads
 use Rattle.mesh.proofs.judge.clear_inside.Lts as lts
 
 abbrev Inv-loop2 : tie.InvT-loop2
-Inv-loop2 table a u i j₀ j = (u .l < j) × (places (a .r) (u .l + 1) (u .r) (lone table (blend a u)) i j ≡ clear table (blend a u))
+Inv-loop2 table a u i j₀ j = (u .l < j) × (placesPass (a .r) (u .l + 1) (u .r) (lone table (blend a u)) i j ≡ clear table (blend a u))
 
 abbrev μ-loop2 : tie.MeasureT-loop2
 μ-loop2 table a u i j₀ j = u .r - j
 
 abbrev Inv-loop : tie.InvT-loop
-Inv-loop table a u i₀ i = (a .l < i) × (rows (a .r) (u .l + 1) (u .r) (lone table (blend a u)) i ≡ clear table (blend a u))
+Inv-loop table a u i₀ i = (a .l < i) × (rowsPass (a .r) (u .l + 1) (u .r) (lone table (blend a u)) i ≡ clear table (blend a u))
 
 abbrev μ-loop : tie.MeasureT-loop
 μ-loop table a u i₀ i = a .r - i
