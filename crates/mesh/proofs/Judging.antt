@@ -10,14 +10,15 @@ use mathlib.Core.List.List·Memᴰ.{List·Memᴰ·head}
 use borrow.Author.Tests.{lt-ltb, not-true, not-false, ltb-true, leb-true, eqb-true, eqb-false, eq-eqb, ne-eqb, lt-leb, le-leb}
 use lib.Dec.{ltb, leb, eqb}
 use lib.ListN.{length, getD, set, take, drop, replicate, length-append, take-append-drop, drop-of-length-le}
-use lib.Seq.{set-at, drop-cons, getD-take, length-take-le}
+use lib.Seq.{take-append-seam, set-at, drop-cons, getD-take, length-take-le}
 use Rattle.mesh.specs.Range.{every, each, all}
 use Rattle.mesh.specs.Triple.{rising, between, sameTriple}
 use Rattle.mesh.specs.Blends.{anchored, same}
-use Rattle.mesh.specs.Sound.{proper, nested, noneNested, none, table}
+use Rattle.mesh.specs.Sound.{proper, nested, fourEverywhere, noneNested, sound, none, table, blendsOf, answer}
 use Rattle.mesh.specs.Bytes.{at, AllProper, Holding, lone, clear, kept, unpacked, walk, listed, refused}
 use Rattle.mesh.specs.declared.Triple.{Triple}
 use Rattle.mesh.specs.declared.Blend.{Blend}
+use Rattle.mesh.specs.declared.Refined.{Refined}
 use Rattle.mesh.proofs.Tests.{either, true-not-false, same-test, all-at, all-of, every-at, every-of, cond-true, each-mem, mem-each, and-both, and-of, or-either, or-right, false-of, every-turn, every-none, each-turn, each-none}
 
 -- runs that a loop takes up to an end
@@ -315,3 +316,54 @@ module _ (w h : ℕ) (places : List ℕ) (holding : Holding w h places) where
       same-test _ _
       (λ e. all-of _ _ (λ B mB. all-of _ _ (λ C mC. clear-unnested B C mB mC (all-at _ _ e C mC))))
       (λ e. all-of _ _ (λ C mC. unnested-clear C mC (λ B mB. all-at _ _ (all-at _ _ e B mB) C mC)))
+
+and-false : (a : Bool) → (a && false) ≡ false
+and-false true = refl
+and-false false = refl
+
+-- a table that was read out, and the answer on it
+blends-table : (bs : List Blend) → blendsOf (table bs) ≡ bs
+unfolding table
+blends-table bs = take-append-seam bs (replicate (1024 - length bs) none)
+
+pub record Listed (bs : List Blend) (r : Refined) : Type 0 where
+  pub few : length bs ≤ 1024
+  pub is : r ≡ record { sound = true; table = table bs }
+
+-- a list was put in the table exactly where it is short enough
+listed-fits : (bs : List Blend) (r : Refined) → r ≡ listed bs → leb (length bs) 1024 ≡ r .sound
+unfolding listed
+listed-fits bs r e =
+    ⊎-elim (λ (q : leb (length bs) 1024 ≡ true). rw (e, q)) (λ (q : leb (length bs) 1024 ≡ false). rw (e, q)) (either (leb (length bs) 1024))
+
+pub listed-held : (bs : List Blend) (r : Refined) → r ≡ listed bs → r .sound ≡ true → Listed bs r
+unfolding listed
+listed-held bs r e s =
+    let q : leb (length bs) 1024 ≡ true = listed-fits bs r e ∙ s in
+    record { few = leb-true _ _ q; is = e ∙ rw q }
+
+pub listed-count : {bs : List Blend} {r : Refined} → Listed bs r → r .table .count ≤ 1024
+unfolding table
+listed-count l = rw (l .is) (l .few)
+
+pub listed-blends : {bs : List Blend} {r : Refined} → Listed bs r → blendsOf (r .table) ≡ bs
+listed-blends {bs} {r} l = rw (l .is) (blends-table bs)
+
+module _ (w h : ℕ) (bs : List Blend) where
+  pub answer-many : (r : Refined) → r ≡ listed bs → r .sound ≡ false → r ≡ answer w h bs
+  unfolding listed answer
+  answer-many r e s =
+      let q : leb (length bs) 1024 ≡ false = listed-fits bs r e ∙ s in
+      e ∙ rw (q, and-false (sound w h bs))
+
+  pub answer-not-four : fourEverywhere w h bs ≡ false → answer w h bs ≡ refused
+  unfolding answer sound
+  answer-not-four e = rw e
+
+  pub answer-nested : noneNested bs ≡ false → answer w h bs ≡ refused
+  unfolding answer sound
+  answer-nested e = rw (e, and-false (fourEverywhere w h bs))
+
+  pub answer-sound : fourEverywhere w h bs ≡ true → noneNested bs ≡ true → length bs ≤ 1024 → answer w h bs ≡ record { sound = true; table = table bs }
+  unfolding answer sound
+  answer-sound p q few = rw (p, q, le-leb (length bs) 1024 few)
