@@ -17,3 +17,5 @@ pub mod SoundMaps
 pub mod AtMost
 pub mod Cutting
 pub mod Drawing
+pub mod Counting
+pub mod Judging

@@ -4,6 +4,7 @@
 
 mod cut;
 mod steps;
+mod judge;
 
 // One axis of a blend: its three knots, rising.
 pub struct Triple {

@@ -1,0 +1,16 @@
+-- `mesh::judge::refusal` meets its contract.
+use mathlib.Core.Path.{refl, _∙_}
+use borrow.Author.Needs.{needs}
+use Rattle.mesh.specs.Sound.{table}
+use Rattle.mesh.proofs.judge.refusal.Statement.{statement}
+use Rattle.mesh.proofs.judge.refusal.Tie as tie
+
+nothing-requires : tie.Need-nothing-requires
+nothing-requires c κs = search needs
+
+returns : tie.Need-returns
+unfolding table
+returns c = rw (c .nothing .ensures)
+
+pub refusal-spec : {M : Type 1} → statement M
+refusal-spec = tie.close (tie.spec nothing-requires returns)
