@@ -19,3 +19,4 @@ pub mod Cutting
 pub mod Drawing
 pub mod Counting
 pub mod Judging
+pub mod Refining

@@ -86,7 +86,7 @@ pub record Kept (w h : ℕ) (places : List ℕ) (ds : List Blend) : Type 0 where
   pub met : (getD places 0 0 ≡ 0 → ⊥) →
       (B C : Blend) × List·Memᴰ B ds × List·Memᴰ C ds × (B ≡ C → ⊥) × (B .across .m ≡ C .across .m) × (B .up .m ≡ C .up .m)
 
-nothing-kept : (w h : ℕ) → Kept w h empty []
+pub nothing-kept : (w h : ℕ) → Kept w h empty []
 nothing-kept w h =
     record {
       square = length-replicate {A = ℕ} 17161 0;

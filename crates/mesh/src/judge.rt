@@ -38,7 +38,7 @@ fn nothing() -> Blend
 }
 
 // The answer where there is no sound map.
-fn refusal() -> Refined
+pub(crate) fn refusal() -> Refined
     ensures { λ r. ⌜ r ≡ refused ⌝ }
 {
     Refined {

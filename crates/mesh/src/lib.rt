@@ -2,9 +2,10 @@
 //
 // A knot is a line's position, kept shifted by one: knot k is document 01's coordinate k - 1, so that its -1 is 0.
 
+pub mod blends;
 mod cut;
-mod steps;
 mod judge;
+mod steps;
 
 // One axis of a blend: its three knots, rising.
 pub struct Triple {
