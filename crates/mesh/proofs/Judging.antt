@@ -1,13 +1,13 @@
 -- Walks over the places of a table, and what they tell of the blends that are kept there.
-use Prim.Native.Nat.{ℕ, zero, suc, _+_, _*_, _-_, _≤_, _<_}
+use Prim.Native.Nat.{ℕ, suc, _+_, _-_, _≤_, _<_}
 use native.Mathlib.Omega.{arith}
 use native.Mathlib.Numerals.{add-one}
 use mathlib.Core.Path.{_≡_, refl, sym, ap, _∙_}
 use mathlib.Core.Logic.{_⊎_, inl, inr, ⊎-elim}
-use mathlib.Core.Bool.{Bool, true, false, cond, _&&_, not}
+use mathlib.Core.Bool.{Bool, true, false, _&&_, not}
 use mathlib.Core.List.{List, [], _∷_, _++_, append-assoc, append-nil, List·Memᴰ, Memᴰ·append-right, List·Memᴰ·not-nil, List·Memᴰ·eq-of-singleton}
 use mathlib.Core.List.List·Memᴰ.{List·Memᴰ·head}
-use borrow.Author.Tests.{lt-ltb, not-true, not-false, ltb-true, leb-true, eqb-true, eqb-false, eq-eqb, ne-eqb, lt-leb, le-leb}
+use borrow.Author.Tests.{lt-ltb, not-true, ltb-true, leb-true, eqb-true, eqb-false, eq-eqb, ne-eqb, lt-leb, le-leb}
 use lib.Dec.{ltb, leb, eqb}
 use lib.ListN.{length, getD, set, take, drop, replicate, length-append, take-append-drop, drop-of-length-le}
 use lib.Seq.{take-append-seam, set-at, drop-cons, getD-take, length-take-le}

@@ -29,7 +29,7 @@ unfoldable pub bytesMesh : List ℕ → List ℕ → Mesh
 bytesMesh uprights levels upright = stepOn uprights
 bytesMesh uprights levels level = stepOn levels
 
--- a triple rises within knots 0 to 130; so do both of a blend
+-- a triple rises within knots 0 to 130; so do both of a blend, and those of all of some blends
 pub record Rises (t : Triple) : Type 0 where
   pub low : t .l < t .m
   pub high : t .m < t .r

@@ -5,7 +5,7 @@ use crate::Table;
 use crate::Triple;
 ghost use mathlib.Core.Path.{_≡_};
 ghost use mathlib.Core.Bool.{cond};
-ghost use Prim.Native.Nat.{ℕ, _+_, _≤_, _<_, min, max};
+ghost use Prim.Native.Nat.{_≤_, min, max};
 ghost use lib.Dec.{eqb};
 ghost use lib.ListN.{length, getD};
 ghost use Rattle.mesh.specs.Range.{every, all};
@@ -82,6 +82,7 @@ fn read_out(places: &[u64], w: usize, h: usize) -> Refined
     }
 }
 
+// The lesser and the greater of two numbers.
 fn lesser(a: usize, b: usize) -> usize
     ensures { λ r. ⌜ r ≡ min a b ⌝ }
 {
@@ -132,24 +133,6 @@ fn add_support(counts: &mut [u8], x: Blend, w: usize, h: usize) -> bool
     true
 }
 
-// Whether every unit square of the domain lies in the supports of exactly four of the table's blends.
-fn four_everywhere(table: Table, w: usize, h: usize) -> bool
-    requires { ⌜ (table .count ≤ 1024) × AllProper (blendsOf table) × (w ≤ 128) × (h ≤ 128) ⌝ }
-    ensures { λ r. ⌜ r ≡ fourEverywhere w h (blendsOf table) ⌝ }
-{
-    let mut counts = [0u8; 17161];
-    let count = table.count;
-    let mut k = 0;
-    while k < count {
-        let x = table.blends[k];
-        if !add_support(&mut counts, x, w, h) {
-            return false;
-        }
-        k += 1;
-    }
-    all_four(&counts, w, h)
-}
-
 // Whether each count of the domain is four.
 fn all_four(counts: &[u8], w: usize, h: usize) -> bool
     requires { ⌜ Square (now counts) × (w ≤ 128) × (h ≤ 128) ⌝ }
@@ -167,6 +150,24 @@ fn all_four(counts: &[u8], w: usize, h: usize) -> bool
         i += 1;
     }
     true
+}
+
+// Whether every unit square of the domain lies in the supports of exactly four of the table's blends.
+fn four_everywhere(table: Table, w: usize, h: usize) -> bool
+    requires { ⌜ (table .count ≤ 1024) × AllProper (blendsOf table) × (w ≤ 128) × (h ≤ 128) ⌝ }
+    ensures { λ r. ⌜ r ≡ fourEverywhere w h (blendsOf table) ⌝ }
+{
+    let mut counts = [0u8; 17161];
+    let count = table.count;
+    let mut k = 0;
+    while k < count {
+        let x = table.blends[k];
+        if !add_support(&mut counts, x, w, h) {
+            return false;
+        }
+        k += 1;
+    }
+    all_four(&counts, w, h)
 }
 
 // Whether no place strictly inside a blend's support, other than its own anchor's, holds a blend.
@@ -222,6 +223,7 @@ pub(crate) fn judge(places: &[u64], w: usize, h: usize) -> Refined
         return found;
     }
     let table = found.table;
+    // With four over every square the supports add up to four times the domain, which bounds the walk of `none_nested`.
     if !four_everywhere(table, w, h) {
         return refusal();
     }

@@ -1,3 +1,4 @@
+-- `mesh::judge::add_run` meets its contract. The invariant: one is added to each place of the run as far as k.
 use borrow.Author.Needs.{needs}
 use native.Mathlib.Omega.{arith}
 use Prim.Native.Nat.{_-_, _≤_, max}
@@ -5,8 +6,6 @@ use Rattle.mesh.specs.Bytes.{RunAdded}
 use Rattle.mesh.proofs.Counting.{run-none, run-more, run-done, run-full}
 use Rattle.mesh.proofs.judge.add_run.Statement.{statement}
 use Rattle.mesh.proofs.judge.add_run.Tie as tie
-use Rattle.mesh.proofs.judge.add_run.Reads as reads
-use Rattle.mesh.proofs.judge.add_run.Lts as lts
 
 abbrev Inv-loop : tie.InvT-loop
 Inv-loop counts₀ from to k₀ counts k = RunAdded from k counts₀ counts × (from ≤ k) × (k ≤ max from to)
@@ -14,42 +13,33 @@ Inv-loop counts₀ from to k₀ counts k = RunAdded from k counts₀ counts × (
 abbrev μ-loop : tie.MeasureT-loop
 μ-loop counts₀ from to k₀ counts k = to - k
 
--- src/judge.rt:104:5
 loop-holds : tie.Need-loop-holds Inv-loop μ-loop
 loop-holds c = (run-none _ _, omega arith, omega arith)
 
--- src/judge.rt:105:17
 slice-read-n : tie.Need-slice-read-n Inv-loop μ-loop
 slice-read-n c = search needs
 
--- src/judge.rt:107:13
 same-length : tie.Need-same-length Inv-loop μ-loop
 same-length c = search needs
 
--- src/judge.rt:107:13
 returns : tie.Need-returns Inv-loop μ-loop
 returns c =
     let l = c .before .before .before .loop in
     let a = c .before .before .before .before .args in
     run-full (a .from) (a .to) (l .k) (a .counts .now) (l .counts) (omega arith) (omega arith) (l .inv .0) (c .if1 .taken)
 
--- src/judge.rt:109:21
 add-counts : tie.Need-add-counts Inv-loop μ-loop
 add-counts c = search needs
 
--- src/judge.rt:109:9
 slice-write-counts : tie.Need-slice-write-counts Inv-loop μ-loop
 slice-write-counts c = search needs
 
--- src/judge.rt:110:9
 add-k : tie.Need-add-k Inv-loop μ-loop
 add-k c = search needs
 
--- src/judge.rt:104:5
 loop-less : tie.Need-loop-less Inv-loop μ-loop
 loop-less c = search needs
 
--- src/judge.rt:104:5
 loop-again : tie.Need-loop-again Inv-loop μ-loop
 loop-again c =
     let l = c .before .before .before .loop in
@@ -57,11 +47,9 @@ loop-again c =
     let long = l .inv .0 .long in
     (run-more (a .from) (l .k) (a .counts .now) (l .counts) (omega arith) (omega arith) (l .inv .0), omega arith, omega arith)
 
--- src/judge.rt:98:1
 same-length-2 : tie.Need-same-length-2 Inv-loop μ-loop
 same-length-2 c = search needs
 
--- src/judge.rt:98:1
 returns-2 : tie.Need-returns-2 Inv-loop μ-loop
 returns-2 c =
     let l = c .before .loop in

@@ -1,3 +1,4 @@
+-- `mesh::judge::all_four` meets its contract. The invariants: the counts that are left to test decide the whole answer.
 use borrow.Author.Needs.{needs}
 use borrow.Author.Tests.{eq-eqb, ne-eqb}
 use native.Mathlib.Omega.{arith}
@@ -12,8 +13,6 @@ use Rattle.mesh.specs.Bytes.{at}
 use Rattle.mesh.proofs.Judging.{rowsPass, placesPass, rows-turn, rows-end, places-go, places-stop, places-end}
 use Rattle.mesh.proofs.judge.all_four.Statement.{statement}
 use Rattle.mesh.proofs.judge.all_four.Tie as tie
-use Rattle.mesh.proofs.judge.all_four.Reads as reads
-use Rattle.mesh.proofs.judge.all_four.Lts as lts
 
 -- the test of one place, and of all
 abbrev four : List ℕ → ℕ → ℕ → Bool
@@ -34,33 +33,27 @@ Inv-loop counts w h i₀ i = (1 ≤ i) × (rowsPass (w + 1) 1 (h + 1) (four coun
 abbrev μ-loop : tie.MeasureT-loop
 μ-loop counts w h i₀ i = w + 1 - i
 
--- src/judge.rt:159:5
 loop-holds : tie.Need-loop-holds Inv-loop2 μ-loop2 Inv-loop μ-loop
 loop-holds c =
     let w : c .args .w + 1 - 1 ≡ c .args .w = omega arith in
     let h : c .args .h + 1 - 1 ≡ c .args .h = omega arith in
     (omega arith, rw (w, h))
 
--- src/judge.rt:161:9
 loop2-holds : tie.Need-loop2-holds Inv-loop2 μ-loop2 Inv-loop μ-loop
 loop2-holds c =
     let a = c .before .before .args in
     let l = c .before .loop in
     (omega arith, rows-turn (a .w + 1) 1 (a .h + 1) (four (a .counts .now)) (l .i) (omega arith) (l .inv .1))
 
--- src/judge.rt:162:23
 mul-if1 : tie.Need-mul-if1 Inv-loop2 μ-loop2 Inv-loop μ-loop
 mul-if1 c = search needs
 
--- src/judge.rt:162:23
 add-if1 : tie.Need-add-if1 Inv-loop2 μ-loop2 Inv-loop μ-loop
 add-if1 c = search needs
 
--- src/judge.rt:162:16
 shared-slice-read-if1 : tie.Need-shared-slice-read-if1 Inv-loop2 μ-loop2 Inv-loop μ-loop
 shared-slice-read-if1 c = search needs
 
--- src/judge.rt:163:17
 returns : tie.Need-returns Inv-loop2 μ-loop2 Inv-loop μ-loop
 returns c =
     let a = c .before .before .before .before .before .before .args in
@@ -68,15 +61,12 @@ returns c =
     let i = c .before .before .before .before .before .loop .i in
     places-stop (a .w + 1) 1 (a .h + 1) (four (a .counts .now)) i (l .j) (omega arith) (ne-eqb _ _ (c .if1 .taken)) (l .inv .1)
 
--- src/judge.rt:165:13
 add-j : tie.Need-add-j Inv-loop2 μ-loop2 Inv-loop μ-loop
 add-j c = search needs
 
--- src/judge.rt:161:9
 loop2-less : tie.Need-loop2-less Inv-loop2 μ-loop2 Inv-loop μ-loop
 loop2-less c = search needs
 
--- src/judge.rt:161:9
 loop2-again : tie.Need-loop2-again Inv-loop2 μ-loop2 Inv-loop μ-loop
 loop2-again c =
     let a = c .before .before .before .before .before .before .args in
@@ -84,15 +74,12 @@ loop2-again c =
     let i = c .before .before .before .before .before .loop .i in
     (omega arith, places-go (a .w + 1) 1 (a .h + 1) (four (a .counts .now)) i (l .j) (omega arith) (eq-eqb _ _ (c .if1 .left)) (l .inv .1))
 
--- src/judge.rt:167:9
 add-i : tie.Need-add-i Inv-loop2 μ-loop2 Inv-loop μ-loop
 add-i c = search needs
 
--- src/judge.rt:159:5
 loop-less : tie.Need-loop-less Inv-loop2 μ-loop2 Inv-loop μ-loop
 loop-less c = search needs
 
--- src/judge.rt:159:5
 loop-again : tie.Need-loop-again Inv-loop2 μ-loop2 Inv-loop μ-loop
 loop-again c =
     let a = c .before .before .before .before .args in
@@ -100,7 +87,6 @@ loop-again c =
     let i = c .before .before .before .loop .i in
     (omega arith, places-end (a .w + 1) 1 (a .h + 1) (four (a .counts .now)) i (l .j) (omega arith) (l .inv .1))
 
--- src/judge.rt:154:1
 returns-2 : tie.Need-returns-2 Inv-loop2 μ-loop2 Inv-loop μ-loop
 returns-2 c =
     let a = c .before .before .args in

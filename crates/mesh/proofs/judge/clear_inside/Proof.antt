@@ -1,66 +1,56 @@
+-- `mesh::judge::clear_inside` meets its contract. The invariants: the places that are left to test decide the whole answer.
 use borrow.Author.Needs.{needs}
 use native.Mathlib.Omega.{arith}
-use Prim.Native.Nat.{ℕ, _+_, _-_, _<_}
+use Prim.Native.Nat.{_+_, _-_, _<_}
 use mathlib.Core.Path.{_≡_, refl, sym}
 use mathlib.Core.Logic.{⊎-elim}
-use mathlib.Core.Bool.{Bool, true, false}
+use mathlib.Core.Bool.{true, false}
 use lib.ListN.{getD}
 use Rattle.mesh.specs.Blends.{blend}
 use Rattle.mesh.specs.Bytes.{at, lone, clear}
 use Rattle.mesh.proofs.Judging.{rowsPass, placesPass, rows-turn, rows-end, places-go, places-stop, places-end, lone-empty, lone-own, lone-not}
 use Rattle.mesh.proofs.judge.clear_inside.Statement.{statement}
 use Rattle.mesh.proofs.judge.clear_inside.Tie as tie
-use Rattle.mesh.proofs.judge.clear_inside.Reads as reads
-use Rattle.mesh.proofs.judge.clear_inside.Lts as lts
 
 abbrev Inv-loop2 : tie.InvT-loop2
-Inv-loop2 table a u i j₀ j = (u .l < j) × (placesPass (a .r) (u .l + 1) (u .r) (lone table (blend a u)) i j ≡ clear table (blend a u))
+Inv-loop2 places a u i j₀ j = (u .l < j) × (placesPass (a .r) (u .l + 1) (u .r) (lone places (blend a u)) i j ≡ clear places (blend a u))
 
 abbrev μ-loop2 : tie.MeasureT-loop2
-μ-loop2 table a u i j₀ j = u .r - j
+μ-loop2 places a u i j₀ j = u .r - j
 
 abbrev Inv-loop : tie.InvT-loop
-Inv-loop table a u i₀ i = (a .l < i) × (rowsPass (a .r) (u .l + 1) (u .r) (lone table (blend a u)) i ≡ clear table (blend a u))
+Inv-loop places a u i₀ i = (a .l < i) × (rowsPass (a .r) (u .l + 1) (u .r) (lone places (blend a u)) i ≡ clear places (blend a u))
 
 abbrev μ-loop : tie.MeasureT-loop
-μ-loop table a u i₀ i = a .r - i
+μ-loop places a u i₀ i = a .r - i
 
--- src/judge.rt:179:17
 add-i : tie.Need-add-i Inv-loop2 μ-loop2 Inv-loop μ-loop
 add-i c = search needs
 
--- src/judge.rt:180:5
 loop-holds : tie.Need-loop-holds Inv-loop2 μ-loop2 Inv-loop μ-loop
 loop-holds c = (omega arith, refl)
 
--- src/judge.rt:181:21
 add-j : tie.Need-add-j Inv-loop2 μ-loop2 Inv-loop μ-loop
 add-j c = search needs
 
--- src/judge.rt:182:9
 loop2-holds : tie.Need-loop2-holds Inv-loop2 μ-loop2 Inv-loop μ-loop
 loop2-holds c =
     let x = c .before .before .before .before .before .before .before .args .x in
     let l = c .before .before .before .loop in
     (omega arith, rows-turn (x .across .r) (x .up .l + 1) (x .up .r) _ (l .i) (omega arith) (l .inv .1))
 
--- src/judge.rt:183:23
 mul-if3 : tie.Need-mul-if3 Inv-loop2 μ-loop2 Inv-loop μ-loop
 mul-if3 c = search needs
 
--- src/judge.rt:183:23
 add-if3 : tie.Need-add-if3 Inv-loop2 μ-loop2 Inv-loop μ-loop
 add-if3 c = search needs
 
--- src/judge.rt:183:16
 mul-if3-2 : tie.Need-mul-if3-2 Inv-loop2 μ-loop2 Inv-loop μ-loop
 mul-if3-2 c = search needs
 
--- src/judge.rt:183:16
 shared-slice-read-if3 : tie.Need-shared-slice-read-if3 Inv-loop2 μ-loop2 Inv-loop μ-loop
 shared-slice-read-if3 c = search needs
 
--- src/judge.rt:185:21
 -- a turn of the inner loop
 abbrev Turn : Type 0
 Turn = tie.Then2 Inv-loop2 μ-loop2 Inv-loop μ-loop
@@ -80,20 +70,16 @@ refuse c held other =
 returns : tie.Need-returns Inv-loop2 μ-loop2 Inv-loop μ-loop
 returns c = refuse (c .before .before .before .before) (c .before .before .if3 .taken) (λ p q. c .if4 .taken (sym p))
 
--- src/judge.rt:188:21
 returns-2 : tie.Need-returns-2 Inv-loop2 μ-loop2 Inv-loop μ-loop
 returns-2 c =
     refuse (c .before .before .before .before .before .before) (c .before .before .before .before .if3 .taken) (λ p q. c .if5 .taken (sym q))
 
--- src/judge.rt:191:13
 add-j-2 : tie.Need-add-j-2 Inv-loop2 μ-loop2 Inv-loop μ-loop
 add-j-2 c = search needs
 
--- src/judge.rt:182:9
 loop2-less : tie.Need-loop2-less Inv-loop2 μ-loop2 Inv-loop μ-loop
 loop2-less c = search needs
 
--- src/judge.rt:182:9
 loop2-again : tie.Need-loop2-again Inv-loop2 μ-loop2 Inv-loop μ-loop
 loop2-again c =
     let a = c .before .before .before .before .before .before .before .before .before .before .before .before .args in
@@ -103,15 +89,12 @@ loop2-again c =
     ⊎-elim (λ w. lone-own (a .places .now) (a .x) i (l .j) (sym (w .2 .left)) (sym (w .4 .left))) (λ w. lone-empty (a .places .now) (a .x) i (l .j) (w .left)) (c .if3 .came) in
     (omega arith, places-go (a .x .across .r) (a .x .up .l + 1) (a .x .up .r) (lone (a .places .now) (a .x)) i (l .j) (omega arith) on (l .inv .1))
 
--- src/judge.rt:193:9
 add-i-2 : tie.Need-add-i-2 Inv-loop2 μ-loop2 Inv-loop μ-loop
 add-i-2 c = search needs
 
--- src/judge.rt:180:5
 loop-less : tie.Need-loop-less Inv-loop2 μ-loop2 Inv-loop μ-loop
 loop-less c = search needs
 
--- src/judge.rt:180:5
 loop-again : tie.Need-loop-again Inv-loop2 μ-loop2 Inv-loop μ-loop
 loop-again c =
     let x = c .before .before .before .before .before .before .before .before .before .before .args .x in
@@ -119,7 +102,6 @@ loop-again c =
     let i = c .before .before .before .before .before .before .loop .i in
     (omega arith, places-end (x .across .r) (x .up .l + 1) (x .up .r) _ i (l .j) (omega arith) (l .inv .1))
 
--- src/judge.rt:173:1
 returns-3 : tie.Need-returns-3 Inv-loop2 μ-loop2 Inv-loop μ-loop
 returns-3 c =
     let x = c .before .before .before .before .before .before .args .x in

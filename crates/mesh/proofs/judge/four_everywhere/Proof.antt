@@ -1,8 +1,9 @@
+-- `mesh::judge::four_everywhere` meets its contract. The invariant: the counts, with the blends that are left, make up the whole count.
 use borrow.Author.Needs.{needs}
 use borrow.Author.Tests.{not-true, not-false}
 use native.Mathlib.Omega.{arith}
 use Prim.Native.Nat.{ℕ, _+_, _-_}
-use mathlib.Core.Path.{_≡_, refl, sym, _∙_}
+use mathlib.Core.Path.{_≡_, sym, _∙_}
 use mathlib.Core.Bool.{true, false}
 use mathlib.Core.List.{_∷_}
 use lib.ListN.{drop, getD, length, length-map, length-replicate}
@@ -12,10 +13,6 @@ use Rattle.mesh.proofs.Judging.{left-turn, left-none, left-mem}
 use Rattle.mesh.proofs.Counting.{CountedBut, counted-none, counted-more, counted-crowded, counted-all, counted-four}
 use Rattle.mesh.proofs.judge.four_everywhere.Statement.{statement}
 use Rattle.mesh.proofs.judge.four_everywhere.Tie as tie
-use Rattle.mesh.proofs.judge.four_everywhere.Reads as reads
-use Rattle.mesh.proofs.judge.four_everywhere.Lts as lts
-use Rattle.mesh.proofs.judge.add_support.Reads as add-support-reads
-use Rattle.mesh.proofs.judge.all_four.Reads as all-four-reads
 
 abbrev Inv-loop : tie.InvT-loop
 Inv-loop w h table counts₀ count k₀ counts k = Square counts × CountedBut w h (drop k (blendsOf table)) (blendsOf table) counts
@@ -37,23 +34,18 @@ turn c =
     let n = full s in
     rw (left-turn (s .args .t1 .blends) (s .args .t1 .count) (l .k) (omega arith) none (omega arith)) at (l .inv .1)
 
--- src/judge.rt:143:5
 loop-holds : tie.Need-loop-holds Inv-loop μ-loop
 loop-holds c = (length-replicate {A = ℕ} 17161 0, counted-none (c .args .w) (c .args .h) 17161 (blendsOf (c .args .t1)))
 
--- src/judge.rt:144:17
 mul-x : tie.Need-mul-x Inv-loop μ-loop
 mul-x c = search needs
 
--- src/judge.rt:144:17
 element-copy-out-x : tie.Need-element-copy-out-x Inv-loop μ-loop
 element-copy-out-x c = search needs
 
--- src/judge.rt:145:25
 slice-aggregate-add-support : tie.Need-slice-aggregate-add-support Inv-loop μ-loop
 slice-aggregate-add-support c = sym (c .before .before .before .loop .inv .0)
 
--- src/judge.rt:145:13
 add-support-requires : tie.Need-add-support-requires Inv-loop μ-loop
 add-support-requires c κs =
     let s = c .before .before .before .before in
@@ -61,7 +53,6 @@ add-support-requires c κs =
     let n = full s in
     (l .inv .0, s .pre .1 _ (left-mem (s .args .t1 .blends) (s .args .t1 .count) (l .k) (omega arith) none (omega arith)), omega arith, omega arith)
 
--- src/judge.rt:146:13
 returns : tie.Need-returns Inv-loop μ-loop
 returns c =
     let bs = blendsOf (c .before .before .before .before .before .before .before .args .t1) in
@@ -69,15 +60,12 @@ returns c =
     let f : c .before .before .add-support .result ≡ false = not-true _ (c .if1 .taken) in
     sym (counted-crowded _ _ _ (drop (k + 1) bs) _ _ (turn (c .before .before .before)) (rw f at (c .before .before .add-support .ensures)))
 
--- src/judge.rt:148:9
 add-k : tie.Need-add-k Inv-loop μ-loop
 add-k c = search needs
 
--- src/judge.rt:143:5
 loop-less : tie.Need-loop-less Inv-loop μ-loop
 loop-less c = search needs
 
--- src/judge.rt:143:5
 loop-again : tie.Need-loop-again Inv-loop μ-loop
 loop-again c =
     let bs = blendsOf (c .before .before .before .before .before .before .before .args .t1) in
@@ -86,15 +74,12 @@ loop-again c =
     let added = rw f at (c .before .before .add-support .ensures) in
     (added .square, counted-more _ _ _ (drop (k + 1) bs) bs _ _ (turn (c .before .before .before)) added)
 
--- src/judge.rt:150:14
 slice-aggregate-all-four : tie.Need-slice-aggregate-all-four Inv-loop μ-loop
 slice-aggregate-all-four c = sym (c .before .before .loop .inv .0)
 
--- src/judge.rt:150:5
 all-four-requires : tie.Need-all-four-requires Inv-loop μ-loop
 all-four-requires c κs = (c .before .before .loop .inv .0, omega arith, omega arith)
 
--- src/judge.rt:136:1
 returns-2 : tie.Need-returns-2 Inv-loop μ-loop
 returns-2 c =
     let s = c .before .before .before .before in

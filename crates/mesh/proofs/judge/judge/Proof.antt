@@ -2,7 +2,7 @@
 use borrow.Author.Needs.{needs}
 use borrow.Author.Tests.{not-true, not-false}
 use native.Mathlib.Omega.{arith}
-use mathlib.Core.Path.{_≡_, refl, sym, ap, _∙_}
+use mathlib.Core.Path.{_≡_, sym, _∙_}
 use mathlib.Core.List.{List}
 use Rattle.mesh.specs.Sound.{fourEverywhere, noneNested, blendsOf}
 use Rattle.mesh.specs.Bytes.{AllProper, walk}
@@ -10,18 +10,10 @@ use Rattle.mesh.specs.declared.Blend.{Blend}
 use Rattle.mesh.proofs.Judging.{walk-proper, nested-clear, Listed, listed-held, listed-count, listed-blends, answer-many, answer-not-four, answer-nested, answer-sound}
 use Rattle.mesh.proofs.judge.judge.Statement.{statement}
 use Rattle.mesh.proofs.judge.judge.Tie as tie
-use Rattle.mesh.proofs.judge.judge.Reads as reads
-use Rattle.mesh.proofs.judge.judge.Lts as lts
-use Rattle.mesh.proofs.judge.four_everywhere.Reads as four-everywhere-reads
-use Rattle.mesh.proofs.judge.none_nested.Reads as none-nested-reads
-use Rattle.mesh.proofs.judge.read_out.Reads as read-out-reads
-use Rattle.mesh.proofs.judge.refusal.Reads as refusal-reads
 
--- src/judge.rt:220:9
 read-out-requires : tie.Need-read-out-requires
 read-out-requires c κs = search needs
 
--- src/judge.rt:222:9
 returns : tie.Need-returns
 returns c =
     let a = c .before .before .before .before .args in
@@ -39,7 +31,6 @@ all-proper c =
     let s = c .before .before .before .before .before in
     rw (listed-blends (held c)) (walk-proper (s .args .w) (s .args .h) (s .args .places .now) (s .pre .0) (omega arith) (omega arith))
 
--- src/judge.rt:225:9
 four-everywhere-requires : tie.Need-four-everywhere-requires
 four-everywhere-requires c κs = (listed-count (held c), all-proper c, omega arith, omega arith)
 
@@ -49,18 +40,15 @@ four : (c : tie.After-four-everywhere) →
     c .four-everywhere .result ≡ fourEverywhere (a .w) (a .h) (Walk (c .before))
 four c = c .four-everywhere .ensures ∙ rw (listed-blends (held (c .before)))
 
--- src/judge.rt:226:9
 refusal-requires : tie.Need-refusal-requires
 refusal-requires c κs = search needs
 
--- src/judge.rt:226:9
 returns-2 : tie.Need-returns-2
 returns-2 c =
     let a = c .before .before .before .before .before .before .before .before .args in
     c .refusal .ensures ∙
     sym (answer-not-four (a .w) (a .h) _ (sym (four (c .before .before)) ∙ not-true _ (c .before .if2 .taken)))
 
--- src/judge.rt:228:9
 none-nested-requires : tie.Need-none-nested-requires
 none-nested-requires c κs =
     let t = c .before .before in
@@ -72,18 +60,15 @@ nested c =
     c .none-nested .ensures ∙ rw (listed-blends (held (c .before .before .before)))
     (nested-clear (s .args .w) (s .args .h) (s .args .places .now) (s .pre .0))
 
--- src/judge.rt:229:9
 refusal-requires-2 : tie.Need-refusal-requires-2
 refusal-requires-2 c κs = search needs
 
--- src/judge.rt:229:9
 returns-3 : tie.Need-returns-3
 returns-3 c =
     let a = c .before .before .before .before .before .before .before .before .before .before .args in
     c .refusal2 .ensures ∙
     sym (answer-nested (a .w) (a .h) _ (sym (nested (c .before .before)) ∙ not-true _ (c .before .if3 .taken)))
 
--- src/judge.rt:216:1
 returns-4 : tie.Need-returns-4
 returns-4 c =
     let a = c .before .before .before .before .before .before .before .before .before .args in

@@ -1,3 +1,4 @@
+-- `mesh::judge::none_nested` meets its contract. The invariant: the blends that are left decide the whole answer.
 use borrow.Author.Needs.{needs}
 use borrow.Author.Tests.{not-true, not-false}
 use native.Mathlib.Omega.{arith}
@@ -11,9 +12,6 @@ use Rattle.mesh.specs.Bytes.{clear}
 use Rattle.mesh.proofs.Judging.{left-turn, left-none, left-mem}
 use Rattle.mesh.proofs.judge.none_nested.Statement.{statement}
 use Rattle.mesh.proofs.judge.none_nested.Tie as tie
-use Rattle.mesh.proofs.judge.none_nested.Reads as reads
-use Rattle.mesh.proofs.judge.none_nested.Lts as lts
-use Rattle.mesh.proofs.judge.clear_inside.Reads as clear-inside-reads
 
 abbrev Inv-loop : tie.InvT-loop
 Inv-loop places table count k₀ k = all (clear places) (drop k (blendsOf table)) ≡ all (clear places) (blendsOf table)
@@ -35,42 +33,33 @@ turn c =
     let n = full s in
     sym (l .inv) ∙ rw (left-turn (s .args .t2 .blends) (s .args .t2 .count) (l .k) (omega arith) none (omega arith), c .clear-inside .ensures)
 
--- src/judge.rt:205:5
 loop-holds : tie.Need-loop-holds Inv-loop μ-loop
 loop-holds c = refl
 
--- src/judge.rt:206:17
 mul-x : tie.Need-mul-x Inv-loop μ-loop
 mul-x c = search needs
 
--- src/judge.rt:206:17
 element-copy-out-x : tie.Need-element-copy-out-x Inv-loop μ-loop
 element-copy-out-x c = omega arith
 
--- src/judge.rt:207:13
 clear-inside-requires : tie.Need-clear-inside-requires Inv-loop μ-loop
 clear-inside-requires c κs =
     let s = c .before .before .before .before in
     let n = full s in
     (s .pre .0, s .pre .2 _ (left-mem (s .args .t2 .blends) (s .args .t2 .count) (c .before .before .loop .k) (omega arith) none (omega arith)))
 
--- src/judge.rt:208:13
 returns : tie.Need-returns Inv-loop μ-loop
 returns c = sym (turn (c .before) ∙ rw (not-true (c .before .clear-inside .result) (c .if1 .taken)))
 
--- src/judge.rt:210:9
 add-k : tie.Need-add-k Inv-loop μ-loop
 add-k c = search needs
 
--- src/judge.rt:205:5
 loop-less : tie.Need-loop-less Inv-loop μ-loop
 loop-less c = search needs
 
--- src/judge.rt:205:5
 loop-again : tie.Need-loop-again Inv-loop μ-loop
 loop-again c = sym (turn (c .before) ∙ rw (not-false (c .before .clear-inside .result) (c .if1 .left)))
 
--- src/judge.rt:199:1
 returns-2 : tie.Need-returns-2 Inv-loop μ-loop
 returns-2 c =
     let s = c .before .before .before in

@@ -1,5 +1,4 @@
 -- `mesh::judge::nothing` meets its contract: 0 taken apart is zeros.
-use mathlib.Core.Path.{refl, _∙_}
 use borrow.Author.Needs.{needs}
 use Rattle.mesh.specs.Bytes.{unpacked}
 use Rattle.mesh.proofs.judge.nothing.Statement.{statement}

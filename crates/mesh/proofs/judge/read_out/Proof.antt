@@ -1,17 +1,13 @@
+-- `mesh::judge::read_out` meets its contract. The invariants: what is read, with the places that are left, is the whole walk.
 use borrow.Author.Needs.{needs}
 use native.Mathlib.Omega.{arith}
-use Prim.Native.Nat.{ℕ, _+_, _-_, _≤_}
-use mathlib.Core.Path.{_≡_, refl, sym, _∙_}
+use Prim.Native.Nat.{_+_, _-_, _≤_}
+use mathlib.Core.Path.{sym, _∙_}
 use mathlib.Core.Logic.{⊎-elim}
 use Rattle.mesh.specs.Bytes.{walk}
 use Rattle.mesh.proofs.Judging.{rowsLeft, placesLeft, walk-rows, row-begins, row-ends, rows-end-left, place-empty, place-holds, Reading, read-none, read-more, read-full, read-all}
 use Rattle.mesh.proofs.judge.read_out.Statement.{statement}
 use Rattle.mesh.proofs.judge.read_out.Tie as tie
-use Rattle.mesh.proofs.judge.read_out.Reads as reads
-use Rattle.mesh.proofs.judge.read_out.Lts as lts
-use Rattle.mesh.proofs.judge.nothing.Reads as nothing-reads
-use Rattle.mesh.proofs.judge.refusal.Reads as refusal-reads
-use Rattle.mesh.proofs.judge.unpack.Reads as unpack-reads
 
 abbrev Inv-loop2 : tie.InvT-loop2
 Inv-loop2 places w h blends₀ count₀ m n₀ blends count n =
@@ -27,52 +23,41 @@ Inv-loop places w h blends₀ count₀ m₀ blends count m =
 abbrev μ-loop : tie.MeasureT-loop
 μ-loop places w h blends₀ count₀ m₀ blends count m = w + 2 - m
 
--- src/judge.rt:58:23
 nothing-requires : tie.Need-nothing-requires Inv-loop2 μ-loop2 Inv-loop μ-loop
 nothing-requires c κs = search needs
 
--- src/judge.rt:61:5
 loop-holds : tie.Need-loop-holds Inv-loop2 μ-loop2 Inv-loop μ-loop
 loop-holds c =
     let a = c .before .before .args in
     (omega arith, rw (c .nothing .ensures, ← walk-rows (a .w) (a .h) (a .places .now)) (read-none (walk (a .w) (a .h) (a .places .now))))
 
--- src/judge.rt:61:16
 add-loop : tie.Need-add-loop Inv-loop2 μ-loop2 Inv-loop μ-loop
 add-loop c = search needs
 
--- src/judge.rt:63:9
 loop2-holds : tie.Need-loop2-holds Inv-loop2 μ-loop2 Inv-loop μ-loop
 loop2-holds c =
     let a = c .before .before .before .before .args in
     let l = c .before .loop in
     (omega arith, rw (row-begins (a .w) (a .h) (a .places .now) (l .m) (omega arith)) at (l .inv .1))
 
--- src/judge.rt:63:20
 add-loop2 : tie.Need-add-loop2 Inv-loop2 μ-loop2 Inv-loop μ-loop
 add-loop2 c = search needs
 
--- src/judge.rt:64:28
 mul-c : tie.Need-mul-c Inv-loop2 μ-loop2 Inv-loop μ-loop
 mul-c c = search needs
 
--- src/judge.rt:64:28
 add-c : tie.Need-add-c Inv-loop2 μ-loop2 Inv-loop μ-loop
 add-c c = search needs
 
--- src/judge.rt:64:21
 mul-c-2 : tie.Need-mul-c-2 Inv-loop2 μ-loop2 Inv-loop μ-loop
 mul-c-2 c = search needs
 
--- src/judge.rt:64:21
 shared-slice-read-c : tie.Need-shared-slice-read-c Inv-loop2 μ-loop2 Inv-loop μ-loop
 shared-slice-read-c c = search needs
 
--- src/judge.rt:67:21
 refusal-requires : tie.Need-refusal-requires Inv-loop2 μ-loop2 Inv-loop μ-loop
 refusal-requires c κs = search needs
 
--- src/judge.rt:67:21
 returns : tie.Need-returns Inv-loop2 μ-loop2 Inv-loop μ-loop
 returns c =
     let a = c .before .before .before .before .before .before .before .before .before .before .args in
@@ -82,31 +67,24 @@ returns c =
     (read-full (c .before .if2 .taken)
     (rw (place-holds (a .w) (a .h) (a .places .now) m (l .n) (omega arith) (c .before .before .if1 .taken)) at (l .inv .1)))
 
--- src/judge.rt:69:33
 unpack-requires : tie.Need-unpack-requires Inv-loop2 μ-loop2 Inv-loop μ-loop
 unpack-requires c κs = search needs
 
--- src/judge.rt:69:17
 mul-blends : tie.Need-mul-blends Inv-loop2 μ-loop2 Inv-loop μ-loop
 mul-blends c = search needs
 
--- src/judge.rt:69:17
 array-set-from-blends : tie.Need-array-set-from-blends Inv-loop2 μ-loop2 Inv-loop μ-loop
 array-set-from-blends c = let l = c .before .before .before .before .before .loop2 .inv .1 .fits in omega arith
 
--- src/judge.rt:70:17
 add-count : tie.Need-add-count Inv-loop2 μ-loop2 Inv-loop μ-loop
 add-count c = search needs
 
--- src/judge.rt:72:13
 add-n : tie.Need-add-n Inv-loop2 μ-loop2 Inv-loop μ-loop
 add-n c = search needs
 
--- src/judge.rt:63:9
 loop2-less : tie.Need-loop2-less Inv-loop2 μ-loop2 Inv-loop μ-loop
 loop2-less c = search needs
 
--- src/judge.rt:63:9
 loop2-again : tie.Need-loop2-again Inv-loop2 μ-loop2 Inv-loop μ-loop
 loop2-again c =
     let a = c .before .before .before .before .before .before .before .before .args in
@@ -122,15 +100,12 @@ loop2-again c =
           (c .if1 .came),
     )
 
--- src/judge.rt:74:9
 add-m : tie.Need-add-m Inv-loop2 μ-loop2 Inv-loop μ-loop
 add-m c = search needs
 
--- src/judge.rt:61:5
 loop-less : tie.Need-loop-less Inv-loop2 μ-loop2 Inv-loop μ-loop
 loop-less c = search needs
 
--- src/judge.rt:61:5
 loop-again : tie.Need-loop-again Inv-loop2 μ-loop2 Inv-loop μ-loop
 loop-again c =
     let a = c .before .before .before .before .before .before .args in
@@ -138,7 +113,6 @@ loop-again c =
     let l = c .before .loop2 in
     (omega arith, rw (row-ends (a .w) (a .h) (a .places .now) m (l .n) (omega arith)) at (l .inv .1))
 
--- src/judge.rt:54:1
 returns-2 : tie.Need-returns-2 Inv-loop2 μ-loop2 Inv-loop μ-loop
 returns-2 c =
     let a = c .before .before .before .before .args in

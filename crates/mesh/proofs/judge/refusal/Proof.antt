@@ -1,5 +1,4 @@
 -- `mesh::judge::refusal` meets its contract.
-use mathlib.Core.Path.{refl, _∙_}
 use borrow.Author.Needs.{needs}
 use Rattle.mesh.specs.Sound.{table}
 use Rattle.mesh.proofs.judge.refusal.Statement.{statement}
