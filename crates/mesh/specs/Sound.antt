@@ -4,10 +4,10 @@ use mathlib.Core.Bool.{Bool, true, false, cond, _&&_, not}
 use mathlib.Core.List.{List, [], _∷_, _++_}
 use lib.Dec.{leb, eqb}
 use lib.ListN.{length, take, replicate}
-use Rattle.mesh.specs.Range.{every, all, only}
+use Rattle.mesh.specs.Range.{every, all, any, only}
 use Rattle.mesh.specs.Triple.{triple, rising, spans, between}
 use Rattle.mesh.specs.Lines.{meshOf, allowed}
-use Rattle.mesh.specs.Blends.{blend, same, refine, firstFour}
+use Rattle.mesh.specs.Blends.{blend, same, isCut, refine, firstFour}
 use Rattle.mesh.specs.declared.Blend.{Blend}
 use Rattle.mesh.specs.declared.Lines.{Lines}
 use Rattle.mesh.specs.declared.Table.{Table}
@@ -60,6 +60,11 @@ refined L t =
     let found = answer (L .w) (L .h) (refine (L .w) (L .h) (meshOf L) (blendsOf t)) in
     cond (allowed L && leb (t .count) 1024 && all (proper (L .w) (L .h)) (blendsOf t)) found
     (record { sound = false; table = table [] })
+
+-- whether the lines cut some blend of a table; no where the lines or the blends are out of range
+unfoldable pub someCut : Lines → Table → Bool
+someCut L t =
+    allowed L && leb (t .count) 1024 && all (proper (L .w) (L .h)) (blendsOf t) && any (isCut (meshOf L)) (blendsOf t)
 
 -- the live blends of a map, cut anew from the first four
 unfoldable pub liveTable : Lines → Refined

@@ -4,6 +4,7 @@ use crate::Lines;
 use crate::Refined;
 use crate::Table;
 use crate::Triple;
+use crate::cut::any_cut;
 use crate::cut::cut_all;
 use crate::cut::proper_table;
 use crate::judge::judge;
@@ -14,7 +15,7 @@ ghost use mathlib.Core.Path.{_≡_};
 ghost use Prim.Native.Nat.{_≤_};
 ghost use Rattle.mesh.specs.Triple as triples;
 ghost use Rattle.mesh.specs.Blends.{firstFour};
-ghost use Rattle.mesh.specs.Sound.{table, refined, liveTable};
+ghost use Rattle.mesh.specs.Sound.{table, refined, someCut, liveTable};
 
 // What is left of the table's blends when the lines cut them, in table order, if that makes a sound map.
 // From the live blends of a map with fewer lines, these are the live blends of the map.
@@ -102,4 +103,27 @@ pub fn live(lines: Lines) -> Refined
         return refusal();
     }
     refine(lines, first_four(lines.w, lines.h))
+}
+
+// Whether the lines cut some blend of the table.
+pub fn some_cut(lines: Lines, old: Table) -> bool
+    ensures { λ r. ⌜ r ≡ someCut lines old ⌝ }
+{
+    if !allowed_lines(lines) {
+        return false;
+    }
+    let count = old.count;
+    if 1024 < count {
+        return false;
+    }
+    let w = lines.w;
+    let h = lines.h;
+    if !proper_table(old, w, h) {
+        return false;
+    }
+    let mut uprights = [0u8; 17161];
+    let mut levels = [0u8; 17161];
+    draw_lines(lines, 0, &mut uprights);
+    draw_lines(lines, 1, &mut levels);
+    any_cut(&uprights, &levels, old)
 }

@@ -6,10 +6,10 @@ use crate::steps::covers;
 ghost use mathlib.Core.Path.{_≡_};
 ghost use mathlib.Core.Bool.{true, cond};
 ghost use Prim.Native.Nat.{ℕ, _+_, _-_, _≤_};
-ghost use Rattle.mesh.specs.Range.{every, all};
+ghost use Rattle.mesh.specs.Range.{all, any, every};
 ghost use Rattle.mesh.specs.Triple.{half, lower, upper, rising};
 ghost use Rattle.mesh.specs.Lines.{upright, level};
-ghost use Rattle.mesh.specs.Blends.{below, above, nearest, cutter, leaves, leavesOf, size};
+ghost use Rattle.mesh.specs.Blends.{below, above, nearest, cutter, leaves, leavesOf, size, isCut};
 ghost use Rattle.mesh.specs.Sound.{proper, blendsOf};
 ghost use Rattle.mesh.specs.Bytes.{Square, stepOn, bytesMesh, Rises, Proper, keep, keepAll};
 
@@ -238,4 +238,26 @@ pub(crate) fn cut_all(uprights: &[u8], levels: &[u8], table: Table, places: &mut
         cut_across(uprights, levels, x, false, places);
         i += 1;
     }
+}
+
+// Whether some line cuts some blend of a table.
+pub(crate) fn any_cut(uprights: &[u8], levels: &[u8], table: Table) -> bool
+    requires { ⌜ Square (now uprights) × Square (now levels) × (table .count ≤ 1024) × (all (proper 128 128) (blendsOf table) ≡ true) ⌝ }
+    ensures { λ r. ⌜ r ≡ any (isCut (bytesMesh (now (uprights .entry)) (now (levels .entry)))) (blendsOf table) ⌝ }
+{
+    let count = table.count;
+    let mut i = 0;
+    while i < count {
+        let x = table.blends[i];
+        let a = x.across;
+        let u = x.up;
+        if first_line(uprights, a, u.l, u.r - u.l) != 0 {
+            return true;
+        }
+        if first_line(levels, u, a.l, a.r - a.l) != 0 {
+            return true;
+        }
+        i += 1;
+    }
+    false
 }
