@@ -1,0 +1,113 @@
+// The record of a map: its splits replayed in order as exact splits. Every call on a map starts here, once.
+use crate::splits::exact_step;
+use crate::splits::with_split;
+use crate::Map;
+use mesh::Blend;
+use mesh::Lines;
+use mesh::Split;
+use mesh::Table;
+use mesh::Triple;
+ghost use mathlib.Core.Path.{_≡_};
+ghost use Prim.Native.Nat.{ℕ, _≤_};
+ghost use mathlib.Core.List.{[]};
+ghost use lib.Dec.{eqb};
+ghost use Rattle.mesh.specs.Sound.{table};
+ghost use lib.ListN.{drop};
+ghost use Rattle.mesh.specs.Range.{all};
+ghost use Rattle.maps.specs.Record.{isNoSplit};
+ghost use Rattle.maps.specs.Inner.{opened};
+
+// Whether a record is good, and then the table of its live blends.
+pub struct Opened {
+    pub good: bool,
+    pub table: Table,
+}
+
+// Whether the splits from a place on are all zero.
+fn no_splits_from(splits: [Split; 60], from: usize) -> bool
+    ensures { λ r. ⌜ r ≡ all isNoSplit (drop from splits) ⌝ }
+{
+    let mut i = from;
+    while i < 60 {
+        let s = splits[i];
+        if s.direction != 0 || s.position != 0 || s.from != 0 || s.to != 0 {
+            return false;
+        }
+        i += 1;
+    }
+    true
+}
+
+// Whether the values from a place on are all zero.
+fn no_values_from(values: [u16; 1024], from: usize) -> bool
+    ensures { λ r. ⌜ r ≡ all (λ v. eqb v 0) (drop from values) ⌝ }
+{
+    let mut i = from;
+    while i < 1024 {
+        if values[i] != 0 {
+            return false;
+        }
+        i += 1;
+    }
+    true
+}
+
+// A table without blends.
+fn no_table() -> Table
+    ensures { λ r. ⌜ r ≡ table [] ⌝ }
+{
+    let zero = Triple { l: 0, m: 0, r: 0 };
+    let none = Blend { across: zero, up: zero };
+    Table { count: 0, blends: [none; 1024] }
+}
+
+// Opens a record: tests whether it is good, and gives the table of its live blends.
+pub(crate) fn open(map: Map) -> Opened
+    ensures { λ r. ⌜ r ≡ opened map ⌝ }
+{
+    let none = Split {
+        direction: 0,
+        position: 0,
+        from: 0,
+        to: 0,
+    };
+    let mut lines = Lines {
+        w: map.w,
+        h: map.h,
+        count: 0,
+        splits: [none; 60],
+    };
+    let first = mesh::blends::live(lines);
+    let mut table = first.table;
+    let count = map.count;
+    if !first.sound || 60 < count {
+        return Opened {
+            good: false,
+            table: no_table(),
+        };
+    }
+    let mut i = 0;
+    while i < count {
+        let s = map.splits[i];
+        let step = exact_step(lines, table, s);
+        if step.number != 0 {
+            return Opened {
+                good: false,
+                table: no_table(),
+            };
+        }
+        lines = with_split(lines, s);
+        table = step.table;
+        i += 1;
+    }
+    if !no_splits_from(map.splits, count) || !no_values_from(map.values, table.count) {
+        return Opened {
+            good: false,
+            table: no_table(),
+        };
+    }
+    Opened {
+        good: true,
+        table: table,
+    }
+}
