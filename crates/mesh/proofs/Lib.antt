@@ -16,3 +16,4 @@ pub mod Weights
 pub mod SoundMaps
 pub mod Cutting
 pub mod Drawing
+pub mod SingleSteps

@@ -3,6 +3,7 @@
 // A knot is a line's position, kept shifted by one: knot k is document 01's coordinate k - 1, so that its -1 is 0.
 
 mod cut;
+pub mod points;
 mod steps;
 
 // One axis of a blend: its three knots, rising.
