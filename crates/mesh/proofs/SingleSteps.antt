@@ -9,7 +9,7 @@ use mathlib.Core.List.{List, [], _∷_}
 use lib.Dec.{eqb, ltb, leb}
 use lib.ListN.{length, getD, take, drop}
 use Rattle.mesh.specs.Range.{some, all, any}
-use Rattle.mesh.specs.Lines.{upright, level, start, end, allowed, inRange, splitsOf}
+use Rattle.mesh.specs.Lines.{upright, level, start, end, allowed, inRange, direction, freshMesh, draws, mesh, meshOf, splitsOf}
 use Rattle.mesh.specs.declared.Split.{Split}
 use Rattle.mesh.specs.declared.Lines.{Lines}
 use Rattle.mesh.proofs.Tests.{either, and-both}
@@ -84,3 +84,16 @@ module _ (L : Lines) (e : allowed L ≡ true) (room : length (L .splits) ≡ 60)
   any-none test done =
       let a = allowed-says L e in
       rw (left-none (L .splits) (L .count) i (omega arith) done)
+
+-- the mesh at a step, by the tests of the fresh map and of the splits
+abbrev pub fresh : ℕ → ℕ → ℕ → ℕ → Bool
+fresh crossed run z k = (eqb z 0 || eqb z 1 || eqb z (crossed + 1) || eqb z (crossed + 2)) && ltb k (run + 2)
+
+module _ (L : Lines) (n z k : ℕ) where
+  pub step-upright : n ≡ 0 → meshOf L (direction n) z k ≡ (fresh (L .w) (L .h) z k || any (has 0 (L .h) z k) (splitsOf L))
+  unfolding mesh freshMesh draws
+  step-upright e = rw (eq-eqb n 0 e)
+
+  pub step-level : (n ≡ 0 → ⊥) → meshOf L (direction n) z k ≡ (fresh (L .h) (L .w) z k || any (has 1 (L .w) z k) (splitsOf L))
+  unfolding mesh freshMesh draws
+  step-level ne = rw (ne-eqb n 0 ne)

@@ -8,7 +8,7 @@ ghost use mathlib.Core.Bool.{true, _&&_, _||_};
 ghost use Prim.Native.Nat.{_+_, _≤_, _<_};
 ghost use lib.Dec.{eqb, ltb, leb};
 ghost use Rattle.mesh.specs.Range.{any};
-ghost use Rattle.mesh.specs.Lines.{start, end, direction, allowed, inRange, splitsOf, meshOf, onLine, shares};
+ghost use Rattle.mesh.specs.Lines.{start, end, direction, allowed, inRange, splitsOf, meshOf, onLine, shares, ended};
 
 // Whether a fresh map has the step: the line crosses one side and runs along the other.
 fn fresh_step(crossed: usize, run: usize, z: usize, k: usize) -> bool
@@ -97,13 +97,11 @@ fn step_on(lines: Lines, number: usize, z: usize, k: usize) -> bool
     some_split_step(lines, 1, w, z, k)
 }
 
-// Whether the point at knot k lies on a line of the direction at knot z; no where the lines are out of range.
-pub fn on_line(lines: Lines, number: usize, z: usize, k: usize) -> bool
-    ensures { λ r. ⌜ r ≡ (allowed lines && onLine (meshOf lines) (direction number) z k) ⌝ }
+// Whether the point at knot k lies on a line of the direction at knot z.
+fn point_on(lines: Lines, number: usize, z: usize, k: usize) -> bool
+    requires { ⌜ allowed lines ≡ true ⌝ }
+    ensures { λ r. ⌜ r ≡ onLine (meshOf lines) (direction number) z k ⌝ }
 {
-    if !allowed_lines(lines) {
-        return false;
-    }
     if step_on(lines, number, z, k) {
         return true;
     }
@@ -113,16 +111,38 @@ pub fn on_line(lines: Lines, number: usize, z: usize, k: usize) -> bool
     step_on(lines, number, z, k - 1)
 }
 
-// Whether a split in range shares a stretch with a line at its position; no where lines or split are out of range.
-pub fn shares_stretch(lines: Lines, s: Split) -> bool
-    ensures { λ r. ⌜ r ≡ (allowed lines && inRange (lines .w) (lines .h) s && shares (meshOf lines) s) ⌝ }
+// The same, and no where the lines are out of range.
+pub fn on_line(lines: Lines, number: usize, z: usize, k: usize) -> bool
+    ensures { λ r. ⌜ r ≡ (allowed lines && onLine (meshOf lines) (direction number) z k) ⌝ }
 {
     if !allowed_lines(lines) {
         return false;
     }
-    let w = lines.w;
-    let h = lines.h;
-    if !in_range(w, h, s) {
+    point_on(lines, number, z, k)
+}
+
+// Whether a split has a direction, and keeps to the ranges of the sides.
+pub fn fits_sides(w: usize, h: usize, s: Split) -> bool
+    ensures { λ r. ⌜ r ≡ inRange w h s ⌝ }
+{
+    in_range(w, h, s)
+}
+
+// Whether lines and split keep to their ranges.
+fn both_in_range(lines: Lines, s: Split) -> bool
+    ensures { λ r. ⌜ r ≡ (allowed lines && inRange (lines .w) (lines .h) s) ⌝ }
+{
+    if !allowed_lines(lines) {
+        return false;
+    }
+    in_range(lines.w, lines.h, s)
+}
+
+// Whether a split in range shares a stretch with a line at its position; no where lines or split are out of range.
+pub fn shares_stretch(lines: Lines, s: Split) -> bool
+    ensures { λ r. ⌜ r ≡ (allowed lines && inRange (lines .w) (lines .h) s && shares (meshOf lines) s) ⌝ }
+{
+    if !both_in_range(lines, s) {
         return false;
     }
     let z = s.position + 1;
@@ -137,4 +157,19 @@ pub fn shares_stretch(lines: Lines, s: Split) -> bool
         left -= 1;
     }
     false
+}
+
+// Whether both ends of a split in range lie on crossing lines; no where lines or split are out of range.
+pub fn ends_on_lines(lines: Lines, s: Split) -> bool
+    ensures { λ r. ⌜ r ≡ (allowed lines && inRange (lines .w) (lines .h) s && ended (meshOf lines) s) ⌝ }
+{
+    if !both_in_range(lines, s) {
+        return false;
+    }
+    let across = 1 - s.direction;
+    let k = s.position + 1;
+    if !point_on(lines, across, s.from + 1, k) {
+        return false;
+    }
+    point_on(lines, across, s.to + 1, k)
 }
