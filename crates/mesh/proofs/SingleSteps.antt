@@ -3,13 +3,13 @@ use Prim.Native.Nat.{ℕ, zero, suc, _+_, _-_, _≤_, _<_}
 use native.Mathlib.Omega.{arith}
 use mathlib.Core.Path.{_≡_, refl, sym, _∙_}
 use mathlib.Core.Logic.{⊎-elim}
-use mathlib.Core.Bool.{Bool, true, false, cond, _&&_, _||_, and-true, and-false}
-use borrow.Author.Tests.{le-ltb, lt-ltb, le-leb, lt-leb, eq-eqb, ne-eqb, eqb-true, eqb-false}
+use mathlib.Core.Bool.{Bool, true, false, cond, _&&_, _||_, not, and-true, and-false}
+use borrow.Author.Tests.{not-true, not-false, le-ltb, lt-ltb, le-leb, lt-leb, eq-eqb, ne-eqb, eqb-true, eqb-false}
 use mathlib.Core.List.{List, [], _∷_}
 use lib.Dec.{eqb, ltb, leb}
 use lib.ListN.{length, getD, take, drop}
 use Rattle.mesh.specs.Range.{some, all, any}
-use Rattle.mesh.specs.Lines.{upright, level, start, end, allowed, inRange, direction, freshMesh, draws, mesh, meshOf, splitsOf}
+use Rattle.mesh.specs.Lines.{upright, level, start, end, allowed, inRange, other, direction, freshMesh, draws, mesh, meshOf, splitsOf}
 use Rattle.mesh.specs.declared.Split.{Split}
 use Rattle.mesh.specs.declared.Lines.{Lines}
 use Rattle.mesh.proofs.Tests.{either, and-both}
@@ -60,6 +60,24 @@ in-range-small w h s e hw hh =
     record { direction = omega arith; position = omega arith; rises = r .1; to = omega arith })
     (either (eqb (s .direction) 0))
 
+-- A test behind another, as the code makes them: no where the first fails, else the second.
+module _ {t a : Bool} (e : t ≡ a) where
+  pub refused : (b : Bool) → not t ≡ true → false ≡ (a && b)
+  refused b n = rw (sym e ∙ not-true t n)
+
+  pub passed : not t ≡ false → a ≡ true
+  passed n = sym e ∙ not-false t n
+
+  pub second : {r b : Bool} → not t ≡ false → r ≡ b → r ≡ (a && b)
+  second n q = rw (passed n) q
+
+-- what a split in range of allowed lines gives, from the test of both
+pub both-kept : (L : Lines) (s : Split) → (allowed L && inRange (L .w) (L .h) s) ≡ true → (allowed L ≡ true) × Small s
+both-kept L s e =
+    let p = and-both (allowed L) (inRange (L .w) (L .h) s) e in
+    let a = allowed-says L (p .0) in
+    (p .0, in-range-small (L .w) (L .h) s (p .1) (a .across .1) (a .up .1))
+
 all-drop {ℓ} : {A : Type ℓ} (test : A → Bool) (n : ℕ) (xs : List A) → all test xs ≡ true → all test (drop n xs) ≡ true
 all-drop test zero xs e = e
 all-drop test (suc n) [] e = refl
@@ -97,3 +115,18 @@ module _ (L : Lines) (n z k : ℕ) where
   pub step-level : (n ≡ 0 → ⊥) → meshOf L (direction n) z k ≡ (fresh (L .h) (L .w) z k || any (has 1 (L .w) z k) (splitsOf L))
   unfolding mesh freshMesh draws
   step-level ne = rw (ne-eqb n 0 ne)
+
+-- the direction that crosses a split
+pub crossing : (n : ℕ) → n < 2 → direction (1 - n) ≡ other (direction n)
+crossing zero lt = refl
+crossing (suc zero) lt = refl
+crossing (suc (suc n)) lt = absurd (omega arith)
+
+-- some number of a run, by a count that falls
+pub some-turn : (k n : ℕ) (test : ℕ → Bool) → 0 < n → some k n test ≡ (test k || some (k + 1) (n - 1) test)
+some-turn k zero test h = absurd (omega arith)
+some-turn k (suc n) test h = let e : suc n - 1 ≡ n = omega arith in rw e
+
+pub some-none : (k n : ℕ) (test : ℕ → Bool) → n ≤ 0 → some k n test ≡ false
+some-none k zero test h = refl
+some-none k (suc n) test h = absurd (omega arith)
