@@ -9,7 +9,7 @@ use mathlib.Core.List.{List, [], _∷_}
 use lib.Dec.{eqb, ltb, leb}
 use lib.ListN.{length, getD, take, drop}
 use Rattle.mesh.specs.Range.{some, all, any}
-use Rattle.mesh.specs.Lines.{upright, level, start, end, allowed, inRange, other, direction, freshMesh, draws, mesh, meshOf, splitsOf}
+use Rattle.mesh.specs.Lines.{upright, level, start, end, allowed, inRange, Mesh, other, direction, onLine, ended, freshMesh, draws, mesh, meshOf, splitsOf}
 use Rattle.mesh.specs.declared.Split.{Split}
 use Rattle.mesh.specs.declared.Lines.{Lines}
 use Rattle.mesh.proofs.Tests.{either, and-both}
@@ -121,6 +121,12 @@ pub crossing : (n : ℕ) → n < 2 → direction (1 - n) ≡ other (direction n)
 crossing zero lt = refl
 crossing (suc zero) lt = refl
 crossing (suc (suc n)) lt = absurd (omega arith)
+
+pub ended-by : (M : Mesh) (s : Split) → s .direction < 2 →
+    let across = direction (1 - s .direction) in
+    ended M s ≡ (onLine M across (s .from + 1) (s .position + 1) && onLine M across (s .to + 1) (s .position + 1))
+unfolding ended
+ended-by M s lt = rw (crossing (s .direction) lt)
 
 -- some number of a run, by a count that falls
 pub some-turn : (k n : ℕ) (test : ℕ → Bool) → 0 < n → some k n test ≡ (test k || some (k + 1) (n - 1) test)
