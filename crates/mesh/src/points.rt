@@ -111,7 +111,7 @@ fn point_on(lines: Lines, number: usize, z: usize, k: usize) -> bool
     step_on(lines, number, z, k - 1)
 }
 
-// The same, and no where the lines are out of range.
+// Whether the point at knot k lies on a line of the direction at knot z; no where the lines are out of range.
 pub fn on_line(lines: Lines, number: usize, z: usize, k: usize) -> bool
     ensures { λ r. ⌜ r ≡ (allowed lines && onLine (meshOf lines) (direction number) z k) ⌝ }
 {

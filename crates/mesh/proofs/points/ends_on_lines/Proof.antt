@@ -35,7 +35,8 @@ returns-2 : tie.Need-returns-2
 returns-2 c =
     let e = c .before .before .before .before .before in
     second (e .before .both-in-range .ensures) (e .if1 .left)
-    (refused (c .before .point-on .ensures) _ (c .if2 .taken) ∙ sym (ended-by _ (e .before .before .args .s) (kept e .1 .direction)))
+    (refused (c .before .point-on .ensures) _ (c .if2 .taken) ∙
+    sym (ended-by _ (e .before .before .args .s) (kept e .1 .direction)))
 
 add-point-on-2 : tie.Need-add-point-on-2
 add-point-on-2 c = let k = kept (c .before .before .before .before .before .before) in omega arith
@@ -48,7 +49,8 @@ returns-3 c =
     let p = c .before .before .before in
     let e = p .before .before .before .before in
     second (e .before .both-in-range .ensures) (e .if1 .left)
-    (second (p .point-on .ensures) (c .before .before .if2 .left) (c .point-on2 .ensures) ∙ sym (ended-by _ (e .before .before .args .s) (kept e .1 .direction)))
+    (second (p .point-on .ensures) (c .before .before .if2 .left) (c .point-on2 .ensures) ∙
+    sym (ended-by _ (e .before .before .args .s) (kept e .1 .direction)))
 
 pub ends-on-lines-spec : {M : Type 1} → statement M
 ends-on-lines-spec =

@@ -41,12 +41,14 @@ split-step-requires c κs =
 turn : (c : tie.After-split-step Inv-loop μ-loop) →
     let a = c .before .before .before .before .args in
     let test = has (a .number) (a .run) (a .z) (a .k) in
-    any test (splitsOf (a .t1)) ≡ (c .split-step .result || any test (drop (c .before .before .before .loop .i + 1) (splitsOf (a .t1))))
+    any test (splitsOf (a .t1)) ≡
+    (c .split-step .result || any test (drop (c .before .before .before .loop .i + 1) (splitsOf (a .t1))))
 turn c =
     let s = c .before .before .before .before in
     let a = s .args in
     let l = c .before .before .before .loop in
-    l .inv .2 ∙ any-turn (a .t1) (s .pre .0) (sixty s) (l .i) (has (a .number) (a .run) (a .z) (a .k)) (omega arith) ∙ rw (c .split-step .ensures)
+    let test = has (a .number) (a .run) (a .z) (a .k) in
+    l .inv .2 ∙ any-turn (a .t1) (s .pre .0) (sixty s) (l .i) test (omega arith) ∙ rw (c .split-step .ensures)
 
 returns : tie.Need-returns Inv-loop μ-loop
 returns c = sym (turn (c .before) ∙ rw (c .if1 .taken))
@@ -65,7 +67,8 @@ returns-2 c =
     let s = c .before .before in
     let a = s .args in
     let l = c .before .loop in
-    sym (l .inv .2 ∙ any-none (a .t1) (s .pre .0) (sixty s) (l .i) (has (a .number) (a .run) (a .z) (a .k)) (omega arith))
+    let test = has (a .number) (a .run) (a .z) (a .k) in
+    sym (l .inv .2 ∙ any-none (a .t1) (s .pre .0) (sixty s) (l .i) test (omega arith))
 
 pub some-split-step-spec : {M : Type 1} → statement M
 some-split-step-spec =
