@@ -5,6 +5,7 @@
 pub mod blends;
 mod cut;
 mod judge;
+pub mod points;
 mod steps;
 
 // One axis of a blend: its three knots, rising.
