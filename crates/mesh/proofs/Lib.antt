@@ -20,3 +20,4 @@ pub mod Drawing
 pub mod Counting
 pub mod Judging
 pub mod Refining
+pub mod SingleSteps

@@ -4,6 +4,7 @@
 
 mod cut;
 mod judge;
+pub mod points;
 mod steps;
 
 // One axis of a blend: its three knots, rising.

@@ -1,0 +1,20 @@
+-- `mesh::points::on_line` meets its contract: one test behind the other.
+use borrow.Author.Needs.{needs}
+use Rattle.mesh.proofs.SingleSteps.{refused, passed, second}
+use Rattle.mesh.proofs.points.on_line.Statement.{statement}
+use Rattle.mesh.proofs.points.on_line.Tie as tie
+
+allowed-lines-requires : tie.Need-allowed-lines-requires
+allowed-lines-requires c κs = search needs
+
+returns : tie.Need-returns
+returns c = refused (c .before .allowed-lines .ensures) _ (c .if1 .taken)
+
+point-on-requires : tie.Need-point-on-requires
+point-on-requires c κs = passed (c .before .allowed-lines .ensures) (c .if1 .left)
+
+returns-2 : tie.Need-returns-2
+returns-2 c = second (c .before .before .allowed-lines .ensures) (c .before .if1 .left) (c .point-on .ensures)
+
+pub on-line-spec : {M : Type 1} → statement M
+on-line-spec = tie.close (tie.spec allowed-lines-requires returns point-on-requires returns-2)
