@@ -1,4 +1,11 @@
 // The calls on a map. Each opens the record first, once; a refusal hands back the map as it came.
+use crate::Changed;
+use crate::Map;
+use crate::Placed;
+use crate::Reading;
+use crate::Shape;
+use crate::Weight;
+use crate::Weights;
 use crate::carry::carried_values;
 use crate::record::open;
 use crate::splits::exact_step;
@@ -8,13 +15,6 @@ use crate::values::place_of;
 use crate::values::reading_of;
 use crate::values::shape_of;
 use crate::values::weights_of;
-use crate::Changed;
-use crate::Map;
-use crate::Placed;
-use crate::Reading;
-use crate::Shape;
-use crate::Weight;
-use crate::Weights;
 use mesh::Lines;
 use mesh::Split;
 use mesh::Table;
@@ -23,7 +23,7 @@ ghost use mathlib.Core.Bool.{true};
 ghost use Rattle.maps.specs.Record.{good, plain, recordOf};
 ghost use Rattle.maps.specs.Splits.{drawn, soundWith};
 ghost use Rattle.maps.specs.Plain.{blends};
-ghost use Rattle.maps.specs.Calls.{freshMap, setValue, tablePlace, reading, weights, exactSplit, lengthenedSplit};
+ghost use Rattle.maps.specs.Calls.{noShape, noWeights, setValue, tablePlace, reading, weights, exactSplit, lengthenedSplit};
 ghost use Rattle.maps.specs.Inner.{linesOf};
 ghost use Rattle.mesh.specs.Sound.{table};
 
@@ -40,7 +40,7 @@ fn lines_of(map: Map) -> Lines
 }
 
 fn no_shape() -> Shape
-    ensures { λ r. ⌜ r ≡ Rattle.maps.specs.Calls.noShape ⌝ }
+    ensures { λ r. ⌜ r ≡ noShape ⌝ }
 {
     Shape {
         l: 0,
@@ -53,7 +53,7 @@ fn no_shape() -> Shape
 }
 
 fn no_weights(number: usize) -> Weights
-    ensures { λ r. ⌜ r ≡ Rattle.maps.specs.Calls.noWeights number ⌝ }
+    ensures { λ r. ⌜ r ≡ noWeights number ⌝ }
 {
     let none = Weight {
         blend: no_shape(),
@@ -68,10 +68,8 @@ fn no_weights(number: usize) -> Weights
 
 // The map with a line drawn that leaves it sound.
 fn with_line(map: Map, old: Table, s: Split, new: Table) -> Map
-    requires {
-      ⌜ (good map ≡ true) × (soundWith (plain map) s ≡ true) × (old ≡ table (blends (plain map))) ×
-          (new ≡ table (blends (drawn (plain map) s))) ⌝
-    }
+    requires { ⌜ (good map ≡ true) × (soundWith (plain map) s ≡ true) × (old ≡ table (blends (plain map))) ×
+        (new ≡ table (blends (drawn (plain map) s))) ⌝ }
     ensures { λ r. ⌜ r ≡ recordOf (drawn (plain map) s) ⌝ }
 {
     let mut next = map;
@@ -90,19 +88,31 @@ impl Map {
     {
         let opened = open(self);
         if !opened.good {
-            return Changed { number: 2, map: self };
+            return Changed {
+                number: 2,
+                map: self,
+            };
         }
         let live = opened.table;
         if 128 < m || 128 < n {
-            return Changed { number: 9, map: self };
+            return Changed {
+                number: 9,
+                map: self,
+            };
         }
         let place = place_of(live, m + 1, n + 1);
         if live.count <= place {
-            return Changed { number: 9, map: self };
+            return Changed {
+                number: 9,
+                map: self,
+            };
         }
         let mut next = self;
         next.values[place] = value;
-        Changed { number: 0, map: next }
+        Changed {
+            number: 0,
+            map: next,
+        }
     }
 
     // The blend and value at a table place, from 0: refused with 2 or 9.
@@ -111,14 +121,26 @@ impl Map {
     {
         let opened = open(self);
         if !opened.good {
-            return Placed { number: 2, blend: no_shape(), value: 0 };
+            return Placed {
+                number: 2,
+                blend: no_shape(),
+                value: 0,
+            };
         }
         let live = opened.table;
         if live.count <= i {
-            return Placed { number: 9, blend: no_shape(), value: 0 };
+            return Placed {
+                number: 9,
+                blend: no_shape(),
+                value: 0,
+            };
         }
         let x = live.blends[i];
-        Placed { number: 0, blend: shape_of(x), value: self.values[i] as usize }
+        Placed {
+            number: 0,
+            blend: shape_of(x),
+            value: self.values[i] as usize,
+        }
     }
 
     // The reading at a whole point: refused with 2 or 10.
@@ -127,14 +149,23 @@ impl Map {
     {
         let opened = open(self);
         if !opened.good {
-            return Reading { number: 2, litres: 0 };
+            return Reading {
+                number: 2,
+                litres: 0,
+            };
         }
         if self.w < u || self.h < v {
-            return Reading { number: 10, litres: 0 };
+            return Reading {
+                number: 10,
+                litres: 0,
+            };
         }
         let live = opened.table;
         let values = self.values;
-        Reading { number: 0, litres: reading_of(live, values, self.w, self.h, u, v) }
+        Reading {
+            number: 0,
+            litres: reading_of(live, values, self.w, self.h, u, v),
+        }
     }
 
     // The weights at a whole point: refused with 2 or 10.
@@ -158,15 +189,24 @@ impl Map {
     {
         let opened = open(self);
         if !opened.good {
-            return Changed { number: 2, map: self };
+            return Changed {
+                number: 2,
+                map: self,
+            };
         }
         let live = opened.table;
         let step = exact_step(lines_of(self), live, s);
         if step.number != 0 {
-            return Changed { number: step.number, map: self };
+            return Changed {
+                number: step.number,
+                map: self,
+            };
         }
         let new = step.table;
-        Changed { number: 0, map: with_line(self, live, s, new) }
+        Changed {
+            number: 0,
+            map: with_line(self, live, s, new),
+        }
     }
 
     // Draws the shortest sound line that contains the given one: refused with 2 to 8.
@@ -175,20 +215,32 @@ impl Map {
     {
         let opened = open(self);
         if !opened.good {
-            return Changed { number: 2, map: self };
+            return Changed {
+                number: 2,
+                map: self,
+            };
         }
         let live = opened.table;
         let lines = lines_of(self);
         let number = given_number(lines, live, s);
         if number != 0 {
-            return Changed { number: number, map: self };
+            return Changed {
+                number: number,
+                map: self,
+            };
         }
         let found = longer_line(lines, live, s);
         if !found.some {
-            return Changed { number: 8, map: self };
+            return Changed {
+                number: 8,
+                map: self,
+            };
         }
         let new = found.table;
         let c = found.split;
-        Changed { number: 0, map: with_line(self, live, c, new) }
+        Changed {
+            number: 0,
+            map: with_line(self, live, c, new),
+        }
     }
 }

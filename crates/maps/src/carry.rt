@@ -25,7 +25,13 @@ fn index_anchors(table: Table, index: &mut [u16])
 }
 
 // The values of the new table's blends, from the old table and its values; unused places are zero.
-pub(crate) fn carried_values(old: Table, values: [u16; 1024], new: Table, w: usize, h: usize) -> [u16; 1024]
+pub(crate) fn carried_values(
+    old: Table,
+    values: [u16; 1024],
+    new: Table,
+    w: usize,
+    h: usize,
+) -> [u16; 1024]
     requires { ⌜ InTable w h old values × (new .count ≤ 1024) × (all (proper w h) (blendsOf new) ≡ true) ⌝ }
     ensures { λ r. ⌜ r ≡ carriedArray (blendsOf old) (take (old .count) values) (blendsOf new) ⌝ }
 {

@@ -1,7 +1,15 @@
 // Maps: a pump's lines and values, and the calls on them. The second of the three layers.
+mod calls;
+mod carry;
+mod record;
+mod splits;
 mod values;
 
 use mesh::Split;
+ghost use mathlib.Core.Path.{_≡_};
+ghost use Rattle.maps.specs.Plain.{freshPlain};
+ghost use Rattle.maps.specs.Record.{recordOf};
+ghost use Rattle.maps.specs.Calls.{freshMap};
 
 // The record of a map: its sides, its splits in order and its values in table order; all unused places are zero.
 pub struct Map {
@@ -16,6 +24,41 @@ impl Map {
     pub const LARGEST_SIDE: usize = 128;
 
     pub const MOST_SPLITS: usize = 60;
+
+    // The fresh map of two sides; 1 with the fresh 1 by 1 map where a side is out of range.
+    pub fn fresh(w: usize, h: usize) -> Changed
+        ensures { λ r. ⌜ r ≡ freshMap w h ⌝ }
+    {
+        if w < 1 || Map::LARGEST_SIDE < w || h < 1 || Map::LARGEST_SIDE < h {
+            return Changed {
+                number: 1,
+                map: blank(1, 1),
+            };
+        }
+        Changed {
+            number: 0,
+            map: blank(w, h),
+        }
+    }
+}
+
+// A map without splits, all its values zero.
+fn blank(w: usize, h: usize) -> Map
+    ensures { λ r. ⌜ r ≡ recordOf (freshPlain w h) ⌝ }
+{
+    let none = Split {
+        direction: 0,
+        position: 0,
+        from: 0,
+        to: 0,
+    };
+    Map {
+        w: w,
+        h: h,
+        count: 0,
+        splits: [none; 60],
+        values: [0u16; 1024],
+    }
 }
 
 // A blend in document 01's coordinates.

@@ -1,7 +1,7 @@
 // The record of a map: its splits replayed in order as exact splits. Every call on a map starts here, once.
+use crate::Map;
 use crate::splits::exact_step;
 use crate::splits::with_split;
-use crate::Map;
 use mesh::Blend;
 use mesh::Lines;
 use mesh::Split;
@@ -57,8 +57,14 @@ fn no_table() -> Table
     ensures { λ r. ⌜ r ≡ table [] ⌝ }
 {
     let zero = Triple { l: 0, m: 0, r: 0 };
-    let none = Blend { across: zero, up: zero };
-    Table { count: 0, blends: [none; 1024] }
+    let none = Blend {
+        across: zero,
+        up: zero,
+    };
+    Table {
+        count: 0,
+        blends: [none; 1024],
+    }
 }
 
 // Opens a record: tests whether it is good, and gives the table of its live blends.

@@ -1,12 +1,12 @@
 // Splits: the refusals in their order, the exact step, and the search for a longer line.
+use mesh::Lines;
+use mesh::Split;
+use mesh::Table;
 use mesh::blends::refine;
 use mesh::blends::some_cut;
 use mesh::points::ends_on_lines;
 use mesh::points::fits_sides;
 use mesh::points::shares_stretch;
-use mesh::Lines;
-use mesh::Split;
-use mesh::Table;
 ghost use mathlib.Core.Path.{_≡_};
 ghost use Prim.Native.Nat.{ℕ, _≤_, _<_};
 ghost use Rattle.maps.specs.Splits.{given, chosen};

@@ -239,3 +239,25 @@ pub(crate) fn cut_all(uprights: &[u8], levels: &[u8], table: Table, places: &mut
         i += 1;
     }
 }
+
+// Whether some line cuts some blend of a table.
+pub(crate) fn any_cut(uprights: &[u8], levels: &[u8], table: Table) -> bool
+    requires { ⌜ Square (now uprights) × Square (now levels) × (table .count ≤ 1024) × (all (proper 128 128) (blendsOf table) ≡ true) ⌝ }
+    ensures { λ r. ⌜ r ≡ any (isCut (bytesMesh (now (uprights .entry)) (now (levels .entry)))) (blendsOf table) ⌝ }
+{
+    let count = table.count;
+    let mut i = 0;
+    while i < count {
+        let x = table.blends[i];
+        let a = x.across;
+        let u = x.up;
+        if first_line(uprights, a, u.l, u.r - u.l) != 0 {
+            return true;
+        }
+        if first_line(levels, u, a.l, a.r - a.l) != 0 {
+            return true;
+        }
+        i += 1;
+    }
+    false
+}

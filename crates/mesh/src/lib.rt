@@ -2,6 +2,7 @@
 //
 // A knot is a line's position, kept shifted by one: knot k is document 01's coordinate k - 1, so that its -1 is 0.
 
+pub mod blends;
 mod cut;
 mod judge;
 pub mod points;

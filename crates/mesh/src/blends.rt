@@ -1,0 +1,129 @@
+// Tables of live blends: cut anew, or refined by one line more.
+use crate::Blend;
+use crate::Lines;
+use crate::Refined;
+use crate::Table;
+use crate::Triple;
+use crate::cut::any_cut;
+use crate::cut::cut_all;
+use crate::cut::proper_table;
+use crate::judge::judge;
+use crate::judge::refusal;
+use crate::steps::allowed_lines;
+use crate::steps::draw_lines;
+ghost use mathlib.Core.Path.{_≡_};
+ghost use mathlib.Core.Bool.{_&&_};
+ghost use Prim.Native.Nat.{_≤_};
+ghost use lib.Dec.{leb};
+ghost use Rattle.mesh.specs.Range.{all};
+ghost use Rattle.mesh.specs.Lines.{allowed};
+ghost use Rattle.mesh.specs.Triple as triples;
+ghost use Rattle.mesh.specs.Blends.{firstFour};
+ghost use Rattle.mesh.specs.Sound.{proper, blendsOf, table, refined, someCut, liveTable};
+
+// Whether the lines and the table's blends keep to their ranges.
+fn in_ranges(lines: Lines, old: Table) -> bool
+    ensures { λ r. ⌜ r ≡ (allowed lines && leb (old .count) 1024 && all (proper (lines .w) (lines .h)) (blendsOf old)) ⌝ }
+{
+    if !allowed_lines(lines) {
+        return false;
+    }
+    let count = old.count;
+    if 1024 < count {
+        return false;
+    }
+    proper_table(old, lines.w, lines.h)
+}
+
+// What is left of the table's blends when the lines cut them, in table order, if that makes a sound map.
+// From the live blends of a map with fewer lines, these are the live blends of the map.
+pub fn refine(lines: Lines, old: Table) -> Refined
+    ensures { λ r. ⌜ r ≡ refined lines old ⌝ }
+{
+    if !in_ranges(lines, old) {
+        return refusal();
+    }
+    let mut uprights = [0u8; 17161];
+    let mut levels = [0u8; 17161];
+    draw_lines(lines, 0, &mut uprights);
+    draw_lines(lines, 1, &mut levels);
+    let mut places = [0u64; 17161];
+    cut_all(&uprights, &levels, old, &mut places);
+    if places[0] != 0 {
+        return refusal();
+    }
+    judge(&places, lines.w, lines.h)
+}
+
+// The two triples of the first blends, on one axis.
+fn low(side: usize) -> Triple
+    requires { ⌜ side ≤ 128 ⌝ }
+    ensures { λ r. ⌜ r ≡ triples.low side ⌝ }
+{
+    Triple {
+        l: 0,
+        m: 1,
+        r: side + 1,
+    }
+}
+
+fn high(side: usize) -> Triple
+    requires { ⌜ side ≤ 128 ⌝ }
+    ensures { λ r. ⌜ r ≡ triples.high side ⌝ }
+{
+    Triple {
+        l: 1,
+        m: side + 1,
+        r: side + 2,
+    }
+}
+
+// The first four blends.
+fn first_four(w: usize, h: usize) -> Table
+    requires { ⌜ (w ≤ 128) × (h ≤ 128) ⌝ }
+    ensures { λ r. ⌜ r ≡ table (firstFour w h) ⌝ }
+{
+    let mut t = refusal().table;
+    t.blends[0] = Blend {
+        across: low(w),
+        up: low(h),
+    };
+    t.blends[1] = Blend {
+        across: low(w),
+        up: high(h),
+    };
+    t.blends[2] = Blend {
+        across: high(w),
+        up: low(h),
+    };
+    t.blends[3] = Blend {
+        across: high(w),
+        up: high(h),
+    };
+    t.count = 4;
+    t
+}
+
+// The live blends of a map, cut anew from the first four.
+pub fn live(lines: Lines) -> Refined
+    ensures { λ r. ⌜ r ≡ liveTable lines ⌝ }
+{
+    if !allowed_lines(lines) {
+        return refusal();
+    }
+    refine(lines, first_four(lines.w, lines.h))
+}
+
+// Whether the lines cut some blend of the table.
+pub fn some_cut(lines: Lines, old: Table) -> bool
+    ensures { λ r. ⌜ r ≡ someCut lines old ⌝ }
+{
+    if !in_ranges(lines, old) {
+        return false;
+    }
+    let mut uprights = [0u8; 17161];
+    let mut levels = [0u8; 17161];
+    draw_lines(lines, 0, &mut uprights);
+    draw_lines(lines, 1, &mut levels);
+    any_cut(&uprights, &levels, old)
+}
