@@ -3,10 +3,10 @@ use Prim.Native.Nat.{ℕ, _+_, _≤_, _<_}
 use native.Mathlib.Omega.{arith}
 use mathlib.Core.Path.{_≡_, refl, sym, ap, subst, fun-ext, _∙_}
 use mathlib.Core.Bool.{Bool, true, false, cond, _&&_}
-use mathlib.Core.List.{List, [], List·Memᴰ}
+use mathlib.Core.List.{List, [], _∷_, List·Memᴰ}
 use borrow.Author.Tests.{le-leb, lt-leb}
 use lib.Dec.{leb}
-use lib.ListN.{length, getD}
+use lib.ListN.{length, getD, set}
 use Rattle.mesh.specs.Range.{all}
 use Rattle.mesh.specs.Lines.{Direction, upright, level, number, Mesh, meshOf, allowed}
 use Rattle.mesh.specs.Blends.{refine, leavesOf, once, inTableOrder}
@@ -53,43 +53,58 @@ drawn-mesh L ups lvs f g = fun-ext (by-direction)
     by-direction upright = fun-ext (λ z. fun-ext (λ k. f upright refl z k))
     by-direction level = fun-ext (λ z. fun-ext (λ k. g level refl z k))
 
-module _ (L : Lines) (t : Table) (ok : allowed L ≡ true) (few : t .count ≤ 1024) (good : all (proper (L .w) (L .h)) (blendsOf t) ≡ true)
-    (E P ups lvs : List ℕ) (blank : E ≡ empty) (M : bytesMesh ups lvs ≡ meshOf L) (cut : P ≡ keepAll E (leavesOf (bytesMesh ups lvs) (blendsOf t))) where
+-- Places that hold what is left of a table's blends, cut by lines, where there was nothing before. That they were empty is an equation, so
+-- that no proof writes out their zeros.
+pub record Cut (L : Lines) (t : Table) (P : List ℕ) : Type 0 where
+  pub ok : allowed L ≡ true
+  pub few : t .count ≤ 1024
+  pub good : all (proper (L .w) (L .h)) (blendsOf t) ≡ true
+  pub before : List ℕ
+  pub blank : before ≡ empty
+  pub all-kept : P ≡ keepAll before (leavesOf (meshOf L) (blendsOf t))
+
+module _ {L : Lines} {t : Table} {P : List ℕ} (c : Cut L t P) where
   sides : Allowed L
-  sides = allowed-says L ok
+  sides = allowed-says L (c .ok)
 
-  start : Kept (L .w) (L .h) E []
-  start = subst (λ (X : List ℕ). Kept (L .w) (L .h) X []) (sym blank) (nothing-kept (L .w) (L .h))
-
-  cut-here : P ≡ keepAll E (leavesOf (meshOf L) (blendsOf t))
-  cut-here = cut ∙ ap (λ (N : Mesh). keepAll E (leavesOf N (blendsOf t))) M
+  start : Kept (L .w) (L .h) (c .before) []
+  start = subst (λ (X : List ℕ). Kept (L .w) (L .h) X []) (sym (c .blank)) (nothing-kept (L .w) (L .h))
 
   is-answer : refined L t ≡ answer (L .w) (L .h) (refine (L .w) (L .h) (meshOf L) (blendsOf t))
   unfolding refined
-  is-answer = rw (ok, le-leb (t .count) 1024 few, good)
+  is-answer = rw (c .ok, le-leb (t .count) 1024 (c .few), c .good)
 
   leaves-good : (C : Blend) → List·Memᴰ C (leavesOf (meshOf L) (blendsOf t)) → ProperIn (L .w) (L .h) C
   leaves-good C m =
-      proper-facts (L .w) (L .h) C (leaves-proper (L .w) (L .h) (meshOf L) (blendsOf t) (λ B k. all-at (proper (L .w) (L .h)) (blendsOf t) good B k) C m)
+      proper-facts (L .w) (L .h) C
+      (leaves-proper (L .w) (L .h) (meshOf L) (blendsOf t) (λ B k. all-at (proper (L .w) (L .h)) (blendsOf t) (c .good) B k) C m)
 
-  clear : getD P 0 0 ≡ 0 → getD (keepAll E (leavesOf (meshOf L) (blendsOf t))) 0 0 ≡ 0
-  clear z = sym (ap (λ (X : List ℕ). getD X 0 0) cut-here) ∙ z
+  clear : getD P 0 0 ≡ 0 → getD (keepAll (c .before) (leavesOf (meshOf L) (blendsOf t))) 0 0 ≡ 0
+  clear z = sym (ap (λ (X : List ℕ). getD X 0 0) (c .all-kept)) ∙ z
 
+  -- two blends that met at a place: no sound map
   pub met-refused : (getD P 0 0 ≡ 0 → ⊥) → refused ≡ refined L t
   unfolding refine
   met-refused ne =
       sym (is-answer ∙ unsound-answer (L .w) (L .h) _
-      (met-unsound (L .w) (L .h) (sides .across .1) (sides .up .1) E start (leavesOf (meshOf L) (blendsOf t)) leaves-good
-      (λ e. ne (ap (λ (X : List ℕ). getD X 0 0) cut-here ∙ e))))
+      (met-unsound (L .w) (L .h) (sides .across .1) (sides .up .1) (c .before) start (leavesOf (meshOf L) (blendsOf t)) leaves-good
+      (λ e. ne (ap (λ (X : List ℕ). getD X 0 0) (c .all-kept) ∙ e))))
 
+  -- else the places hold the blends that are left, and judging them answers
   pub places-held : getD P 0 0 ≡ 0 → Holding (L .w) (L .h) P
   places-held z =
-      subst (Holding (L .w) (L .h)) (sym cut-here)
-      (walk-holding (L .w) (L .h) (sides .across .1) (sides .up .1) E start (leavesOf (meshOf L) (blendsOf t)) leaves-good (clear z))
+      subst (Holding (L .w) (L .h)) (sym (c .all-kept))
+      (walk-holding (L .w) (L .h) (sides .across .1) (sides .up .1) (c .before) start (leavesOf (meshOf L) (blendsOf t)) leaves-good (clear z))
 
   pub judged : getD P 0 0 ≡ 0 → answer (L .w) (L .h) (walk (L .w) (L .h) P) ≡ refined L t
   unfolding refine
   judged z =
-      ap (λ (X : List ℕ). answer (L .w) (L .h) (walk (L .w) (L .h) X)) cut-here ∙
+      ap (λ (X : List ℕ). answer (L .w) (L .h) (walk (L .w) (L .h) X)) (c .all-kept) ∙
       ap (answer (L .w) (L .h))
-      (walk-table (L .w) (L .h) (sides .across .1) (sides .up .1) E start (leavesOf (meshOf L) (blendsOf t)) leaves-good (clear z)) ∙ sym is-answer
+      (walk-table (L .w) (L .h) (sides .across .1) (sides .up .1) (c .before) start (leavesOf (meshOf L) (blendsOf t)) leaves-good (clear z)) ∙ sym is-answer
+
+-- four blends at the front of an empty table
+pub four-set : (bs : List Blend) (A B C D : Blend) → bs ≡ table [] .blends →
+    _≡_ {A = Table} (record { count = 4; blends = set (set (set (set bs 0 A) 1 B) 2 C) 3 D }) (table (A ∷ B ∷ C ∷ D ∷ []))
+unfolding table
+four-set bs A B C D e = ap (λ (l : List Blend). record { count = 4; blends = set (set (set (set l 0 A) 1 B) 2 C) 3 D }) e
