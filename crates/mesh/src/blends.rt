@@ -12,26 +12,35 @@ use crate::judge::refusal;
 use crate::steps::allowed_lines;
 use crate::steps::draw_lines;
 ghost use mathlib.Core.Path.{_≡_};
+ghost use mathlib.Core.Bool.{_&&_};
 ghost use Prim.Native.Nat.{_≤_};
+ghost use lib.Dec.{leb};
+ghost use Rattle.mesh.specs.Range.{all};
+ghost use Rattle.mesh.specs.Lines.{allowed};
 ghost use Rattle.mesh.specs.Triple as triples;
 ghost use Rattle.mesh.specs.Blends.{firstFour};
-ghost use Rattle.mesh.specs.Sound.{table, refined, someCut, liveTable};
+ghost use Rattle.mesh.specs.Sound.{proper, blendsOf, table, refined, someCut, liveTable};
+
+// Whether the lines and the table's blends keep to their ranges.
+fn in_ranges(lines: Lines, old: Table) -> bool
+    ensures { λ r. ⌜ r ≡ (allowed lines && leb (old .count) 1024 && all (proper (lines .w) (lines .h)) (blendsOf old)) ⌝ }
+{
+    if !allowed_lines(lines) {
+        return false;
+    }
+    let count = old.count;
+    if 1024 < count {
+        return false;
+    }
+    proper_table(old, lines.w, lines.h)
+}
 
 // What is left of the table's blends when the lines cut them, in table order, if that makes a sound map.
 // From the live blends of a map with fewer lines, these are the live blends of the map.
 pub fn refine(lines: Lines, old: Table) -> Refined
     ensures { λ r. ⌜ r ≡ refined lines old ⌝ }
 {
-    if !allowed_lines(lines) {
-        return refusal();
-    }
-    let count = old.count;
-    if 1024 < count {
-        return refusal();
-    }
-    let w = lines.w;
-    let h = lines.h;
-    if !proper_table(old, w, h) {
+    if !in_ranges(lines, old) {
         return refusal();
     }
     let mut uprights = [0u8; 17161];
@@ -43,7 +52,7 @@ pub fn refine(lines: Lines, old: Table) -> Refined
     if places[0] != 0 {
         return refusal();
     }
-    judge(&places, w, h)
+    judge(&places, lines.w, lines.h)
 }
 
 // The two triples of the first blends, on one axis.
@@ -109,16 +118,7 @@ pub fn live(lines: Lines) -> Refined
 pub fn some_cut(lines: Lines, old: Table) -> bool
     ensures { λ r. ⌜ r ≡ someCut lines old ⌝ }
 {
-    if !allowed_lines(lines) {
-        return false;
-    }
-    let count = old.count;
-    if 1024 < count {
-        return false;
-    }
-    let w = lines.w;
-    let h = lines.h;
-    if !proper_table(old, w, h) {
+    if !in_ranges(lines, old) {
         return false;
     }
     let mut uprights = [0u8; 17161];

@@ -1,117 +1,110 @@
-use borrow.Author.Needs.{needs}
+-- `mesh::blends::refine` meets its contract: out of range, and where two blends met, it refuses; else the places that are left are judged.
+use Prim.Native.Nat.{ℕ}
 use native.Mathlib.Omega.{arith}
 use borrow.Author.Needs.{needs}
+use borrow.Author.Tests.{not-true, not-false}
+use mathlib.Core.Path.{_≡_, refl, sym, ap, _∙_}
+use lib.ListN.{length-replicate}
+use Rattle.mesh.specs.Lines.{Mesh, meshOf}
+use Rattle.mesh.specs.Blends.{leavesOf}
+use Rattle.mesh.specs.Sound.{blendsOf}
+use Rattle.mesh.specs.Bytes.{bytesMesh, keepAll, empty}
+use Rattle.mesh.proofs.Refining.{Ranged, ranged-says, ranged-most, out-refused, sides, drawn-mesh, Cut, met-refused, places-held, judged}
 use Rattle.mesh.proofs.blends.refine.Statement.{statement}
 use Rattle.mesh.proofs.blends.refine.Tie as tie
-use Rattle.mesh.proofs.blends.refine.Reads as reads
-use Rattle.mesh.proofs.blends.refine.Lts as lts
-use Rattle.mesh.proofs.cut.cut_all.Reads as cut-all-reads
-use Rattle.mesh.proofs.cut.proper_table.Reads as proper-table-reads
-use Rattle.mesh.proofs.judge.judge.Reads as judge-reads
-use Rattle.mesh.proofs.judge.refusal.Reads as refusal-reads
-use Rattle.mesh.proofs.steps.allowed_lines.Reads as allowed-lines-reads
-use Rattle.mesh.proofs.steps.draw_lines.Reads as draw-lines-reads
 
--- src/blends.rt:24:9
-allowed-lines-requires : tie.Need-allowed-lines-requires
-allowed-lines-requires c κs = search needs
+in-ranges-requires : tie.Need-in-ranges-requires
+in-ranges-requires c κs = search needs
 
--- src/blends.rt:25:9
 refusal-requires : tie.Need-refusal-requires
 refusal-requires c κs = search needs
 
--- src/blends.rt:25:9
 returns : tie.Need-returns
-returns c = search needs
+returns c = c .refusal .ensures ∙ out-refused _ _ (sym (c .before .before .in-ranges .ensures) ∙ not-true _ (c .before .if1 .taken))
 
--- src/blends.rt:29:9
-refusal-requires-2 : tie.Need-refusal-requires-2
-refusal-requires-2 c κs = search needs
+-- lines and blends that passed the test
+passed : (c : tie.Else1) → Ranged (c .before .before .args .lines) (c .before .before .args .old)
+passed c = ranged-says _ _ (sym (c .before .in-ranges .ensures) ∙ not-false _ (c .if1 .left))
 
--- src/blends.rt:29:9
-returns-2 : tie.Need-returns-2
-returns-2 c = search needs
-
--- src/blends.rt:33:9
-proper-table-requires : tie.Need-proper-table-requires
-proper-table-requires c κs = search needs
-
--- src/blends.rt:34:9
-refusal-requires-3 : tie.Need-refusal-requires-3
-refusal-requires-3 c κs = search needs
-
--- src/blends.rt:34:9
-returns-3 : tie.Need-returns-3
-returns-3 c = search needs
-
--- src/blends.rt:38:26
 slice-aggregate-draw-lines : tie.Need-slice-aggregate-draw-lines
 slice-aggregate-draw-lines c = search needs
 
--- src/blends.rt:38:5
 draw-lines-requires : tie.Need-draw-lines-requires
-draw-lines-requires c κs = search needs
+draw-lines-requires c κs = (passed (c .before) .ok, omega arith, refl)
 
--- src/blends.rt:39:26
 slice-aggregate-draw-lines-2 : tie.Need-slice-aggregate-draw-lines-2
 slice-aggregate-draw-lines-2 c = search needs
 
--- src/blends.rt:39:5
 draw-lines-requires-2 : tie.Need-draw-lines-requires-2
-draw-lines-requires-2 c κs = search needs
+draw-lines-requires-2 c κs = (passed (c .before .before .before .before) .ok, omega arith, refl)
 
--- src/blends.rt:41:13
+-- the bytes are the lines' mesh
+drawn : (c : tie.After-draw-lines2) →
+    let one = c .before .before .before in
+    bytesMesh (one .draw-lines .last .1 .1 .0) (c .draw-lines2 .last .1 .1 .0) ≡ meshOf (one .before .before .before .before .args .lines)
+drawn c =
+    let one = c .before .before .before in
+    drawn-mesh (one .before .before .before .before .args .lines) _ _ (one .draw-lines .ensures .1) (c .draw-lines2 .ensures .1)
+
 slice-aggregate-cut-all : tie.Need-slice-aggregate-cut-all
 slice-aggregate-cut-all c = search needs
 
--- src/blends.rt:41:24
 slice-aggregate-cut-all-2 : tie.Need-slice-aggregate-cut-all-2
 slice-aggregate-cut-all-2 c = search needs
 
--- src/blends.rt:41:38
 slice-aggregate-cut-all-3 : tie.Need-slice-aggregate-cut-all-3
 slice-aggregate-cut-all-3 c = search needs
 
--- src/blends.rt:41:5
 cut-all-requires : tie.Need-cut-all-requires
-cut-all-requires c κs = search needs
+cut-all-requires c κs =
+    let two = c .before .before .before .before in
+    let one = two .before .before .before in
+    let r = passed (one .before .before) in
+    (one .draw-lines .ensures .0, two .draw-lines2 .ensures .0, length-replicate {A = ℕ} 17161 0, r .few, ranged-most r)
 
--- src/blends.rt:42:8
-array-read-if4 : tie.Need-array-read-if4
-array-read-if4 c = search needs
+-- the places hold what is left of the table's blends
+cut : (c : tie.After-cut-all) →
+    let a = c .before .before .before .before .before .before .before .before .before .before .before .before .args in
+    Cut (a .lines) (a .old) (c .cut-all .last .1 .1 .1 .0)
+cut c =
+    let two = c .before .before .before .before .before in
+    let in-range = two .before .before .before .before .before in
+    let bs = blendsOf (in-range .before .before .args .old) in
+    record {
+      ranges = passed in-range;
+      before = empty;
+      blank = refl;
+      all-kept = c .cut-all .ensures ∙ ap (λ (M : Mesh). keepAll empty (leavesOf M bs)) (drawn two);
+    }
 
--- src/blends.rt:43:9
-refusal-requires-4 : tie.Need-refusal-requires-4
-refusal-requires-4 c κs = search needs
+array-read-if2 : tie.Need-array-read-if2
+array-read-if2 c = search needs
 
--- src/blends.rt:43:9
-returns-4 : tie.Need-returns-4
-returns-4 c = search needs
+refusal-requires-2 : tie.Need-refusal-requires-2
+refusal-requires-2 c κs = search needs
 
--- src/blends.rt:45:11
+returns-2 : tie.Need-returns-2
+returns-2 c = c .refusal2 .ensures ∙ met-refused (cut (c .before .before .before)) (c .before .if2 .taken)
+
 slice-aggregate-judge : tie.Need-slice-aggregate-judge
 slice-aggregate-judge c = search needs
 
--- src/blends.rt:45:5
 judge-requires : tie.Need-judge-requires
-judge-requires c κs = search needs
+judge-requires c κs =
+    let k = cut (c .before .before .before) in
+    let s = sides (k .ranges) in
+    (places-held k (c .before .if2 .left), s .across .0, s .across .1, s .up .0, s .up .1)
 
--- src/blends.rt:21:1
-returns-5 : tie.Need-returns-5
-returns-5 c = search needs
+returns-3 : tie.Need-returns-3
+returns-3 c = c .judge .ensures ∙ judged (cut (c .before .before .before .before)) (c .before .before .if2 .left)
 
 pub refine-spec : {M : Type 1} → statement M
 refine-spec =
     tie.close
     (tie.spec
-    allowed-lines-requires
+    in-ranges-requires
     refusal-requires
     returns
-    refusal-requires-2
-    returns-2
-    proper-table-requires
-    refusal-requires-3
-    returns-3
     slice-aggregate-draw-lines
     draw-lines-requires
     slice-aggregate-draw-lines-2
@@ -120,9 +113,9 @@ refine-spec =
     slice-aggregate-cut-all-2
     slice-aggregate-cut-all-3
     cut-all-requires
-    array-read-if4
-    refusal-requires-4
-    returns-4
+    array-read-if2
+    refusal-requires-2
+    returns-2
     slice-aggregate-judge
     judge-requires
-    returns-5)
+    returns-3)
