@@ -1,46 +1,76 @@
 -- What the public functions on tables do, from what the functions that they call leave behind.
-use Prim.Native.Nat.{ℕ, _+_, _≤_, _<_}
-use native.Mathlib.Omega.{arith}
+use Prim.Native.Nat.{ℕ, _≤_}
 use mathlib.Core.Path.{_≡_, refl, sym, ap, subst, fun-ext, _∙_}
-use mathlib.Core.Bool.{Bool, true, false, cond, _&&_}
-use mathlib.Core.List.{List, [], List·Memᴰ}
-use borrow.Author.Tests.{le-leb, lt-leb}
-use lib.Dec.{leb}
-use lib.ListN.{length, getD}
-use Rattle.mesh.specs.Range.{all}
+use mathlib.Core.Bool.{Bool, true, false, _&&_, not}
+use mathlib.Core.List.{List, [], _∷_, List·Memᴰ}
+use borrow.Author.Tests.{le-leb, leb-true, eq-eqb, ne-eqb}
+use lib.Dec.{leb, eqb}
+use lib.ListN.{getD, set}
+use Rattle.mesh.specs.Range.{all, any}
 use Rattle.mesh.specs.Lines.{Direction, upright, level, number, Mesh, meshOf, allowed}
-use Rattle.mesh.specs.Blends.{refine, leavesOf, once, inTableOrder}
-use Rattle.mesh.specs.Sound.{proper, sound, answer, table, blendsOf, refined}
+use Rattle.mesh.specs.Blends.{cutter, isCut, refine, leavesOf}
+use Rattle.mesh.specs.Sound.{proper, answer, table, blendsOf, refined, someCut}
 use Rattle.mesh.specs.Bytes.{stepOn, bytesMesh, keepAll, walk, Holding, empty, refused}
 use Rattle.mesh.specs.declared.Lines.{Lines}
 use Rattle.mesh.specs.declared.Table.{Table}
 use Rattle.mesh.specs.declared.Blend.{Blend}
-use Rattle.mesh.proofs.Tests.{cond-true, cond-false, and-of, all-at, and-both}
+use Rattle.mesh.proofs.Tests.{cond-true, cond-false, all-at, and-both, or-left, or-right}
 use Rattle.mesh.proofs.Drawing.{Allowed, allowed-says}
+use Rattle.mesh.proofs.Cutting.{proper-most}
 use Rattle.mesh.proofs.Places.{Kept, ProperIn, nothing-kept, proper-facts, met-unsound, walk-table, walk-holding}
 use Rattle.mesh.proofs.Live.{leaves-proper, unsound-answer}
 
--- a test that fails among others
-middle-fails : (a b c : Bool) → b ≡ false → (a && b && c) ≡ false
-middle-fails true b c e = rw e
-middle-fails false b c e = refl
+-- lines, and a table's blends, that keep to their ranges: as a test, and what it says
+abbrev pub ranged : Lines → Table → Bool
+ranged L t = allowed L && leb (t .count) 1024 && all (proper (L .w) (L .h)) (blendsOf t)
 
-last-fails : (a b : Bool) → b ≡ false → (a && b) ≡ false
-last-fails true b e = e
-last-fails false b e = refl
+pub record Ranged (L : Lines) (t : Table) : Type 0 where
+  pub ok : allowed L ≡ true
+  pub few : t .count ≤ 1024
+  pub good : all (proper (L .w) (L .h)) (blendsOf t) ≡ true
 
--- out of range: refused
-pub lines-refused : (L : Lines) (t : Table) → allowed L ≡ false → refused ≡ refined L t
-unfolding refined
-lines-refused L t e = rw e
+module _ (L : Lines) (t : Table) where
+  pub ranged-says : ranged L t ≡ true → Ranged L t
+  ranged-says e =
+      let p = and-both (allowed L && leb (t .count) 1024) _ e in
+      let q = and-both (allowed L) _ (p .0) in
+      record { ok = q .0; few = leb-true _ _ (q .1); good = p .1 }
 
-pub count-refused : (L : Lines) (t : Table) → 1024 < t .count → refused ≡ refined L t
-unfolding refined
-count-refused L t h = sym (cond-false _ _ _ (middle-fails (allowed L) _ _ (lt-leb (t .count) 1024 h)))
+  -- out of range: nothing is found
+  pub out-refused : ranged L t ≡ false → refused ≡ refined L t
+  unfolding refined
+  out-refused e = sym (cond-false _ _ _ e)
 
-pub blends-refused : (L : Lines) (t : Table) → all (proper (L .w) (L .h)) (blendsOf t) ≡ false → refused ≡ refined L t
-unfolding refined
-blends-refused L t e = sym (cond-false _ _ _ (last-fails (allowed L && leb (t .count) 1024) _ e))
+  pub out-uncut : ranged L t ≡ false → false ≡ someCut L t
+  unfolding someCut
+  out-uncut e = rw e
+
+  pub lines-refused : allowed L ≡ false → refused ≡ refined L t
+  lines-refused e = out-refused (rw e)
+
+-- within range
+module _ {L : Lines} {t : Table} (r : Ranged L t) where
+  pub sides : Allowed L
+  sides = allowed-says L (r .ok)
+
+  is-ranged : ranged L t ≡ true
+  is-ranged = rw (r .ok, le-leb (t .count) 1024 (r .few), r .good)
+
+  pub ranged-most : all (proper 128 128) (blendsOf t) ≡ true
+  ranged-most = proper-most (L .w) (L .h) (blendsOf t) (sides .across .1) (sides .up .1) (r .good)
+
+  is-answer : refined L t ≡ answer (L .w) (L .h) (refine (L .w) (L .h) (meshOf L) (blendsOf t))
+  unfolding refined
+  is-answer = cond-true _ _ _ is-ranged
+
+  pub is-cut : any (isCut (meshOf L)) (blendsOf t) ≡ someCut L t
+  unfolding someCut
+  is-cut = rw is-ranged
+
+  leaves-good : (C : Blend) → List·Memᴰ C (leavesOf (meshOf L) (blendsOf t)) → ProperIn (L .w) (L .h) C
+  leaves-good C m =
+      proper-facts (L .w) (L .h) C
+      (leaves-proper (L .w) (L .h) (meshOf L) (blendsOf t) (λ B k. all-at (proper (L .w) (L .h)) (blendsOf t) (r .good) B k) C m)
 
 -- the bytes that were drawn are the lines' mesh
 pub drawn-mesh : (L : Lines) (ups lvs : List ℕ) →
@@ -53,43 +83,62 @@ drawn-mesh L ups lvs f g = fun-ext (by-direction)
     by-direction upright = fun-ext (λ z. fun-ext (λ k. f upright refl z k))
     by-direction level = fun-ext (λ z. fun-ext (λ k. g level refl z k))
 
-module _ (L : Lines) (t : Table) (ok : allowed L ≡ true) (few : t .count ≤ 1024) (good : all (proper (L .w) (L .h)) (blendsOf t) ≡ true)
-    (E P ups lvs : List ℕ) (blank : E ≡ empty) (M : bytesMesh ups lvs ≡ meshOf L) (cut : P ≡ keepAll E (leavesOf (bytesMesh ups lvs) (blendsOf t))) where
-  sides : Allowed L
-  sides = allowed-says L ok
+-- Places that hold what is left of a table's blends, cut by lines, where there was nothing before. That they were empty is an equation, so
+-- that no proof writes out their zeros.
+pub record Cut (L : Lines) (t : Table) (P : List ℕ) : Type 0 where
+  pub ranges : Ranged L t
+  pub before : List ℕ
+  pub blank : before ≡ empty
+  pub all-kept : P ≡ keepAll before (leavesOf (meshOf L) (blendsOf t))
 
-  start : Kept (L .w) (L .h) E []
-  start = subst (λ (X : List ℕ). Kept (L .w) (L .h) X []) (sym blank) (nothing-kept (L .w) (L .h))
+module _ {L : Lines} {t : Table} {P : List ℕ} (c : Cut L t P) where
+  w-most : L .w ≤ 128
+  w-most = sides (c .ranges) .across .1
 
-  cut-here : P ≡ keepAll E (leavesOf (meshOf L) (blendsOf t))
-  cut-here = cut ∙ ap (λ (N : Mesh). keepAll E (leavesOf N (blendsOf t))) M
+  h-most : L .h ≤ 128
+  h-most = sides (c .ranges) .up .1
 
-  is-answer : refined L t ≡ answer (L .w) (L .h) (refine (L .w) (L .h) (meshOf L) (blendsOf t))
-  unfolding refined
-  is-answer = rw (ok, le-leb (t .count) 1024 few, good)
+  start : Kept (L .w) (L .h) (c .before) []
+  start = subst (λ (X : List ℕ). Kept (L .w) (L .h) X []) (sym (c .blank)) (nothing-kept (L .w) (L .h))
 
-  leaves-good : (C : Blend) → List·Memᴰ C (leavesOf (meshOf L) (blendsOf t)) → ProperIn (L .w) (L .h) C
-  leaves-good C m =
-      proper-facts (L .w) (L .h) C (leaves-proper (L .w) (L .h) (meshOf L) (blendsOf t) (λ B k. all-at (proper (L .w) (L .h)) (blendsOf t) good B k) C m)
+  clear : getD P 0 0 ≡ 0 → getD (keepAll (c .before) (leavesOf (meshOf L) (blendsOf t))) 0 0 ≡ 0
+  clear z = sym (ap (λ (X : List ℕ). getD X 0 0) (c .all-kept)) ∙ z
 
-  clear : getD P 0 0 ≡ 0 → getD (keepAll E (leavesOf (meshOf L) (blendsOf t))) 0 0 ≡ 0
-  clear z = sym (ap (λ (X : List ℕ). getD X 0 0) cut-here) ∙ z
-
+  -- two blends that met at a place: no sound map
   pub met-refused : (getD P 0 0 ≡ 0 → ⊥) → refused ≡ refined L t
   unfolding refine
   met-refused ne =
-      sym (is-answer ∙ unsound-answer (L .w) (L .h) _
-      (met-unsound (L .w) (L .h) (sides .across .1) (sides .up .1) E start (leavesOf (meshOf L) (blendsOf t)) leaves-good
-      (λ e. ne (ap (λ (X : List ℕ). getD X 0 0) cut-here ∙ e))))
+      sym (is-answer (c .ranges) ∙ unsound-answer (L .w) (L .h) _
+      (met-unsound (L .w) (L .h) w-most h-most (c .before) start (leavesOf (meshOf L) (blendsOf t)) (leaves-good (c .ranges))
+      (λ e. ne (ap (λ (X : List ℕ). getD X 0 0) (c .all-kept) ∙ e))))
 
+  -- else the places hold the blends that are left, and judging them answers
   pub places-held : getD P 0 0 ≡ 0 → Holding (L .w) (L .h) P
   places-held z =
-      subst (Holding (L .w) (L .h)) (sym cut-here)
-      (walk-holding (L .w) (L .h) (sides .across .1) (sides .up .1) E start (leavesOf (meshOf L) (blendsOf t)) leaves-good (clear z))
+      subst (Holding (L .w) (L .h)) (sym (c .all-kept))
+      (walk-holding (L .w) (L .h) w-most h-most (c .before) start (leavesOf (meshOf L) (blendsOf t)) (leaves-good (c .ranges)) (clear z))
 
   pub judged : getD P 0 0 ≡ 0 → answer (L .w) (L .h) (walk (L .w) (L .h) P) ≡ refined L t
   unfolding refine
   judged z =
-      ap (λ (X : List ℕ). answer (L .w) (L .h) (walk (L .w) (L .h) X)) cut-here ∙
+      ap (λ (X : List ℕ). answer (L .w) (L .h) (walk (L .w) (L .h) X)) (c .all-kept) ∙
       ap (answer (L .w) (L .h))
-      (walk-table (L .w) (L .h) (sides .across .1) (sides .up .1) E start (leavesOf (meshOf L) (blendsOf t)) leaves-good (clear z)) ∙ sym is-answer
+      (walk-table (L .w) (L .h) w-most h-most (c .before) start (leavesOf (meshOf L) (blendsOf t)) (leaves-good (c .ranges)) (clear z)) ∙
+      sym (is-answer (c .ranges))
+
+-- four blends at the front of an empty table
+pub four-set : (bs : List Blend) (A B C D : Blend) → bs ≡ table [] .blends →
+    _≡_ {A = Table} (record { count = 4; blends = set (set (set (set bs 0 A) 1 B) 2 C) 3 D }) (table (A ∷ B ∷ C ∷ D ∷ []))
+unfolding table
+four-set bs A B C D e = ap (λ (l : List Blend). record { count = 4; blends = set (set (set (set l 0 A) 1 B) 2 C) 3 D }) e
+
+-- whether lines cut a blend, by the line of each direction that cuts first
+module _ (M : Mesh) (B : Blend) where
+  pub some-line : (d : Direction) → (cutter M d B ≡ 0 → ⊥) → isCut M B ≡ true
+  unfolding isCut
+  some-line upright ne = or-left _ _ (ap not (ne-eqb _ _ ne))
+  some-line level ne = or-right (not (eqb (cutter M upright B) 0)) _ (ap not (ne-eqb _ _ ne))
+
+  pub no-line : cutter M upright B ≡ 0 → cutter M level B ≡ 0 → isCut M B ≡ false
+  unfolding isCut
+  no-line e f = rw (eq-eqb _ _ e, eq-eqb _ _ f)

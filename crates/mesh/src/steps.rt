@@ -180,8 +180,8 @@ pub(crate) fn draw_lines(lines: Lines, direction: usize, steps: &mut [u8])
     let count = lines.count;
     let mut i = 0;
     while i < count {
-        let s = lines.splits[i];
-        draw_split(s, direction, run, steps);
+        let split = lines.splits[i];
+        draw_split(split, direction, run, steps);
         i += 1;
     }
 }

@@ -1,32 +1,32 @@
+-- `mesh::blends::in_ranges` meets its contract: the three tests, in order.
 use borrow.Author.Needs.{needs}
-use native.Mathlib.Omega.{arith}
-use borrow.Author.Needs.{needs}
+use borrow.Author.Tests.{not-true, not-false, le-leb, lt-leb}
+use mathlib.Core.Path.{_≡_, sym, _∙_}
+use mathlib.Core.Bool.{true}
+use Rattle.mesh.specs.Lines.{allowed}
+use Rattle.mesh.proofs.Drawing.{allowed-says}
 use Rattle.mesh.proofs.blends.in_ranges.Statement.{statement}
 use Rattle.mesh.proofs.blends.in_ranges.Tie as tie
-use Rattle.mesh.proofs.blends.in_ranges.Reads as reads
-use Rattle.mesh.proofs.blends.in_ranges.Lts as lts
-use Rattle.mesh.proofs.cut.proper_table.Reads as proper-table-reads
-use Rattle.mesh.proofs.steps.allowed_lines.Reads as allowed-lines-reads
 
--- src/blends.rt:28:9
 allowed-lines-requires : tie.Need-allowed-lines-requires
 allowed-lines-requires c κs = search needs
 
--- src/blends.rt:29:9
 returns : tie.Need-returns
-returns c = ?
+returns c = rw (sym (c .before .allowed-lines .ensures) ∙ not-true _ (c .if1 .taken))
 
--- src/blends.rt:33:9
+lines-ok : (c : tie.Else1) → allowed (c .before .before .args .lines) ≡ true
+lines-ok c = sym (c .before .allowed-lines .ensures) ∙ not-false _ (c .if1 .left)
+
 returns-2 : tie.Need-returns-2
-returns-2 c = ?
+returns-2 c = rw (lines-ok (c .before), lt-leb _ _ (c .if2 .taken))
 
--- src/blends.rt:35:5
 proper-table-requires : tie.Need-proper-table-requires
-proper-table-requires c κs = ?
+proper-table-requires c κs =
+    let sides = allowed-says _ (lines-ok (c .before)) in
+    (c .if2 .left, sides .across .1, sides .up .1)
 
--- src/blends.rt:25:1
 returns-3 : tie.Need-returns-3
-returns-3 c = ?
+returns-3 c = rw (lines-ok (c .before .before), le-leb _ _ (c .before .if2 .left)) (c .proper-table .ensures)
 
 pub in-ranges-spec : {M : Type 1} → statement M
 in-ranges-spec =

@@ -1,10 +1,9 @@
 -- `mesh::blends::live` meets its contract: the first four blends, refined.
 use borrow.Author.Needs.{needs}
 use borrow.Author.Tests.{not-true, not-false}
-use mathlib.Core.Path.{_≡_, sym, ap, _∙_}
+use mathlib.Core.Path.{sym, ap, _∙_}
 use Rattle.mesh.specs.Sound.{table, refined, liveTable}
 use Rattle.mesh.specs.Blends.{firstFour}
-use Rattle.mesh.specs.declared.Table.{Table}
 use Rattle.mesh.proofs.Drawing.{allowed-says}
 use Rattle.mesh.proofs.Refining.{lines-refused}
 use Rattle.mesh.proofs.blends.live.Statement.{statement}

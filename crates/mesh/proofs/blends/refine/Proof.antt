@@ -1,83 +1,102 @@
-use borrow.Author.Needs.{needs}
+-- `mesh::blends::refine` meets its contract: out of range, and where two blends met, it refuses; else the places that are left are judged.
+use Prim.Native.Nat.{ℕ}
 use native.Mathlib.Omega.{arith}
 use borrow.Author.Needs.{needs}
+use borrow.Author.Tests.{not-true, not-false}
+use mathlib.Core.Path.{_≡_, refl, sym, ap, _∙_}
+use lib.ListN.{length-replicate}
+use Rattle.mesh.specs.Lines.{Mesh, meshOf}
+use Rattle.mesh.specs.Blends.{leavesOf}
+use Rattle.mesh.specs.Sound.{blendsOf}
+use Rattle.mesh.specs.Bytes.{bytesMesh, keepAll, empty}
+use Rattle.mesh.proofs.Refining.{Ranged, ranged-says, ranged-most, out-refused, sides, drawn-mesh, Cut, met-refused, places-held, judged}
 use Rattle.mesh.proofs.blends.refine.Statement.{statement}
 use Rattle.mesh.proofs.blends.refine.Tie as tie
-use Rattle.mesh.proofs.blends.refine.Reads as reads
-use Rattle.mesh.proofs.blends.refine.Lts as lts
-use Rattle.mesh.proofs.blends.in_ranges.Reads as in-ranges-reads
-use Rattle.mesh.proofs.cut.cut_all.Reads as cut-all-reads
-use Rattle.mesh.proofs.judge.judge.Reads as judge-reads
-use Rattle.mesh.proofs.judge.refusal.Reads as refusal-reads
-use Rattle.mesh.proofs.steps.draw_lines.Reads as draw-lines-reads
 
--- src/blends.rt:43:9
 in-ranges-requires : tie.Need-in-ranges-requires
 in-ranges-requires c κs = search needs
 
--- src/blends.rt:44:9
 refusal-requires : tie.Need-refusal-requires
 refusal-requires c κs = search needs
 
--- src/blends.rt:44:9
 returns : tie.Need-returns
-returns c = ?
+returns c = c .refusal .ensures ∙ out-refused _ _ (sym (c .before .before .in-ranges .ensures) ∙ not-true _ (c .before .if1 .taken))
 
--- src/blends.rt:48:26
+-- lines and blends that passed the test
+passed : (c : tie.Else1) → Ranged (c .before .before .args .lines) (c .before .before .args .old)
+passed c = ranged-says _ _ (sym (c .before .in-ranges .ensures) ∙ not-false _ (c .if1 .left))
+
 slice-aggregate-draw-lines : tie.Need-slice-aggregate-draw-lines
 slice-aggregate-draw-lines c = search needs
 
--- src/blends.rt:48:5
 draw-lines-requires : tie.Need-draw-lines-requires
-draw-lines-requires c κs = ?
+draw-lines-requires c κs = (passed (c .before) .ok, omega arith, refl)
 
--- src/blends.rt:49:26
 slice-aggregate-draw-lines-2 : tie.Need-slice-aggregate-draw-lines-2
 slice-aggregate-draw-lines-2 c = search needs
 
--- src/blends.rt:49:5
 draw-lines-requires-2 : tie.Need-draw-lines-requires-2
-draw-lines-requires-2 c κs = ?
+draw-lines-requires-2 c κs = (passed (c .before .before .before .before) .ok, omega arith, refl)
 
--- src/blends.rt:51:13
+-- the bytes are the lines' mesh
+drawn : (c : tie.After-draw-lines2) →
+    let one = c .before .before .before in
+    bytesMesh (one .draw-lines .last .1 .1 .0) (c .draw-lines2 .last .1 .1 .0) ≡ meshOf (one .before .before .before .before .args .lines)
+drawn c =
+    let one = c .before .before .before in
+    drawn-mesh (one .before .before .before .before .args .lines) _ _ (one .draw-lines .ensures .1) (c .draw-lines2 .ensures .1)
+
 slice-aggregate-cut-all : tie.Need-slice-aggregate-cut-all
 slice-aggregate-cut-all c = search needs
 
--- src/blends.rt:51:24
 slice-aggregate-cut-all-2 : tie.Need-slice-aggregate-cut-all-2
 slice-aggregate-cut-all-2 c = search needs
 
--- src/blends.rt:51:38
 slice-aggregate-cut-all-3 : tie.Need-slice-aggregate-cut-all-3
 slice-aggregate-cut-all-3 c = search needs
 
--- src/blends.rt:51:5
 cut-all-requires : tie.Need-cut-all-requires
-cut-all-requires c κs = ?
+cut-all-requires c κs =
+    let two = c .before .before .before .before in
+    let one = two .before .before .before in
+    let r = passed (one .before .before) in
+    (one .draw-lines .ensures .0, two .draw-lines2 .ensures .0, length-replicate {A = ℕ} 17161 0, r .few, ranged-most r)
 
--- src/blends.rt:52:8
+-- the places hold what is left of the table's blends
+cut : (c : tie.After-cut-all) →
+    let a = c .before .before .before .before .before .before .before .before .before .before .before .before .args in
+    Cut (a .lines) (a .old) (c .cut-all .last .1 .1 .1 .0)
+cut c =
+    let two = c .before .before .before .before .before in
+    let in-range = two .before .before .before .before .before in
+    let bs = blendsOf (in-range .before .before .args .old) in
+    record {
+      ranges = passed in-range;
+      before = empty;
+      blank = refl;
+      all-kept = c .cut-all .ensures ∙ ap (λ (M : Mesh). keepAll empty (leavesOf M bs)) (drawn two);
+    }
+
 array-read-if2 : tie.Need-array-read-if2
 array-read-if2 c = search needs
 
--- src/blends.rt:53:9
 refusal-requires-2 : tie.Need-refusal-requires-2
 refusal-requires-2 c κs = search needs
 
--- src/blends.rt:53:9
 returns-2 : tie.Need-returns-2
-returns-2 c = ?
+returns-2 c = c .refusal2 .ensures ∙ met-refused (cut (c .before .before .before)) (c .before .if2 .taken)
 
--- src/blends.rt:55:11
 slice-aggregate-judge : tie.Need-slice-aggregate-judge
 slice-aggregate-judge c = search needs
 
--- src/blends.rt:55:5
 judge-requires : tie.Need-judge-requires
-judge-requires c κs = ?
+judge-requires c κs =
+    let k = cut (c .before .before .before) in
+    let s = sides (k .ranges) in
+    (places-held k (c .before .if2 .left), s .across .0, s .across .1, s .up .0, s .up .1)
 
--- src/blends.rt:40:1
 returns-3 : tie.Need-returns-3
-returns-3 c = ?
+returns-3 c = c .judge .ensures ∙ judged (cut (c .before .before .before .before)) (c .before .before .if2 .left)
 
 pub refine-spec : {M : Type 1} → statement M
 refine-spec =

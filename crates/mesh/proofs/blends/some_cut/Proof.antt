@@ -1,53 +1,66 @@
-use borrow.Author.Needs.{needs}
+-- `mesh::blends::some_cut` meets its contract: out of range no line cuts; else the lines' mesh is asked.
 use native.Mathlib.Omega.{arith}
 use borrow.Author.Needs.{needs}
+use borrow.Author.Tests.{not-true, not-false}
+use mathlib.Core.Path.{_≡_, refl, sym, ap, _∙_}
+use Rattle.mesh.specs.Range.{any}
+use Rattle.mesh.specs.Lines.{Mesh, meshOf}
+use Rattle.mesh.specs.Blends.{isCut}
+use Rattle.mesh.specs.Sound.{blendsOf}
+use Rattle.mesh.specs.Bytes.{bytesMesh}
+use Rattle.mesh.proofs.Refining.{Ranged, ranged-says, ranged-most, out-uncut, is-cut, drawn-mesh}
 use Rattle.mesh.proofs.blends.some_cut.Statement.{statement}
 use Rattle.mesh.proofs.blends.some_cut.Tie as tie
-use Rattle.mesh.proofs.blends.some_cut.Reads as reads
-use Rattle.mesh.proofs.blends.some_cut.Lts as lts
-use Rattle.mesh.proofs.blends.in_ranges.Reads as in-ranges-reads
-use Rattle.mesh.proofs.cut.any_cut.Reads as any-cut-reads
-use Rattle.mesh.proofs.steps.draw_lines.Reads as draw-lines-reads
 
--- src/blends.rt:121:9
 in-ranges-requires : tie.Need-in-ranges-requires
 in-ranges-requires c κs = search needs
 
--- src/blends.rt:122:9
 returns : tie.Need-returns
-returns c = ?
+returns c = out-uncut _ _ (sym (c .before .in-ranges .ensures) ∙ not-true _ (c .if1 .taken))
 
--- src/blends.rt:126:26
+-- lines and blends that passed the test
+passed : (c : tie.Else1) → Ranged (c .before .before .args .lines) (c .before .before .args .old)
+passed c = ranged-says _ _ (sym (c .before .in-ranges .ensures) ∙ not-false _ (c .if1 .left))
+
 slice-aggregate-draw-lines : tie.Need-slice-aggregate-draw-lines
 slice-aggregate-draw-lines c = search needs
 
--- src/blends.rt:126:5
 draw-lines-requires : tie.Need-draw-lines-requires
-draw-lines-requires c κs = ?
+draw-lines-requires c κs = (passed (c .before) .ok, omega arith, refl)
 
--- src/blends.rt:127:26
 slice-aggregate-draw-lines-2 : tie.Need-slice-aggregate-draw-lines-2
 slice-aggregate-draw-lines-2 c = search needs
 
--- src/blends.rt:127:5
 draw-lines-requires-2 : tie.Need-draw-lines-requires-2
-draw-lines-requires-2 c κs = ?
+draw-lines-requires-2 c κs = (passed (c .before .before .before .before) .ok, omega arith, refl)
 
--- src/blends.rt:128:13
+-- the bytes are the lines' mesh
+drawn : (c : tie.After-draw-lines2) →
+    let one = c .before .before .before in
+    bytesMesh (one .draw-lines .last .1 .1 .0) (c .draw-lines2 .last .1 .1 .0) ≡ meshOf (one .before .before .before .before .args .lines)
+drawn c =
+    let one = c .before .before .before in
+    drawn-mesh (one .before .before .before .before .args .lines) _ _ (one .draw-lines .ensures .1) (c .draw-lines2 .ensures .1)
+
 slice-aggregate-any-cut : tie.Need-slice-aggregate-any-cut
 slice-aggregate-any-cut c = search needs
 
--- src/blends.rt:128:24
 slice-aggregate-any-cut-2 : tie.Need-slice-aggregate-any-cut-2
 slice-aggregate-any-cut-2 c = search needs
 
--- src/blends.rt:128:5
 any-cut-requires : tie.Need-any-cut-requires
-any-cut-requires c κs = ?
+any-cut-requires c κs =
+    let two = c .before .before .before in
+    let one = two .before .before .before in
+    let r = passed (one .before .before) in
+    (one .draw-lines .ensures .0, two .draw-lines2 .ensures .0, r .few, ranged-most r)
 
--- src/blends.rt:118:1
 returns-2 : tie.Need-returns-2
-returns-2 c = ?
+returns-2 c =
+    let two = c .before .before .before .before in
+    let in-range = two .before .before .before .before .before in
+    let bs = blendsOf (in-range .before .before .args .old) in
+    c .any-cut .ensures ∙ ap (λ (M : Mesh). any (isCut M) bs) (drawn two) ∙ is-cut (passed in-range)
 
 pub some-cut-spec : {M : Type 1} → statement M
 some-cut-spec =

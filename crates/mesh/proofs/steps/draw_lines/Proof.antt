@@ -49,11 +49,11 @@ loop-holds c =
     (λ d same. fresh .draw-fresh .ensures .1 d (L .w) (L .h)
     (crossed .side-of .ensures .1 d same) (along run d same))
 
-mul-s : tie.Need-mul-s Inv-loop μ-loop
-mul-s c = omega arith
+mul-split : tie.Need-mul-split Inv-loop μ-loop
+mul-split c = omega arith
 
-element-copy-out-s : tie.Need-element-copy-out-s Inv-loop μ-loop
-element-copy-out-s c = omega arith
+element-copy-out-split : tie.Need-element-copy-out-split Inv-loop μ-loop
+element-copy-out-split c = omega arith
 
 draw-split-requires : tie.Need-draw-split-requires Inv-loop μ-loop
 draw-split-requires c κs =
@@ -109,8 +109,8 @@ draw-lines-spec =
     side-of-requires-2
     draw-fresh-requires
     loop-holds
-    mul-s
-    element-copy-out-s
+    mul-split
+    element-copy-out-split
     draw-split-requires
     add-i
     loop-less

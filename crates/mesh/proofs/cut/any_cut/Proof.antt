@@ -1,0 +1,155 @@
+-- `mesh::cut::any_cut` meets its contract. The invariant: the blends that remain decide the whole answer.
+use Prim.Native.Nat.{_+_, _-_, _≤_}
+use native.Mathlib.Omega.{arith}
+use mathlib.Core.Path.{_≡_, refl, sym, ap, _∙_}
+use mathlib.Core.Bool.{true, false, _||_}
+use mathlib.Core.List.{_∷_}
+use lib.ListN.{drop, getD, length, length-map}
+use Rattle.mesh.specs.Range.{all, any}
+use Rattle.mesh.specs.Lines.{upright, level}
+use Rattle.mesh.specs.Blends.{isCut}
+use Rattle.mesh.specs.Sound.{proper, none, blendsOf}
+use Rattle.mesh.specs.Bytes.{bytesMesh, Proper}
+use Rattle.mesh.proofs.Tests.{and-both}
+use Rattle.mesh.proofs.Cutting.{blends-turn, blends-end, proper-of}
+use Rattle.mesh.proofs.Refining.{some-line, no-line}
+use Rattle.mesh.proofs.cut.any_cut.Statement.{statement}
+use Rattle.mesh.proofs.cut.any_cut.Tie as tie
+
+abbrev Inv-loop : tie.InvT-loop
+Inv-loop uprights levels table count i₀ i =
+    (i ≤ count) × (all (proper 128 128) (drop i (blendsOf table)) ≡ true) ×
+    (any (isCut (bytesMesh uprights levels)) (drop i (blendsOf table)) ≡ any (isCut (bytesMesh uprights levels)) (blendsOf table))
+
+abbrev μ-loop : tie.MeasureT-loop
+μ-loop uprights levels table count i₀ i = count - i
+
+loop-holds : tie.Need-loop-holds Inv-loop μ-loop
+loop-holds c = (omega arith, c .before .before .pre .3, refl)
+
+-- the next blend, and those behind it
+turn : (c : tie.In-loop Inv-loop μ-loop) →
+    let l = c .before .loop in
+    let a = c .before .before .before .before .args in
+    drop (l .i) (blendsOf (a .t3)) ≡ getD (a .t3 .blends) (l .i) none ∷ drop (l .i + 1) (blendsOf (a .t3))
+turn c =
+    let l = c .before .loop in
+    let s = c .before .before .before .before in
+    let full : length (s .args .t3 .blends) ≡ 1024 = simp length-map at (s .good .1 .1 .0 .1 .1 .1 .0 .1 .0 .1) in
+    blends-turn (s .args .t3) (l .i) (omega arith) (omega arith)
+
+proper-turn : (c : tie.In-loop Inv-loop μ-loop) →
+    let l = c .before .loop in
+    let a = c .before .before .before .before .args in
+    (proper 128 128 (getD (a .t3 .blends) (l .i) none) ≡ true) × (all (proper 128 128) (drop (l .i + 1) (blendsOf (a .t3))) ≡ true)
+proper-turn c =
+    let l = c .before .loop in
+    let a = c .before .before .before .before .args in
+    and-both (proper 128 128 (getD (a .t3 .blends) (l .i) none)) (all (proper 128 128) (drop (l .i + 1) (blendsOf (a .t3)))) (rw (turn c) at (l .inv .1))
+
+-- it rises, as the searches for a line ask
+next-proper : (c : tie.In-loop Inv-loop μ-loop) →
+    Proper (getD (c .before .before .before .before .args .t3 .blends) (c .before .loop .i) none)
+next-proper c = proper-of 128 128 _ (omega arith) (omega arith) (proper-turn c .0)
+
+-- the whole answer, by whether it is cut
+answer-turn : (c : tie.In-loop Inv-loop μ-loop) →
+    let l = c .before .loop in
+    let a = c .before .before .before .before .args in
+    let M = bytesMesh (a .uprights .now) (a .levels .now) in
+    any (isCut M) (blendsOf (a .t3)) ≡ (isCut M (getD (a .t3 .blends) (l .i) none) || any (isCut M) (drop (l .i + 1) (blendsOf (a .t3))))
+answer-turn c =
+    let a = c .before .before .before .before .args in
+    sym (c .before .loop .inv .2) ∙ ap (any (isCut (bytesMesh (a .uprights .now) (a .levels .now)))) (turn c)
+
+-- a line that cuts the next blend answers; where none does, those behind it decide
+found : (c : tie.In-loop Inv-loop μ-loop) →
+    let l = c .before .loop in
+    let a = c .before .before .before .before .args in
+    let M = bytesMesh (a .uprights .now) (a .levels .now) in
+    isCut M (getD (a .t3 .blends) (l .i) none) ≡ true → true ≡ any (isCut M) (blendsOf (a .t3))
+found c e = sym (answer-turn c ∙ rw e)
+
+passed : (c : tie.In-loop Inv-loop μ-loop) →
+    let l = c .before .loop in
+    let a = c .before .before .before .before .args in
+    let M = bytesMesh (a .uprights .now) (a .levels .now) in
+    isCut M (getD (a .t3 .blends) (l .i) none) ≡ false → any (isCut M) (drop (l .i + 1) (blendsOf (a .t3))) ≡ any (isCut M) (blendsOf (a .t3))
+passed c e = sym (answer-turn c ∙ rw e)
+
+mul-x : tie.Need-mul-x Inv-loop μ-loop
+mul-x c = omega arith
+
+element-copy-out-x : tie.Need-element-copy-out-x Inv-loop μ-loop
+element-copy-out-x c = omega arith
+
+sub-first-line : tie.Need-sub-first-line Inv-loop μ-loop
+sub-first-line c = let p = next-proper (c .before .before .before .before) in omega arith
+
+first-line-requires : tie.Need-first-line-requires Inv-loop μ-loop
+first-line-requires c κs =
+    let p = next-proper (c .before .before .before .before) in
+    (c .before .before .before .before .before .before .before .before .pre .0, p .across, omega arith)
+
+returns : tie.Need-returns Inv-loop μ-loop
+unfolding bytesMesh
+returns c =
+    let t = c .before .before .before .before .before .before in
+    found t (some-line _ _ upright (λ e. c .if1 .taken (c .before .first-line .ensures ∙ e)))
+
+sub-first-line-2 : tie.Need-sub-first-line-2 Inv-loop μ-loop
+sub-first-line-2 c = let p = next-proper (c .before .before .before .before .before .before .before) in omega arith
+
+first-line-requires-2 : tie.Need-first-line-requires-2 Inv-loop μ-loop
+first-line-requires-2 c κs =
+    let t = c .before .before .before .before .before .before .before in
+    let p = next-proper t in
+    (t .before .before .before .before .pre .1, p .up, omega arith)
+
+returns-2 : tie.Need-returns-2 Inv-loop μ-loop
+unfolding bytesMesh
+returns-2 c =
+    let t = c .before .before .before .before .before .before .before .before .before in
+    found t (some-line _ _ level (λ e. c .if2 .taken (c .before .first-line2 .ensures ∙ e)))
+
+add-i : tie.Need-add-i Inv-loop μ-loop
+add-i c = omega arith
+
+loop-less : tie.Need-loop-less Inv-loop μ-loop
+loop-less c = omega arith
+
+loop-again : tie.Need-loop-again Inv-loop μ-loop
+unfolding bytesMesh
+loop-again c =
+    let one = c .before .before .before in
+    let t = one .before .before .before .before .before .before in (
+      omega arith,
+      proper-turn t .1,
+      passed t (no-line _ _ (sym (one .before .first-line .ensures) ∙ one .if1 .left) (sym (c .before .first-line2 .ensures) ∙ c .if2 .left)),
+    )
+
+returns-3 : tie.Need-returns-3 Inv-loop μ-loop
+returns-3 c =
+    let l = c .before .loop in
+    let a = c .before .before .before .before .args in
+    sym (sym (l .inv .2) ∙ ap (any (isCut (bytesMesh (a .uprights .now) (a .levels .now)))) (blends-end (a .t3) (l .i) (omega arith)))
+
+pub any-cut-spec : {M : Type 1} → statement M
+any-cut-spec =
+    tie.close
+    (tie.spec
+    Inv-loop
+    μ-loop
+    loop-holds
+    mul-x
+    element-copy-out-x
+    sub-first-line
+    first-line-requires
+    returns
+    sub-first-line-2
+    first-line-requires-2
+    returns-2
+    add-i
+    loop-less
+    loop-again
+    returns-3)
