@@ -41,6 +41,17 @@ entry [] i d lt = absurd (omega arith)
 entry (x ∷ xs) zero d lt = List·Memᴰ·head refl
 entry (x ∷ xs) (suc i) d lt = List·Memᴰ·tail (entry xs i d (omega arith))
 
+-- and what is in it stands at some place
+pub placed {ℓ} : {A : Type ℓ} (xs : List A) (x d : A) → List·Memᴰ x xs → (i : ℕ) × (i < length xs) × (getD xs i d ≡ x)
+placed (y ∷ ys) x d m =
+    ⊎-elim (λ q. (0, omega arith, sym q)) (λ n. let r = placed ys x d n in (suc (r .0), omega (arith, r .1), r .2)) (List·Memᴰ·cases-cons m)
+
+pub entry-map {ℓ ℓ′} : {A : Type ℓ} {B : Type ℓ′} (f : A → B) (xs : List A) (i : ℕ) (d : A) (e : B) → i < length xs →
+    getD (map f xs) i e ≡ f (getD xs i d)
+entry-map f [] i d e lt = absurd (omega arith)
+entry-map f (x ∷ xs) zero d e lt = refl
+entry-map f (x ∷ xs) (suc i) d e lt = entry-map f xs i d e (omega arith)
+
 -- sums over blends with their values
 module _ (g : Blend → ℕ) where
   abbrev pub weighed : List Term → ℕ

@@ -5,28 +5,35 @@ use native.Mathlib.Numerals.{add-one}
 use native.Mathlib.Nat.{mul-div-cancel, div-le-of-le-mul}
 use mathlib.Core.Path.{_≡_, refl, sym, ap, ap₂, subst, _∙_}
 use mathlib.Core.Logic.{⊎-elim}
-use mathlib.Core.Bool.{Bool, true, false, cond, _&&_}
-use mathlib.Core.List.{List, [], _∷_, _++_, map, List·Memᴰ}
+use mathlib.Core.Bool.{Bool, true, false, cond, _&&_, _||_}
+use mathlib.Core.List.{List, [], _∷_, _++_, map, List·Memᴰ, Memᴰ·append-left}
 use mathlib.Core.List.List·Memᴰ.{List·Memᴰ·head, List·Memᴰ·tail}
 use borrow.Author.Tests.{eqb-true, ltb-true, eq-eqb}
 use lib.Dec.{eqb, ltb}
-use lib.ListN.{length, getD, set}
+use lib.ListN.{length, getD, set, length-map}
 use Rattle.mesh.specs.declared.Split.{Split}
 use Rattle.mesh.specs.declared.Triple.{Triple}
 use Rattle.mesh.specs.declared.Blend.{Blend}
+use Rattle.mesh.specs.Range.{any}
+use Rattle.mesh.specs.Lines.{mesh, freshMesh, draws}
 use Rattle.mesh.specs.Blends.{anchored}
+use Rattle.mesh.specs.Order.{Coarser, Left}
 use Rattle.mesh.specs.Sound.{none, proper, sound}
-use Rattle.mesh.proofs.Tests.{either, and-both, and-of, cond-true, cond-false}
+use Rattle.mesh.proofs.Tests.{either, and-both, and-of, or-either, or-left, or-right, any-at, any-of, cond-true, cond-false}
 use Rattle.mesh.proofs.Distinct.{Distinct}
+use Rattle.mesh.proofs.Order.{finer-back, keeps-anchor}
 use Rattle.mesh.proofs.Ascending.{OwnAnchors}
 use Rattle.mesh.proofs.Places.{ProperIn, proper-facts}
-use Rattle.mesh.proofs.Live.{AllProper}
-use Rattle.mesh.proofs.SoundMaps.{live-left, live-proper, live-distinct, own-anchors}
+use Rattle.mesh.proofs.Live.{AllProper, proper-rises}
+use Rattle.mesh.proofs.Few.{map-mem}
+use Rattle.mesh.proofs.Scale.{sum, sum-same}
+use Rattle.mesh.proofs.Weights.{Covered}
+use Rattle.mesh.proofs.SoundMaps.{live-left, live-proper, live-distinct}
 use Rattle.maps.specs.Plain.{Plain, meshOf, blends}
 use Rattle.maps.specs.Values.{paired, readingAt, placeOf, carried}
 use Rattle.maps.specs.Splits.{withLine, drawn}
 use Rattle.maps.specs.Calls.{setPlain}
-use Rattle.maps.proofs.Exact.{entry, paired-single, paired-most, paired-map, means-between, scale, scale-positive, part, exact, reading-rounds, part-own, part-other, parts-one, exact-reproduced}
+use Rattle.maps.proofs.Exact.{entry, placed, entry-map, paired-single, paired-most, paired-map, means-between, scale, scale-positive, part, exact, reading-rounds, part-own, part-other, parts-one, exact-reproduced}
 
 -- Places in a table, blend by blend.
 module _ (B : Blend) (bs : List Blend) (m n : ℕ) where
@@ -127,3 +134,83 @@ module _ (P : Plain) (valued : Valued P) where
       let most = paired-most (part w h (u + 1) (v + 1)) 65535 (blends P) (P .values) (λ x m. omega (arith, valued .small x m)) in
       rw (reading-rounds w h (blends P) (P .values) blends-proper u v)
       (div-le-of-le-mul (scale w h) (omega (arith, most, ap (λ (n : ℕ). 65535 * n) one)))
+
+-- Drawing switches steps on.
+pub drawn-finer : (w h : ℕ) (splits : List Split) (s : Split) → Coarser (mesh w h splits) (mesh w h (splits ++ s ∷ []))
+unfolding mesh
+drawn-finer w h splits s d z k e =
+    ⊎-elim (λ f. or-left (freshMesh w h d z k) _ f)
+    (λ o. let r = any-at (draws w h d z k) splits o in
+    or-right (freshMesh w h d z k) _ (any-of (draws w h d z k) (splits ++ s ∷ []) (r .0) (Memᴰ·append-left (s ∷ []) (r .1)) (r .2)))
+    (or-either (freshMesh w h d z k) (any (draws w h d z k) splits) e)
+
+-- A split that leaves a sound map:
+module _ (P : Plain) (valued : Valued P) (s : Split) (still : sound (P .w) (P .h) (blends (withLine P s)) ≡ true) where
+  -- every old live blend comes before the new ones
+  old-covered : (B : Blend) → List·Memᴰ B (blends P) →
+      (proper (P .w) (P .h) B ≡ true) × Covered (meshOf (withLine P s)) (blends (withLine P s)) B
+  old-covered B m = (
+    blends-proper P valued B m,
+    λ C l. let r = live-left (P .w) (P .h) (valued .wide .0) (valued .tall .0) (meshOf P) B .0 m in
+        live-left (P .w) (P .h) (valued .wide .0) (valued .tall .0) (meshOf (withLine P s)) C .1
+        (r .0, r .1, finer-back (drawn-finer (P .w) (P .h) (P .splits) s) (r .2) l),
+  )
+
+  new-proper : AllProper (P .w) (P .h) (blends (withLine P s))
+  new-proper = live-proper (P .w) (P .h) (valued .wide .0) (valued .tall .0) (meshOf (withLine P s))
+
+  -- each value is the old map's reading at the anchor,
+  pub drawn-value : (i : ℕ) → i < length (blends (drawn P s)) → let B = getD (blends (drawn P s)) i none in
+      getD (drawn P s .values) i 0 ≡ readingAt (blends P) (P .values) (B .across .m - 1) (B .up .m - 1)
+  unfolding drawn
+  drawn-value i lt =
+      entry-map (carried (blends P) (P .values)) (blends (withLine P s)) i none 0 lt ∙
+      carried-reading P valued (getD (blends (withLine P s)) i none)
+
+  -- which is a 16-bit number, so the new map is as the old one was;
+  pub drawn-valued : Valued (drawn P s)
+  unfolding drawn
+  drawn-valued = record {
+    wide = valued .wide;
+    tall = valued .tall;
+    is-sound = still;
+    counted = length-map (blends (withLine P s)) (carried (blends P) (P .values));
+    small = λ v m.
+        let r = map-mem (carried (blends P) (P .values)) (blends (withLine P s)) v m in
+        let p = proper-facts (P .w) (P .h) (r .0) (new-proper (r .0) (r .1)) in
+        let a = p .across in
+        let b = p .up in
+        let most = reading-most P valued (r .0 .across .m - 1) (r .0 .up .m - 1) (omega arith) (omega arith) in
+        omega (arith, r .2, carried-reading P valued (r .0), most);
+  }
+
+  -- readings never rise, and fall by at most one;
+  pub drawn-reading : (u v : ℕ) → u ≤ P .w → v ≤ P .h →
+      (readingAt (blends (drawn P s)) (drawn P s .values) u v ≤ readingAt (blends P) (P .values) u v) ×
+      (readingAt (blends P) (P .values) u v ≤ readingAt (blends (drawn P s)) (drawn P s .values) u v + 1)
+  unfolding drawn
+  drawn-reading u v u-in v-in =
+      let w = P .w in
+      let h = P .h in
+      let L = blends (withLine P s) in
+      let old = exact w h (blends P) (P .values) in
+      let g = part w h (u + 1) (v + 1) in
+      let values : exact w h L (drawn P s .values) (u + 1) (v + 1) ≡ sum (λ (C : Blend). old (C .across .m) (C .up .m) / scale w h * g C) L =
+      paired-map g (carried (blends P) (P .values)) L ∙
+      sum-same _ _ L (λ C m. ap (λ (n : ℕ). n * g C) (carried-reading P valued C ∙ reading-on-knots P valued C (new-proper C m))) in
+      rw (reading-rounds w h L (drawn P s .values) new-proper u v, reading-rounds w h (blends P) (P .values) (blends-proper P valued) u v, values)
+      (means-between (scale w h) (scale-positive w h) (λ (C : Blend). old (C .across .m) (C .up .m)) g L (old (u + 1) (v + 1))
+      (parts-one w h (valued .wide .0) (valued .tall .0) (meshOf (withLine P s)) still u v u-in v-in)
+      (exact-reproduced w h (valued .wide .0) (valued .tall .0) (meshOf (withLine P s)) still (blends P) (P .values) old-covered (u + 1) (v + 1)))
+
+  -- and at every old anchor they stay.
+  pub drawn-anchor : (B : Blend) → List·Memᴰ B (blends P) →
+      readingAt (blends (drawn P s)) (drawn P s .values) (B .across .m - 1) (B .up .m - 1) ≡
+      readingAt (blends P) (P .values) (B .across .m - 1) (B .up .m - 1)
+  unfolding drawn
+  drawn-anchor B m =
+      let k = keeps-anchor (meshOf (withLine P s)) B (proper-rises (P .w) (P .h) B (blends-proper P valued B m)) in
+      let r = placed (blends (withLine P s)) (k .0) none (old-covered B m .1 (k .0) (k .1)) in
+      let x : getD (blends (withLine P s)) (r .0) none .across .m ≡ B .across .m = ap (λ (C : Blend). C .across .m) (r .2) ∙ k .2 in
+      let y : getD (blends (withLine P s)) (r .0) none .up .m ≡ B .up .m = ap (λ (C : Blend). C .up .m) (r .2) ∙ k .3 in
+      rw (x, y) at (reading-value (drawn P s) drawn-valued (r .0) (r .1) ∙ drawn-value (r .0) (r .1))
