@@ -5,37 +5,34 @@ use native.Mathlib.Numerals.{add-one}
 use native.Mathlib.Nat.{mul-div-cancel, div-le-of-le-mul}
 use mathlib.Core.Path.{_≡_, refl, sym, ap, ap₂, subst, _∙_}
 use mathlib.Core.Logic.{⊎-elim}
-use mathlib.Core.Bool.{Bool, true, false, cond, _&&_, _||_}
+use mathlib.Core.Bool.{true, false}
 use mathlib.Core.List.{List, [], _∷_, _++_, map, List·Memᴰ, Memᴰ·append-left}
-use mathlib.Core.List.List·Memᴰ.{List·Memᴰ·head, List·Memᴰ·tail}
-use borrow.Author.Tests.{eqb-true, ltb-true, eq-eqb}
+use borrow.Author.Tests.{eqb-true, ltb-true}
 use lib.Dec.{eqb, ltb}
-use lib.ListN.{length, getD, set, length-map}
+use lib.ListN.{length, getD, set, length-map, length-set}
+use lib.Seq.{getD-set-same, getD-set-other}
 use Rattle.mesh.specs.declared.Split.{Split}
-use Rattle.mesh.specs.declared.Triple.{Triple}
 use Rattle.mesh.specs.declared.Blend.{Blend}
 use Rattle.mesh.specs.Range.{any}
 use Rattle.mesh.specs.Lines.{mesh, freshMesh, draws}
 use Rattle.mesh.specs.Blends.{anchored}
-use Rattle.mesh.specs.Order.{Coarser, Left}
+use Rattle.mesh.specs.Order.{Coarser}
 use Rattle.mesh.specs.Sound.{none, proper, sound}
-use Rattle.mesh.proofs.Tests.{either, and-both, and-of, or-either, or-left, or-right, any-at, any-of, cond-true, cond-false}
-use Rattle.mesh.proofs.Distinct.{Distinct}
+use Rattle.mesh.proofs.Tests.{either, and-both, or-either, or-left, or-right, any-at, any-of, cond-true, cond-false}
 use Rattle.mesh.proofs.Order.{finer-back, keeps-anchor}
-use Rattle.mesh.proofs.Ascending.{OwnAnchors}
-use Rattle.mesh.proofs.Places.{ProperIn, proper-facts}
+use Rattle.mesh.proofs.Places.{proper-facts}
 use Rattle.mesh.proofs.Live.{AllProper, proper-rises}
 use Rattle.mesh.proofs.Few.{map-mem}
 use Rattle.mesh.proofs.Scale.{sum, sum-same}
 use Rattle.mesh.proofs.Weights.{Covered}
 use Rattle.mesh.proofs.SoundMaps.{live-left, live-proper, live-distinct}
 use Rattle.maps.specs.Plain.{Plain, meshOf, blends}
-use Rattle.maps.specs.Values.{paired, readingAt, placeOf, carried}
+use Rattle.maps.specs.Values.{readingAt, placeOf, carried}
 use Rattle.maps.specs.Splits.{withLine, drawn}
 use Rattle.maps.specs.Calls.{setPlain}
-use Rattle.maps.proofs.Exact.{entry, placed, entry-map, paired-single, paired-most, paired-map, means-between, scale, scale-positive, part, exact, reading-rounds, part-own, part-other, parts-one, exact-reproduced}
+use Rattle.maps.proofs.Exact.{entry, placed, entry-map, set-mem, paired-single, paired-most, paired-map, means-between, scale, scale-positive, part, exact, reading-rounds, part-own, part-other, parts-one, exact-reproduced}
 
--- Places in a table, blend by blend.
+-- the place of an anchor in a table, blend by blend
 module _ (B : Blend) (bs : List Blend) (m n : ℕ) where
   place-here : anchored m n B ≡ true → placeOf (B ∷ bs) m n ≡ 0
   place-here e = rw e
@@ -43,7 +40,7 @@ module _ (B : Blend) (bs : List Blend) (m n : ℕ) where
   place-later : anchored m n B ≡ false → placeOf (B ∷ bs) m n ≡ suc (placeOf bs m n)
   place-later e = rw e (add-one (placeOf bs m n))
 
--- The blend at the place of an anchor has it,
+-- the blend at the place of an anchor has it
 pub place-found : (bs : List Blend) (m n : ℕ) → placeOf bs m n < length bs →
     let B = getD bs (placeOf bs m n) none in (B .across .m ≡ m) × (B .up .m ≡ n)
 place-found [] m n lt = absurd (omega arith)
@@ -54,23 +51,6 @@ place-found (B ∷ bs) m n lt =
     (λ e. rw (place-later B bs m n e) (place-found bs m n (omega (arith, place-later B bs m n e))))
     (either (anchored m n B))
 
--- and where no two blends have one anchor, the place of a blend's anchor is its own.
-pub place-own : (bs : List Blend) → Distinct bs → OwnAnchors bs → (i : ℕ) → i < length bs →
-    placeOf bs (getD bs i none .across .m) (getD bs i none .up .m) ≡ i
-place-own [] dist own i lt = absurd (omega arith)
-place-own (B ∷ bs) dist own zero lt =
-    place-here B bs (B .across .m) (B .up .m) (and-of _ _ (eq-eqb (B .across .m) _ refl) (eq-eqb (B .up .m) _ refl))
-place-own (B ∷ bs) dist own (suc i) lt =
-    let C = getD bs i none in
-    let m = entry bs i none (omega arith) in
-    ⊎-elim
-    (λ e. let a = and-both (eqb (B .across .m) (C .across .m)) (eqb (B .up .m) (C .up .m)) e in
-    absurd (dist .0 (subst (λ (X : Blend). List·Memᴰ X bs)
-    (sym (own B C (List·Memᴰ·head refl) (List·Memᴰ·tail m) (eqb-true _ _ (a .0)) (eqb-true _ _ (a .1)))) m)))
-    (λ e. place-later B bs (C .across .m) (C .up .m) e ∙
-    ap suc (place-own bs (dist .1) (λ X Y mX mY. own X Y (List·Memᴰ·tail mX) (List·Memᴰ·tail mY)) i (omega arith)))
-    (either (anchored (C .across .m) (C .up .m) B))
-
 -- A sound map of allowed sides with a 16-bit value for each live blend.
 pub record Valued (P : Plain) : Type 0 where
   pub wide : (1 ≤ P .w) × (P .w ≤ 128)
@@ -80,7 +60,7 @@ pub record Valued (P : Plain) : Type 0 where
   pub small : (v : ℕ) → List·Memᴰ v (P .values) → v < 65536
 
 module _ (P : Plain) (valued : Valued P) where
-  blends-proper : AllProper (P .w) (P .h) (blends P)
+  pub blends-proper : AllProper (P .w) (P .h) (blends P)
   blends-proper = live-proper (P .w) (P .h) (valued .wide .0) (valued .tall .0) (meshOf P)
 
   -- a reading at the anchor of a proper blend, on its knots
@@ -95,7 +75,7 @@ module _ (P : Plain) (valued : Valued P) where
       let y : B .up .m - 1 + 1 ≡ B .up .m = omega arith in
       rw (x, y) at (reading-rounds (P .w) (P .h) (blends P) (P .values) blends-proper (B .across .m - 1) (B .up .m - 1))
 
-  -- A reading at an anchor is the value there.
+  -- At an anchor the reading is the value of its blend.
   pub reading-value : (i : ℕ) → i < length (blends P) → let B = getD (blends P) i none in
       readingAt (blends P) (P .values) (B .across .m - 1) (B .up .m - 1) ≡ getD (P .values) i 0
   reading-value i lt =
@@ -112,7 +92,7 @@ module _ (P : Plain) (valued : Valued P) where
       )
       (mul-div-cancel (getD (P .values) i 0) (scale-positive w h))
 
-  -- So an old anchor's value and a new one's are the reading there alike.
+  -- "Old anchors keep their values; each new one takes the old map's reading there": either way it is the reading there.
   pub carried-reading : (B : Blend) →
       carried (blends P) (P .values) B ≡ readingAt (blends P) (P .values) (B .across .m - 1) (B .up .m - 1)
   unfolding carried
@@ -125,7 +105,7 @@ module _ (P : Plain) (valued : Valued P) where
       (λ e. cond-false _ _ _ e)
       (either (ltb i (length (blends P))))
 
-  -- Readings in the domain never exceed 65,535.
+  -- A reading in the domain is again one of "0 to 65,535 litres a minute".
   pub reading-most : (u v : ℕ) → u ≤ P .w → v ≤ P .h → readingAt (blends P) (P .values) u v ≤ 65535
   reading-most u v u-in v-in =
       let w = P .w in
@@ -135,7 +115,7 @@ module _ (P : Plain) (valued : Valued P) where
       rw (reading-rounds w h (blends P) (P .values) blends-proper u v)
       (div-le-of-le-mul (scale w h) (omega (arith, most, ap (λ (n : ℕ). 65535 * n) one)))
 
--- Drawing switches steps on.
+-- drawing a split takes no unit step off the lines
 pub drawn-finer : (w h : ℕ) (splits : List Split) (s : Split) → Coarser (mesh w h splits) (mesh w h (splits ++ s ∷ []))
 unfolding mesh
 drawn-finer w h splits s d z k e =
@@ -146,8 +126,8 @@ drawn-finer w h splits s d z k e =
 
 -- A split that leaves a sound map:
 module _ (P : Plain) (valued : Valued P) (s : Split) (still : sound (P .w) (P .h) (blends (withLine P s)) ≡ true) where
-  -- every old live blend comes before the new ones
-  old-covered : (B : Blend) → List·Memᴰ B (blends P) →
+  -- every live blend of the map just before comes before the new ones;
+  pub old-covered : (B : Blend) → List·Memᴰ B (blends P) →
       (proper (P .w) (P .h) B ≡ true) × Covered (meshOf (withLine P s)) (blends (withLine P s)) B
   old-covered B m = (
     blends-proper P valued B m,
@@ -159,7 +139,7 @@ module _ (P : Plain) (valued : Valued P) (s : Split) (still : sound (P .w) (P .h
   new-proper : AllProper (P .w) (P .h) (blends (withLine P s))
   new-proper = live-proper (P .w) (P .h) (valued .wide .0) (valued .tall .0) (meshOf (withLine P s))
 
-  -- each value is the old map's reading at the anchor,
+  -- each new value is the old map's reading at the anchor;
   pub drawn-value : (i : ℕ) → i < length (blends (drawn P s)) → let B = getD (blends (drawn P s)) i none in
       getD (drawn P s .values) i 0 ≡ readingAt (blends P) (P .values) (B .across .m - 1) (B .up .m - 1)
   unfolding drawn
@@ -167,7 +147,7 @@ module _ (P : Plain) (valued : Valued P) (s : Split) (still : sound (P .w) (P .h
       entry-map (carried (blends P) (P .values)) (blends (withLine P s)) i none 0 lt ∙
       carried-reading P valued (getD (blends (withLine P s)) i none)
 
-  -- which is a 16-bit number, so the new map is as the old one was;
+  -- the map just after is again a sound one with a 16-bit value for each live blend;
   pub drawn-valued : Valued (drawn P s)
   unfolding drawn
   drawn-valued = record {
@@ -184,7 +164,7 @@ module _ (P : Plain) (valued : Valued P) (s : Split) (still : sound (P .w) (P .h
         omega (arith, r .2, carried-reading P valued (r .0), most);
   }
 
-  -- readings never rise, and fall by at most one;
+  -- a reading just after the split is never above the one just before, and at most one below;
   pub drawn-reading : (u v : ℕ) → u ≤ P .w → v ≤ P .h →
       (readingAt (blends (drawn P s)) (drawn P s .values) u v ≤ readingAt (blends P) (P .values) u v) ×
       (readingAt (blends P) (P .values) u v ≤ readingAt (blends (drawn P s)) (drawn P s .values) u v + 1)
@@ -203,7 +183,7 @@ module _ (P : Plain) (valued : Valued P) (s : Split) (still : sound (P .w) (P .h
       (parts-one w h (valued .wide .0) (valued .tall .0) (meshOf (withLine P s)) still u v u-in v-in)
       (exact-reproduced w h (valued .wide .0) (valued .tall .0) (meshOf (withLine P s)) still (blends P) (P .values) old-covered (u + 1) (v + 1)))
 
-  -- and at every old anchor they stay.
+  -- and at an old anchor the two are the same.
   pub drawn-anchor : (B : Blend) → List·Memᴰ B (blends P) →
       readingAt (blends (drawn P s)) (drawn P s .values) (B .across .m - 1) (B .up .m - 1) ≡
       readingAt (blends P) (P .values) (B .across .m - 1) (B .up .m - 1)
@@ -214,3 +194,40 @@ module _ (P : Plain) (valued : Valued P) (s : Split) (still : sound (P .w) (P .h
       let x : getD (blends (withLine P s)) (r .0) none .across .m ≡ B .across .m = ap (λ (C : Blend). C .across .m) (r .2) ∙ k .2 in
       let y : getD (blends (withLine P s)) (r .0) none .up .m ≡ B .up .m = ap (λ (C : Blend). C .up .m) (r .2) ∙ k .3 in
       rw (x, y) at (reading-value (drawn P s) drawn-valued (r .0) (r .1) ∙ drawn-value (r .0) (r .1))
+
+-- Setting the value at an anchor leaves the live blends as they are,
+pub set-blends : (P : Plain) (m n v : ℕ) → blends (setPlain P m n v) ≡ blends P
+unfolding setPlain
+set-blends P m n v = refl
+
+module _ (P : Plain) (valued : Valued P) (m n v : ℕ) where
+  -- and a map with a 16-bit value for each;
+  pub set-valued : v < 65536 → Valued (setPlain P m n v)
+  unfolding setPlain
+  set-valued lt = record {
+    wide = valued .wide;
+    tall = valued .tall;
+    is-sound = valued .is-sound;
+    counted = length-set (P .values) _ v ∙ valued .counted;
+    small = λ x k. ⊎-elim (λ q. omega arith) (valued .small x) (set-mem (P .values) _ v x k);
+  }
+
+  -- every other table place keeps its value;
+  pub set-other : (i : ℕ) → (i ≡ placeOf (blends P) (m + 1) (n + 1) → ⊥) → getD (setPlain P m n v .values) i 0 ≡ getD (P .values) i 0
+  unfolding setPlain
+  set-other i off = getD-set-other (P .values) _ i v 0 off
+
+  -- and where a live blend has the anchor, its value, and so the reading there, is the one that was set.
+  module _ (there : placeOf (blends P) (m + 1) (n + 1) < length (blends P)) where
+    pub set-same : getD (setPlain P m n v .values) (placeOf (blends P) (m + 1) (n + 1)) 0 ≡ v
+    unfolding setPlain
+    set-same = getD-set-same (P .values) _ v 0 (rw (valued .counted) there)
+
+    pub set-reading : v < 65536 → readingAt (blends (setPlain P m n v)) (setPlain P m n v .values) m n ≡ v
+    unfolding setPlain
+    set-reading lt =
+        let i = placeOf (blends P) (m + 1) (n + 1) in
+        let f = place-found (blends P) (m + 1) (n + 1) there in
+        let x : getD (blends P) i none .across .m - 1 ≡ m = omega (arith, f .0) in
+        let y : getD (blends P) i none .up .m - 1 ≡ n = omega (arith, f .1) in
+        rw (x, y) at (reading-value (setPlain P m n v) (set-valued lt) i there ∙ set-same)
