@@ -13,9 +13,9 @@ use Rattle.mesh.specs.Lines.{splitsOf, allowed}
 use Rattle.mesh.specs.Sound.{sound, table}
 use Rattle.mesh.specs.Bytes.{place}
 use Rattle.maps.specs.declared.Map.{Map}
-use Rattle.maps.specs.declared.Step.{Step}
-use Rattle.maps.specs.declared.Opened.{Opened}
-use Rattle.maps.specs.declared.Found.{Found}
+use Rattle.maps.specs.declared.splits.Step.{Step}
+use Rattle.maps.specs.declared.record.Opened.{Opened}
+use Rattle.maps.specs.declared.splits.Found.{Found}
 use Rattle.maps.specs.Plain.{Plain, blends}
 use Rattle.maps.specs.Values.{carried}
 use Rattle.maps.specs.Splits.{given, exactNumber, withLine, chosen}
