@@ -28,7 +28,7 @@ turn : (c : tie.In-loop Inv-loop μ-loop) →
 turn c =
     let l = c .before .loop in
     let a = c .before .before .args in
-    let full : length (a .t1 .blends) ≡ 1024 = ? in
+    let full : length (a .t1 .blends) ≡ 1024 = simp length-map at (c .before .before .good .0 .1 .1 .1 .0 .1 .0 .1) in
     sym (l .inv .1) ∙ rw (blends-turn (a .t1) (l .i) (omega arith) (omega arith))
 
 loop-holds : tie.Need-loop-holds Inv-loop μ-loop
@@ -44,7 +44,11 @@ is-anchored-requires : tie.Need-is-anchored-requires Inv-loop μ-loop
 is-anchored-requires c κs = search needs
 
 returns : tie.Need-returns Inv-loop μ-loop
-returns c = ?
+returns c =
+    let l = c .before .before .before .before .loop in
+    let a = c .before .before .before .before .before .args in
+    let here : anchored (a .m) (a .n) (getD (a .t1 .blends) (l .i) none) ≡ true = sym (c .before .is-anchored .ensures) ∙ c .if1 .taken in
+    sym (turn (c .before .before .before) ∙ rw here (omega arith))
 
 add-i : tie.Need-add-i Inv-loop μ-loop
 add-i c = omega arith
@@ -53,10 +57,18 @@ loop-less : tie.Need-loop-less Inv-loop μ-loop
 loop-less c = omega arith
 
 loop-again : tie.Need-loop-again Inv-loop μ-loop
-loop-again c = ?
+loop-again c =
+    let l = c .before .before .before .before .loop in
+    let a = c .before .before .before .before .before .args in
+    let past : anchored (a .m) (a .n) (getD (a .t1 .blends) (l .i) none) ≡ false = sym (c .before .is-anchored .ensures) ∙ c .if1 .left in
+    (omega arith, sym (turn (c .before .before .before) ∙ rw past (omega arith)))
 
 returns-2 : tie.Need-returns-2 Inv-loop μ-loop
-returns-2 c = ?
+returns-2 c =
+    let l = c .before .loop in
+    let a = c .before .before .args in
+    let all-passed : placeOf (drop (l .i) (blendsOf (a .t1))) (a .m) (a .n) ≡ 0 = rw (blends-end (a .t1) (l .i) (omega arith)) in
+    omega (arith, l .inv .1)
 
 pub place-of-spec : {M : Type 1} → statement M
 place-of-spec =
