@@ -1,20 +1,26 @@
 -- A blend over a unit square: its gaps and shares there, and the weight that they make at the square's corners.
 use Prim.Native.Nat.{ℕ, _+_, _*_, _-_, _<_, _≤_}
 use native.Mathlib.Omega.{arith}
-use native.Mathlib.Nat.{mul-pos, mul-le-mul, mul-one, mul-comm}
+use native.Mathlib.Nat.{mul-pos, mul-le-mul, mul-one, mul-comm, zero-mul, mul-zero}
 use mathlib.Core.Path.{_≡_, refl, sym, ap, subst, _∙_}
 use mathlib.Core.Logic.{_⊎_, inl, inr, ⊎-elim}
 use mathlib.Core.Bool.{true, false}
-use borrow.Author.Tests.{ltb-true, ltb-false, leb-true, leb-false, lt-ltb, le-ltb, le-leb, lt-leb}
-use lib.Dec.{ltb, leb}
+use borrow.Author.Tests.{ltb-true, ltb-false, leb-true, leb-false, lt-ltb, le-ltb, le-leb, lt-leb, eqb-true, eqb-false}
+use lib.Dec.{ltb, leb, eqb}
+use lib.ListN.{length, getD}
+use mathlib.Core.List.{List}
 use Rattle.mesh.specs.Triple.{Fraction, hat, spans}
 use Rattle.mesh.specs.Weight.{Equal, times, whole, weight}
-use Rattle.mesh.specs.Sound.{proper, overSquare}
+use Rattle.mesh.specs.Range.{every, all, only}
+use Rattle.mesh.specs.Sound.{overSquare, proper, blendsOf, none, sound, fourEverywhere, noneNested}
 use Rattle.mesh.specs.declared.Triple.{Triple}
+use Rattle.mesh.specs.declared.Table.{Table}
 use Rattle.mesh.specs.declared.Blend.{Blend}
-use Rattle.mesh.proofs.Tests.{either, and-both, and-fails, cond-true, cond-false}
+use Rattle.mesh.proofs.Tests.{either, and-both, and-fails, every-at, all-at}
 use Rattle.mesh.proofs.Hats.{Rise, hat-den, hat-outside}
-use Rattle.mesh.proofs.Places.{Rises, ProperIn, proper-facts}
+use Rattle.mesh.proofs.Places.{Rises, ProperIn}
+use Rattle.mesh.proofs.Cutting.{proper-most}
+use Rattle.mesh.proofs.Judging.{left-mem}
 use Rattle.maps.specs.Values.{gap, share, corner}
 use Rattle.maps.proofs.Sums.{times-equal}
 
@@ -71,7 +77,7 @@ module _ (t : Triple) (x : ℕ) where
 rise : {side : ℕ} {t : Triple} → Rises side t → Rise t
 rise r = record { low = r .low; high = r .high }
 
--- numerator and denominator of the weight of a blend over a square, at a corner of the square: both are small
+-- the weight of a blend at a corner of a square, over the gaps in which the square lies: both numbers are small
 module _ (B : Blend) (ok : ProperIn 128 128 B) (x y : ℕ) where
   pub denominator-positive : 0 < gap (B .across) x * gap (B .up) y
   denominator-positive = mul-pos (gap-positive (B .across) x (rise (ok .across))) (gap-positive (B .up) y (rise (ok .up)))
@@ -79,5 +85,47 @@ module _ (B : Blend) (ok : ProperIn 128 128 B) (x y : ℕ) where
   pub denominator-most : gap (B .across) x * gap (B .up) y ≤ 16641
   denominator-most = mul-le-mul (gap-most (B .across) x (ok .across)) (gap-most (B .up) y (ok .up))
 
-  pub numerator-most : (u v : ℕ) → End x u → End y v → share (B .across) x u * share (B .up) y v ≤ 16641
-  numerator-most u v e f = mul-le-mul (share-most (B .across) x u (ok .across) e) (share-most (B .up) y v (ok .up) f)
+  module _ (u v : ℕ) (e : End x u) (f : End y v) where
+    pub numerator-most : share (B .across) x u * share (B .up) y v ≤ 16641
+    numerator-most = mul-le-mul (share-most (B .across) x u (ok .across) e) (share-most (B .up) y v (ok .up) f)
+
+    pub weight-shares :
+        Equal (weight B u v 1) (record { num = share (B .across) x u * share (B .up) y v; den = gap (B .across) x * gap (B .up) y })
+    weight-shares =
+        times-equal (hat (B .across) u 1) (record { num = share (B .across) x u; den = gap (B .across) x })
+        (hat (B .up) v 1) (record { num = share (B .up) y v; den = gap (B .up) y })
+        (hat-share (B .across) x u (rise (ok .across)) e) (hat-share (B .up) y v (rise (ok .up)) f)
+
+    pub weight-outside : overSquare x y B ≡ false → weight B u v 1 .num ≡ 0
+    weight-outside o =
+        ⊎-elim
+        (λ s. rw (hat-outside-step (B .across) x u (rise (ok .across)) e s) (zero-mul _))
+        (λ s. rw (hat-outside-step (B .up) y v (rise (ok .up)) f s) (mul-zero _))
+        (and-fails (spans x (B .across)) (spans y (B .up)) o)
+
+-- the low corner of a point's square, as knots: the square lies in the domain, and the point is at a corner of it
+module _ (side u : ℕ) (pos : 1 ≤ side) (le : u ≤ side) where
+  pub corner-in : (1 ≤ corner side u + 1) × (corner side u + 1 ≤ side)
+  corner-in =
+      ⊎-elim (λ e. rw e (omega arith, omega (arith, eqb-true u side e)))
+      (λ e. let ne : u ≡ side → ⊥ = eqb-false u side e in rw e (omega arith, omega arith)) (either (eqb u side))
+
+  pub corner-end : End (corner side u + 1) (u + 1)
+  corner-end =
+      ⊎-elim (λ e. let q = eqb-true u side e in rw e record { from = omega arith; to = omega arith })
+      (λ e. rw e record { from = omega arith; to = omega arith }) (either (eqb u side))
+
+-- exactly four blends of a sound map lie over each square of the domain
+pub four-over : (w h : ℕ) (bs : List Blend) → sound w h bs ≡ true → (x y : ℕ) → 1 ≤ x → x ≤ w → 1 ≤ y → y ≤ h →
+    length (only (overSquare x y) bs) ≡ 4
+unfolding sound fourEverywhere
+four-over w h bs e x y x1 xw y1 yh =
+    let four = and-both (fourEverywhere w h bs) (noneNested bs) e .0 in
+    let row = every-at 1 w (λ a. every 1 h (λ b. eqb (length (only (overSquare a b) bs)) 4)) four x x1 (omega arith) in
+    eqb-true _ _ (every-at 1 h (λ b. eqb (length (only (overSquare x b) bs)) 4) row y y1 (omega arith))
+
+-- a blend of a table that is proper for sides of at most 128
+pub proper-at : (w h : ℕ) → w ≤ 128 → h ≤ 128 → (t : Table) → all (proper w h) (blendsOf t) ≡ true → (i : ℕ) → i < t .count →
+    t .count ≤ length (t .blends) → proper 128 128 (getD (t .blends) i none) ≡ true
+proper-at w h hw hh t e i lt le =
+    all-at (proper 128 128) (blendsOf t) (proper-most w h (blendsOf t) hw hh e) _ (left-mem (t .blends) (t .count) i le none lt)

@@ -10,6 +10,10 @@ pub times-equal : (x x′ y y′ : Fraction) → Equal x x′ → Equal y y′ �
 times-equal x x′ y y′ e f =
     omega (arith, ap (λ (a : ℕ). a * (y .num * y′ .den)) e, ap (λ (a : ℕ). x′ .num * x .den * a) f)
 
+pub multiple-equal : (c : ℕ) (x : Fraction) (n d : ℕ) → Equal x (record { num = n; den = d }) →
+    Equal (times (whole c) x) (record { num = n * c; den = d })
+multiple-equal c x n d e = omega (arith, ap (λ (a : ℕ). c * a) e)
+
 -- in a sum, a fraction can be replaced by an equal one, and put with those before it
 pub plus-next : (t a x x′ r : Fraction) → 0 < x .den → Equal x x′ → Equal t (plus a (plus x r)) → Equal t (plus (plus a x′) r)
 plus-next t a x x′ r pos e h =

@@ -140,6 +140,13 @@ pub(crate) fn place_of(table: Table, m: usize, n: usize) -> usize
     count
 }
 
+// A value as a number to calculate with.
+fn wide(value: u16) -> usize
+    ensures { λ r. ⌜ (r ≡ value) × (r ≤ 65535) ⌝ }
+{
+    value as usize
+}
+
 // A sum of fractions: a whole number, and a rest over the product of the denominators.
 struct Sum {
     whole: usize,
@@ -185,7 +192,8 @@ pub(crate) fn reading_of(
     while i < count {
         let b = table.blends[i];
         if is_over(b, x, y) {
-            let product = numerator_at(b, x, y, u + 1, v + 1) * (values[i] as usize);
+            let value = wide(values[i]);
+            let product = numerator_at(b, x, y, u + 1, v + 1) * value;
             sum = added(sum, product, denominator_at(b, x, y));
         }
         i += 1;
