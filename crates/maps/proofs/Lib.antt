@@ -1,3 +1,4 @@
 pub mod Sums
 pub mod Over
 pub mod Adding
+pub mod Filling
