@@ -1,21 +1,21 @@
 -- A reading as it is added up, blend by blend: what is added, and what remains to be added.
 use Prim.Native.Nat.{ℕ, zero, suc, _+_, _*_, _/_, _%_, _^_, _<_, _≤_}
 use native.Mathlib.Omega.{arith}
-use native.Mathlib.Nat.{mul-pos, mul-le-mul, mul-le-mul-left, mul-le-mul-right, div-le-self, div-le-of-le-mul, div-add-mod', mod-lt, mul-add-div-right, le-of-lt}
-use mathlib.Core.Path.{_≡_, refl, sym, ap, subst, _∙_}
+use native.Mathlib.Nat.{mul-pos, mul-le-mul, mul-le-mul-left, mul-le-mul-right, div-le-self, div-le-of-le-mul, mod-lt, mul-add-div-right, le-of-lt}
+use mathlib.Core.Path.{_≡_, subst, _∙_}
 use mathlib.Core.Bool.{true, false}
 use mathlib.Core.List.{List, [], _∷_}
 use lib.ListN.{length}
 use Rattle.mesh.specs.Range.{all, only}
 use Rattle.mesh.specs.Triple.{Fraction}
-use Rattle.mesh.specs.Weight.{Equal, plus, times, whole, weight, value, total}
+use Rattle.mesh.specs.Weight.{Equal, plus, times, whole, weight, value}
 use Rattle.mesh.specs.Sound.{overSquare, proper}
 use Rattle.mesh.specs.declared.Blend.{Blend}
 use Rattle.mesh.proofs.Tests.{and-both}
 use Rattle.mesh.proofs.Places.{ProperIn, proper-of}
 use Rattle.mesh.proofs.Weights.{weight-den}
-use Rattle.maps.specs.Values.{gap, share, paired, readingAt}
-use Rattle.maps.proofs.Sums.{multiple-equal, plus-next, rounds-same}
+use Rattle.maps.specs.Values.{gap, share, paired}
+use Rattle.maps.proofs.Sums.{multiple-equal, plus-next, mixed, plus-zero, plus-mixed, rounds-same}
 use Rattle.maps.proofs.Over.{End, denominator-positive, denominator-most, numerator-most, weight-shares, weight-outside}
 
 -- the largest product of n denominators
@@ -39,10 +39,6 @@ takes-one b r d le h = omega (arith, mul-le-mul-left (b * r) le)
 rest-one : (t n b d m : ℕ) → m < d → t + suc n * b ≤ 4 * b → t * d + m * b + n * (b * d) ≤ 4 * (b * d)
 rest-one t n b d m lt h = omega (arith, mul-le-mul-right d h, mul-le-mul-right b (le-of-lt lt))
 
--- a number and a rest, as one fraction
-abbrev pub mixed : ℕ → ℕ → ℕ → Fraction
-mixed w t b = record { num = w * b + t; den = b }
-
 -- The exact sum s is what is added, and the blends and values that remain, at knots (u, v) in the square from (x, y). Where n of the blends that
 -- remain lie over the square, at most 4 - n fractions are added, each of a numerator of at most 16641 and a value of at most 65535.
 pub record Adding (x y u v : ℕ) (s : Fraction) (bs : List Blend) (vs : List ℕ) (w t b : ℕ) : Type 0 where
@@ -50,20 +46,7 @@ pub record Adding (x y u v : ℕ) (s : Fraction) (bs : List Blend) (vs : List �
   pub positive : 0 < b
   pub low : b * room (length (only (overSquare x y) bs)) ≤ 16641 ^ 4
   pub rest : t + length (only (overSquare x y) bs) * b ≤ 4 * b
-  pub small : w + length (only (overSquare x y) bs) * 1090567935 ≤ 4 * 1090567935
-
--- a fraction is the same number when nothing is added to it
-plus-zero : (x : Fraction) → plus x (whole 0) ≡ x
-plus-zero x =
-    let n : x .num * 1 + 0 * x .den ≡ x .num = omega arith in
-    let d : x .den * 1 ≡ x .den = omega arith in
-    λ i. record { num = n i; den = d i }
-
--- a fraction added to a mixed number is taken apart by its own denominator
-plus-mixed : (w t b p d : ℕ) → plus (mixed w t b) (record { num = p; den = d }) ≡ mixed (w + p / d) (t * d + p % d * b) (b * d)
-plus-mixed w t b p d =
-    let n : (w * b + t) * d + p * b ≡ (w + p / d) * (b * d) + (t * d + p % d * b) = omega (arith, ap (λ (n : ℕ). n * b) (div-add-mod' p d)) in
-    λ i. record { num = n i; den = b * d }
+  pub small : w + length (only (overSquare x y) bs) * (16641 * 65535) ≤ 4 * (16641 * 65535)
 
 -- a sum over proper blends has a denominator
 pub value-positive : (w h : ℕ) (bs : List Blend) (vs : List ℕ) → all (proper w h) bs ≡ true → (u v : ℕ) → 0 < value (paired bs vs) u v 1 .den
@@ -134,7 +117,7 @@ module _ {x y u v : ℕ} {s : Fraction} where
       count : length (only (overSquare x y) (B ∷ bs)) ≡ suc left
       count = rw o
 
-      product-most : product ≤ 1090567935
+      product-most : product ≤ 16641 * 65535
       product-most = mul-le-mul (numerator-most B ok x y u v e f) most
 
       shares : Equal (times (whole c) (weight B u v 1)) (record { num = product; den = den })
@@ -147,7 +130,7 @@ module _ {x y u v : ℕ} {s : Fraction} where
       rest : t + suc left * b ≤ 4 * b
       rest = rw count at (a .rest)
 
-      small : w + suc left * 1090567935 ≤ 4 * 1090567935
+      small : w + suc left * (16641 * 65535) ≤ 4 * (16641 * 65535)
       small = rw count at (a .small)
 
       pub adding-fits : (0 < den) × (den ≤ 16641) × (w + product < 2 ^ 63) × (b ≤ 16641 ^ 3) × (t ≤ 4 * b)

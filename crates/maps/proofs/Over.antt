@@ -2,22 +2,22 @@
 use Prim.Native.Nat.{ℕ, _+_, _*_, _-_, _<_, _≤_}
 use native.Mathlib.Omega.{arith}
 use native.Mathlib.Nat.{mul-pos, mul-le-mul, mul-one, mul-comm, zero-mul, mul-zero}
-use mathlib.Core.Path.{_≡_, refl, sym, ap, subst, _∙_}
+use mathlib.Core.Path.{_≡_}
 use mathlib.Core.Logic.{_⊎_, inl, inr, ⊎-elim}
 use mathlib.Core.Bool.{true, false}
-use borrow.Author.Tests.{ltb-true, ltb-false, leb-true, leb-false, lt-ltb, le-ltb, le-leb, lt-leb, eqb-true, eqb-false}
+use borrow.Author.Tests.{ltb-true, ltb-false, leb-true, leb-false, le-leb, eqb-true, eqb-false}
 use lib.Dec.{ltb, leb, eqb}
 use lib.ListN.{length, getD}
 use mathlib.Core.List.{List}
-use Rattle.mesh.specs.Triple.{Fraction, hat, spans}
-use Rattle.mesh.specs.Weight.{Equal, times, whole, weight}
+use Rattle.mesh.specs.Triple.{hat, spans}
+use Rattle.mesh.specs.Weight.{Equal, weight}
 use Rattle.mesh.specs.Range.{every, all, only}
 use Rattle.mesh.specs.Sound.{overSquare, proper, blendsOf, none, sound, fourEverywhere, noneNested}
 use Rattle.mesh.specs.declared.Triple.{Triple}
 use Rattle.mesh.specs.declared.Table.{Table}
 use Rattle.mesh.specs.declared.Blend.{Blend}
 use Rattle.mesh.proofs.Tests.{either, and-both, and-fails, every-at, all-at}
-use Rattle.mesh.proofs.Hats.{Rise, hat-den, hat-outside}
+use Rattle.mesh.proofs.Hats.{Rise, hat-outside}
 use Rattle.mesh.proofs.Places.{Rises, ProperIn}
 use Rattle.mesh.proofs.Cutting.{proper-most}
 use Rattle.mesh.proofs.Judging.{left-mem}
@@ -58,10 +58,10 @@ module _ (t : Triple) (x : ℕ) where
   pub share-most : (u : ℕ) → Rises 128 t → End x u → share t x u ≤ 129
   share-most u r e = by-side u (λ s g. s ≤ 129) (λ h. omega arith) (λ h. omega arith)
 
-  -- at an end of a step in the support the hat is the share over the gap
-  pub hat-share : (u : ℕ) → Rise t → End x u → Equal (hat t u 1) (record { num = share t x u; den = gap t x })
+  -- at an end of the step the hat is the share over the gap
+  pub hat-share : (u : ℕ) → End x u → Equal (hat t u 1) (record { num = share t x u; den = gap t x })
   unfolding hat
-  hat-share u r e =
+  hat-share u e =
       by-side u (λ s g. Equal (hat t u 1) (record { num = s; den = g }))
       (λ h. let b : leb u (t .m * 1) ≡ true = le-leb u (t .m * 1) (omega arith) in rw b (simp mul-one))
       (λ h. ⊎-elim
@@ -69,7 +69,7 @@ module _ (t : Triple) (x : ℕ) where
       (λ b. rw b (simp mul-one))
       (either (leb u (t .m * 1))))
 
-  -- at an end of a step outside the support it is 0
+  -- and where the step lies outside the support it is 0
   pub hat-outside-step : (u : ℕ) → Rise t → End x u → spans x t ≡ false → hat t u 1 .num ≡ 0
   hat-outside-step u r e s =
       hat-outside t r u 1 (omega arith) (⊎-elim (λ (h : x < t .l). inl (omega arith)) (λ (h : t .r ≤ x). inr (omega arith)) (not-spans t x s))
@@ -94,7 +94,7 @@ module _ (B : Blend) (ok : ProperIn 128 128 B) (x y : ℕ) where
     weight-shares =
         times-equal (hat (B .across) u 1) (record { num = share (B .across) x u; den = gap (B .across) x })
         (hat (B .up) v 1) (record { num = share (B .up) y v; den = gap (B .up) y })
-        (hat-share (B .across) x u (rise (ok .across)) e) (hat-share (B .up) y v (rise (ok .up)) f)
+        (hat-share (B .across) x u e) (hat-share (B .up) y v f)
 
     pub weight-outside : overSquare x y B ≡ false → weight B u v 1 .num ≡ 0
     weight-outside o =
@@ -103,17 +103,18 @@ module _ (B : Blend) (ok : ProperIn 128 128 B) (x y : ℕ) where
         (λ s. rw (hat-outside-step (B .up) y v (rise (ok .up)) f s) (mul-zero _))
         (and-fails (spans x (B .across)) (spans y (B .up)) o)
 
--- the low corner of a point's square, as knots: the square lies in the domain, and the point is at a corner of it
-module _ (side u : ℕ) (pos : 1 ≤ side) (le : u ≤ side) where
-  pub corner-in : (1 ≤ corner side u + 1) × (corner side u + 1 ≤ side)
-  corner-in =
-      ⊎-elim (λ e. rw e (omega arith, omega (arith, eqb-true u side e)))
-      (λ e. let ne : u ≡ side → ⊥ = eqb-false u side e in rw e (omega arith, omega arith)) (either (eqb u side))
+-- the low corner r of a point's square, as a knot: the square lies in the domain, and the point is at an end of it
+module _ (side u r : ℕ) (pos : 1 ≤ side) (le : u ≤ side) (e : r ≡ corner side u) where
+  corner-cases : ((u ≡ side) × (r ≡ u - 1)) ⊎ ((u < side) × (r ≡ u))
+  corner-cases =
+      ⊎-elim (λ (t : eqb u side ≡ true). inl (eqb-true u side t, rw t at e))
+      (λ (t : eqb u side ≡ false). inr (let ne : u ≡ side → ⊥ = eqb-false u side t in omega arith, rw t at e)) (either (eqb u side))
 
-  pub corner-end : End (corner side u + 1) (u + 1)
-  corner-end =
-      ⊎-elim (λ e. let q = eqb-true u side e in rw e record { from = omega arith; to = omega arith })
-      (λ e. rw e record { from = omega arith; to = omega arith }) (either (eqb u side))
+  pub corner-in : (1 ≤ r + 1) × (r + 1 ≤ side)
+  corner-in = ⊎-elim (λ (t : (u ≡ side) × (r ≡ u - 1)). omega arith) (λ (t : (u < side) × (r ≡ u)). omega arith) corner-cases
+
+  pub corner-end : End (r + 1) (u + 1)
+  corner-end = ⊎-elim (λ (t : (u ≡ side) × (r ≡ u - 1)). omega arith) (λ (t : (u < side) × (r ≡ u)). omega arith) corner-cases
 
 -- exactly four blends of a sound map lie over each square of the domain
 pub four-over : (w h : ℕ) (bs : List Blend) → sound w h bs ≡ true → (x y : ℕ) → 1 ≤ x → x ≤ w → 1 ≤ y → y ≤ h →

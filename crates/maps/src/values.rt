@@ -84,7 +84,7 @@ fn is_over(b: Blend, x: usize, y: usize) -> bool
     spans_at(u, y)
 }
 
-// The weight of a blend over that square, at knots (u, v) of the square: its numerator and its denominator.
+// The numerator of the weight of a blend over that square, at a corner of the square at knots (u, v).
 fn numerator_at(b: Blend, x: usize, y: usize, u: usize, v: usize) -> usize
     requires { ⌜ (proper 128 128 b ≡ true) × (overSquare x y b ≡ true) × (x ≤ u) × (u ≤ x + 1) × (y ≤ v) × (v ≤ y + 1) ⌝ }
     ensures { λ r. ⌜ r ≡ share (b .across) x u * share (b .up) y v ⌝ }
@@ -94,6 +94,7 @@ fn numerator_at(b: Blend, x: usize, y: usize, u: usize, v: usize) -> usize
     share_at(a, x, u) * share_at(c, y, v)
 }
 
+// The denominator of that weight: the product of the two gaps in which the square lies.
 fn denominator_at(b: Blend, x: usize, y: usize) -> usize
     requires { ⌜ proper 128 128 b ≡ true ⌝ }
     ensures { λ r. ⌜ r ≡ gap (b .across) x * gap (b .up) y ⌝ }

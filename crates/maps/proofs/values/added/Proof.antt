@@ -1,7 +1,7 @@
 -- `maps::values::added` meets its contract.
 use borrow.Author.Needs.{needs}
 use native.Mathlib.Omega.{arith}
-use native.Mathlib.Nat.{div-le-self, mod-lt, mul-le-mul, le-of-lt}
+use native.Mathlib.Nat.{div-le-self, mod-lt, mul-le-mul}
 use Prim.Native.Nat.{_*_, _%_, _^_, _≤_}
 use Rattle.maps.proofs.values.added.Statement.{statement}
 use Rattle.maps.proofs.values.added.Tie as tie

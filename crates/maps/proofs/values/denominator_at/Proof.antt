@@ -1,6 +1,5 @@
 -- `maps::values::denominator_at` meets its contract.
 use native.Mathlib.Omega.{arith}
-use mathlib.Core.Path.{_≡_}
 use Rattle.mesh.proofs.Places.{ProperIn, proper-facts}
 use Rattle.maps.proofs.Over.{denominator-most}
 use Rattle.maps.proofs.values.denominator_at.Statement.{statement}

@@ -1,9 +1,7 @@
 -- `maps::values::is_over` meets its contract.
 use borrow.Author.Needs.{needs}
 use borrow.Author.Tests.{not-true, not-false}
-use mathlib.Core.Path.{_≡_, sym, _∙_}
-use mathlib.Core.Bool.{true, false}
-use Rattle.mesh.specs.Triple.{spans}
+use mathlib.Core.Path.{sym, _∙_}
 use Rattle.maps.proofs.values.is_over.Statement.{statement}
 use Rattle.maps.proofs.values.is_over.Tie as tie
 

@@ -1,9 +1,8 @@
 -- `maps::values::numerator_at` meets its contract.
 use native.Mathlib.Omega.{arith}
-use mathlib.Core.Path.{_≡_}
 use Rattle.mesh.specs.Triple.{spans}
 use Rattle.mesh.proofs.Tests.{and-both}
-use Rattle.mesh.proofs.Places.{ProperIn, proper-facts}
+use Rattle.mesh.proofs.Places.{proper-facts}
 use Rattle.maps.proofs.Over.{Spans, spans-facts, numerator-most}
 use Rattle.maps.proofs.values.numerator_at.Statement.{statement}
 use Rattle.maps.proofs.values.numerator_at.Tie as tie

@@ -1,9 +1,8 @@
 -- `maps::values::place_of` meets its contract. The invariant: the places passed, and the place among the blends that remain, make the whole place.
 use native.Mathlib.Omega.{arith}
-use Prim.Native.Nat.{ℕ, _≤_, _+_, _-_}
+use Prim.Native.Nat.{_≤_, _+_, _-_}
 use borrow.Author.Needs.{needs}
-use borrow.Author.Tests.{not-true, not-false}
-use mathlib.Core.Path.{_≡_, refl, sym, ap, _∙_}
+use mathlib.Core.Path.{_≡_, sym, _∙_}
 use mathlib.Core.Bool.{true, false, cond}
 use lib.ListN.{drop, getD, length, length-map}
 use Rattle.mesh.specs.Blends.{anchored}

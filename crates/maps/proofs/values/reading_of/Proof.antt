@@ -1,18 +1,17 @@
 -- `maps::values::reading_of` meets its contract. The invariant: what is added, with the blends that remain, makes the exact sum.
 use borrow.Author.Needs.{needs}
 use native.Mathlib.Omega.{arith}
-use native.Mathlib.Nat.{div-le-self}
 use Prim.Native.Nat.{_+_, _-_, _≤_}
-use mathlib.Core.Path.{_≡_, refl, sym, ap, _∙_}
+use mathlib.Core.Path.{_≡_, refl, sym, _∙_}
 use mathlib.Core.Logic.{⊎-elim}
-use mathlib.Core.Bool.{true, false}
+use mathlib.Core.Bool.{true}
 use mathlib.Core.List.{_∷_}
 use lib.ListN.{take, drop, getD, length, length-map}
 use Rattle.mesh.specs.Weight.{value}
-use Rattle.mesh.specs.Sound.{blendsOf, none, proper, overSquare}
-use Rattle.mesh.proofs.Places.{ProperIn, proper-facts}
+use Rattle.mesh.specs.Sound.{blendsOf, none, proper}
+use Rattle.mesh.proofs.Places.{proper-facts}
 use Rattle.mesh.proofs.Judging.{left-turn, left-none}
-use Rattle.maps.specs.Values.{paired, readingAt, corner}
+use Rattle.maps.specs.Values.{paired, readingAt}
 use Rattle.maps.proofs.Over.{End, corner-in, corner-end, four-over, proper-at}
 use Rattle.maps.proofs.Adding.{Adding, adding-none, adding-all, adding-small, adding-outside, adding-fits, adding-over, value-positive}
 use Rattle.maps.proofs.values.reading_of.Statement.{statement}
@@ -37,7 +36,7 @@ ends : (c : tie.After-corner-of2 Inv-loop μ-loop) →
 ends c =
     let a = c .before .before .args in
     let p = c .before .before .pre in
-    (rw (c .before .corner-of .ensures) (corner-end (a .w) (a .u) (p .3) (p .7)), rw (c .corner-of2 .ensures) (corner-end (a .h) (a .v) (p .5) (p .8)))
+    (corner-end (a .w) (a .u) _ (p .3) (p .7) (c .before .corner-of .ensures), corner-end (a .h) (a .v) _ (p .5) (p .8) (c .corner-of2 .ensures))
 
 -- in a turn, the next blend, which is proper, and its value remain with those behind them
 next : (c : tie.In-loop Inv-loop μ-loop) →
@@ -71,7 +70,7 @@ add-x : tie.Need-add-x Inv-loop μ-loop
 add-x c =
     let a = c .before .args in
     let p = c .before .pre in
-    omega (arith, ap (λ n. n + 1) (c .corner-of .ensures), corner-in (a .w) (a .u) (p .3) (p .7))
+    omega (arith, corner-in (a .w) (a .u) (c .corner-of .result) (p .3) (p .7) (c .corner-of .ensures))
 
 corner-of-requires-2 : tie.Need-corner-of-requires-2 Inv-loop μ-loop
 corner-of-requires-2 c κs = c .before .pre .5
@@ -80,16 +79,16 @@ add-y : tie.Need-add-y Inv-loop μ-loop
 add-y c =
     let a = c .before .before .args in
     let p = c .before .before .pre in
-    omega (arith, ap (λ n. n + 1) (c .corner-of2 .ensures), corner-in (a .h) (a .v) (p .5) (p .8))
+    omega (arith, corner-in (a .h) (a .v) (c .corner-of2 .result) (p .5) (p .8) (c .corner-of2 .ensures))
 
 loop-holds : tie.Need-loop-holds Inv-loop μ-loop
 loop-holds c =
     let a = c .before .before .args in
     let p = c .before .before .pre in
-    let i = corner-in (a .w) (a .u) (p .3) (p .7) in
-    let j = corner-in (a .h) (a .v) (p .5) (p .8) in
-    let four = four-over (a .w) (a .h) (blendsOf (a .t1)) (p .2) (corner (a .w) (a .u) + 1) (corner (a .h) (a .v) + 1) (i .0) (i .1) (j .0) (j .1) in
-    (omega arith, adding-none (blendsOf (a .t1)) (take (a .t1 .count) (a .t2)) refl (rw (c .before .corner-of .ensures, c .corner-of2 .ensures) four))
+    let i = corner-in (a .w) (a .u) _ (p .3) (p .7) (c .before .corner-of .ensures) in
+    let j = corner-in (a .h) (a .v) _ (p .5) (p .8) (c .corner-of2 .ensures) in
+    let four = four-over (a .w) (a .h) (blendsOf (a .t1)) (p .2) _ _ (i .0) (i .1) (j .0) (j .1) in
+    (omega arith, adding-none (blendsOf (a .t1)) (take (a .t1 .count) (a .t2)) refl four)
 
 mul-b : tie.Need-mul-b Inv-loop μ-loop
 mul-b c = omega arith
@@ -151,17 +150,17 @@ loop-less c = omega arith
 loop-again : tie.Need-loop-again Inv-loop μ-loop
 loop-again c =
     let i = c .before .before .before in
-    let e = ends (i .before .before) in
-    let ok = proper-facts 128 128 _ (next i) in
-    (
+    let e = ends (i .before .before) in (
       omega arith,
       ⊎-elim
           (λ t.
           let o = sym (c .before .is-over .ensures) ∙ t .0 .taken in
           let v = t .1 .ensures in
           rw (t .5, t .4 .ensures .0, t .4 .ensures .1, t .4 .ensures .2, t .3 .ensures, t .2 .ensures, v .0)
-          (adding-over (turn i) ok (e .0) (e .1) (rw (v .0) at (v .1)) o))
-          (λ t. rw (t .1) (adding-outside (turn i) ok (e .0) (e .1) (sym (c .before .is-over .ensures) ∙ t .0 .left)))
+          (adding-over (turn i) (proper-facts 128 128 _ (next i)) (e .0) (e .1) (rw (v .0) at (v .1)) o))
+          (λ t.
+          rw (t .1)
+          (adding-outside (turn i) (proper-facts 128 128 _ (next i)) (e .0) (e .1) (sym (c .before .is-over .ensures) ∙ t .0 .left)))
           (c .if1 .came),
     )
 

@@ -1,11 +1,12 @@
+-- `maps::values::weights_of` meets its contract. The invariant: the entries stored, with those of the blends that remain, are the whole list.
 use borrow.Author.Needs.{needs}
 use native.Mathlib.Omega.{arith}
 use Prim.Native.Nat.{ℕ, _+_, _-_, _≤_, _<_}
-use mathlib.Core.Path.{_≡_, refl, sym, ap, _∙_}
+use mathlib.Core.Path.{_≡_, refl, sym, _∙_}
 use mathlib.Core.Logic.{⊎-elim}
-use mathlib.Core.Bool.{true, false}
+use mathlib.Core.Bool.{true}
 use mathlib.Core.List.{List, _∷_, map}
-use lib.ListN.{take, drop, getD, length, length-map}
+use lib.ListN.{drop, getD, length, length-map}
 use Rattle.mesh.specs.Range.{only}
 use Rattle.mesh.specs.Sound.{blendsOf, none, proper, overSquare}
 use Rattle.mesh.specs.declared.Blend.{Blend}
@@ -17,13 +18,6 @@ use Rattle.maps.proofs.Over.{End, corner-in, corner-end, four-over, pro
 use Rattle.maps.proofs.Filling.{Filling, filling-none, filling-room, filling-more, filling-all}
 use Rattle.maps.proofs.values.weights_of.Statement.{statement}
 use Rattle.maps.proofs.values.weights_of.Tie as tie
-use Rattle.maps.proofs.values.weights_of.Reads as reads
-use Rattle.maps.proofs.values.weights_of.Lts as lts
-use Rattle.maps.proofs.values.corner_of.Reads as corner-of-reads
-use Rattle.maps.proofs.values.denominator_at.Reads as denominator-at-reads
-use Rattle.maps.proofs.values.is_over.Reads as is-over-reads
-use Rattle.maps.proofs.values.numerator_at.Reads as numerator-at-reads
-use Rattle.maps.proofs.values.shape_of.Reads as shape-of-reads
 
 -- the entries of those of some blends that lie over the square
 abbrev weighed : ℕ → ℕ → ℕ → ℕ → List Blend → List Weight
@@ -41,9 +35,9 @@ four : (c : tie.Start Inv-loop μ-loop) → let a = c .args in length (weighed (
 four c =
     let a = c .args in
     let p = c .pre in
-    let i = corner-in (a .w) (a .u) (p .3) (p .7) in
-    let j = corner-in (a .h) (a .v) (p .5) (p .8) in
-    simp length-map (four-over (a .w) (a .h) (blendsOf (a .t1)) (p .2) (corner (a .w) (a .u) + 1) (corner (a .h) (a .v) + 1) (i .0) (i .1) (j .0) (j .1))
+    let i = corner-in (a .w) (a .u) _ (p .3) (p .7) refl in
+    let j = corner-in (a .h) (a .v) _ (p .5) (p .8) refl in
+    simp length-map (four-over (a .w) (a .h) (blendsOf (a .t1)) (p .2) _ _ (i .0) (i .1) (j .0) (j .1))
 
 full : (c : tie.Start Inv-loop μ-loop) → length (c .args .t1 .blends) ≡ 1024
 full c = simp length-map at (c .good .0 .1 .1 .1 .0 .1 .0 .1)
@@ -55,7 +49,7 @@ ends : (c : tie.After-corner-of2 Inv-loop μ-loop) →
 ends c =
     let a = c .before .before .args in
     let p = c .before .before .pre in
-    (rw (c .before .corner-of .ensures) (corner-end (a .w) (a .u) (p .3) (p .7)), rw (c .corner-of2 .ensures) (corner-end (a .h) (a .v) (p .5) (p .8)))
+    (corner-end (a .w) (a .u) _ (p .3) (p .7) (c .before .corner-of .ensures), corner-end (a .h) (a .v) _ (p .5) (p .8) (c .corner-of2 .ensures))
 
 -- in a turn, the next blend, which is proper, remains with those behind it
 next : (c : tie.In-loop Inv-loop μ-loop) →
@@ -97,90 +91,71 @@ entry c = rw (sym (over (c .before)) ∙ c .if1 .taken) at (turn (c .before .bef
 place : (c : tie.Then1 Inv-loop μ-loop) → c .before .before .before .before .loop .found < 4
 place c = omega (arith, filling-room (entry c), four (c .before .before .before .before .before .before .before))
 
--- src/values.rt:210:13
 corner-of-requires : tie.Need-corner-of-requires Inv-loop μ-loop
 corner-of-requires c κs = c .pre .3
 
--- src/values.rt:210:13
 add-x : tie.Need-add-x Inv-loop μ-loop
 add-x c =
     let a = c .before .args in
     let p = c .before .pre in
-    omega (arith, ap (λ n. n + 1) (c .corner-of .ensures), corner-in (a .w) (a .u) (p .3) (p .7))
+    omega (arith, corner-in (a .w) (a .u) (c .corner-of .result) (p .3) (p .7) (c .corner-of .ensures))
 
--- src/values.rt:211:13
 corner-of-requires-2 : tie.Need-corner-of-requires-2 Inv-loop μ-loop
 corner-of-requires-2 c κs = c .before .pre .5
 
--- src/values.rt:211:13
 add-y : tie.Need-add-y Inv-loop μ-loop
 add-y c =
     let a = c .before .before .args in
     let p = c .before .before .pre in
-    omega (arith, ap (λ n. n + 1) (c .corner-of2 .ensures), corner-in (a .h) (a .v) (p .5) (p .8))
+    omega (arith, corner-in (a .h) (a .v) (c .corner-of2 .result) (p .5) (p .8) (c .corner-of2 .ensures))
 
--- src/values.rt:228:5
 loop-holds : tie.Need-loop-holds Inv-loop μ-loop
 loop-holds c =
     let a = c .before .before .args in
     (omega arith, rw (four (c .before .before)) at (filling-none (weighed (a .w) (a .h) (a .u) (a .v) (blendsOf (a .t1))) noWeight))
 
--- src/values.rt:229:17
 mul-b : tie.Need-mul-b Inv-loop μ-loop
 mul-b c = omega arith
 
--- src/values.rt:229:17
 element-copy-out-b : tie.Need-element-copy-out-b Inv-loop μ-loop
 element-copy-out-b c = omega arith
 
--- src/values.rt:230:12
 is-over-requires : tie.Need-is-over-requires Inv-loop μ-loop
 is-over-requires c κs = search needs
 
--- src/values.rt:232:24
 shape-of-requires : tie.Need-shape-of-requires Inv-loop μ-loop
 shape-of-requires c κs = next (c .before .before .before)
 
--- src/values.rt:233:50
 add-numerator-at : tie.Need-add-numerator-at Inv-loop μ-loop
 add-numerator-at c = omega arith
 
--- src/values.rt:233:57
 add-numerator-at-2 : tie.Need-add-numerator-at-2 Inv-loop μ-loop
 add-numerator-at-2 c = omega arith
 
--- src/values.rt:233:28
 numerator-at-requires : tie.Need-numerator-at-requires Inv-loop μ-loop
 numerator-at-requires c κs =
     let i = c .before .before .before .before in
     let e = ends (i .before .before) in
     (next i, sym (c .before .before .is-over .ensures) ∙ c .before .if1 .taken, e .0 .from, e .0 .to, e .1 .from, e .1 .to)
 
--- src/values.rt:234:30
 denominator-at-requires : tie.Need-denominator-at-requires Inv-loop μ-loop
 denominator-at-requires c κs = next (c .before .before .before .before .before)
 
--- src/values.rt:231:13
 mul-entries : tie.Need-mul-entries Inv-loop μ-loop
 mul-entries c = omega (arith, place (c .before .before .before))
 
--- src/values.rt:231:13
 array-set-from-entries : tie.Need-array-set-from-entries Inv-loop μ-loop
 array-set-from-entries c = place (c .before .before .before)
 
--- src/values.rt:236:13
 add-found : tie.Need-add-found Inv-loop μ-loop
 add-found c = omega (arith, place (c .before .before .before))
 
--- src/values.rt:238:9
 add-i : tie.Need-add-i Inv-loop μ-loop
 add-i c = omega arith
 
--- src/values.rt:228:5
 loop-less : tie.Need-loop-less Inv-loop μ-loop
 loop-less c = omega arith
 
--- src/values.rt:228:5
 loop-again : tie.Need-loop-again Inv-loop μ-loop
 unfolding weightAt
 loop-again c = (
@@ -194,7 +169,6 @@ loop-again c = (
       (c .if1 .came),
 )
 
--- src/values.rt:205:1
 returns : tie.Need-returns Inv-loop μ-loop
 returns c =
     let s = c .before .before .before .before in
