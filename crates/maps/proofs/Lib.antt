@@ -1,2 +1,6 @@
 pub mod Exact
 pub mod Readings
+pub mod Sums
+pub mod Over
+pub mod Adding
+pub mod Filling
