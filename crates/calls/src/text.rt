@@ -1,7 +1,8 @@
-// The text of calls: words and numbers parted by single blanks.
+// The text of calls: a word, then numbers, each behind one blank.
+ghost use Prim.Native.Nat.{_<_};
 
-// Up to four numbers of a line; not `whole` where the line holds anything else.
-pub struct Numbers {
+// The last four numbers of a line, the last in d; not `whole` where the line holds anything else.
+pub struct Four {
     pub whole: bool,
     pub a: usize,
     pub b: usize,
@@ -9,8 +10,8 @@ pub struct Numbers {
     pub d: usize,
 }
 
-// A number and the place after it; none where there is no digit or more than nine.
-pub struct Number {
+// A number and the place after it; none where no digit stands there, or too many.
+pub struct Found {
     pub some: bool,
     pub value: usize,
     pub next: usize,
@@ -31,48 +32,53 @@ pub fn begins(line: &[u8], word: &[u8]) -> bool {
     true
 }
 
-// The number after a blank at a place.
-pub fn number(line: &[u8], at: usize) -> Number {
-    let mut value: usize = 0;
-    let mut digits: usize = 0;
+// The number behind a blank at a place, below ten to the ninth.
+pub fn number(line: &[u8], at: usize) -> Found {
+    let none = Found {
+        some: false,
+        value: 0,
+        next: 0,
+    };
     if line.len() <= at {
-        return Number {
-            some: false,
-            value: 0,
-            next: at,
-        };
+        return none;
     }
     if line[at] != b' ' {
-        return Number {
-            some: false,
-            value: 0,
-            next: at,
-        };
+        return none;
     }
-    let mut i = at + 1;
-    while i < line.len() && digits < 10 {
+    let first = at + 1;
+    let mut value: usize = 0;
+    let mut i = first;
+    while i < line.len() {
         let c = line[i];
-        if c < b'0' || b'9' < c {
+        if c < b'0' {
             break;
         }
+        if b'9' < c {
+            break;
+        }
+        if 99999999 < value {
+            return none;
+        }
         value = value * 10 + digit(c);
-        digits += 1;
         i += 1;
     }
-    Number {
-        some: 0 < digits && digits < 10,
+    Found {
+        some: first < i,
         value: value,
         next: i,
     }
 }
 
-fn digit(c: u8) -> usize {
-    ((c - b'0') % 10) as usize
+// What a digit's byte counts.
+fn digit(c: u8) -> usize
+    ensures { λ r. ⌜ r < 16 ⌝ }
+{
+    (c % 16) as usize
 }
 
-// Exactly `count` numbers from a place to the line's end.
-pub fn numbers(line: &[u8], at: usize, count: usize) -> Numbers {
-    let mut found = Numbers {
+// Exactly `count` numbers, at most four, from a place to the line's end.
+pub fn numbers(line: &[u8], at: usize, count: usize) -> Four {
+    let mut found = Four {
         whole: false,
         a: 0,
         b: 0,
@@ -81,24 +87,16 @@ pub fn numbers(line: &[u8], at: usize, count: usize) -> Numbers {
     };
     let mut next = at;
     let mut i = 0;
-    while i < count && i < 4 {
+    while i < count {
         let n = number(line, next);
         if !n.some {
             return found;
         }
         next = n.next;
-        if i == 0 {
-            found.a = n.value;
-        }
-        if i == 1 {
-            found.b = n.value;
-        }
-        if i == 2 {
-            found.c = n.value;
-        }
-        if i == 3 {
-            found.d = n.value;
-        }
+        found.a = found.b;
+        found.b = found.c;
+        found.c = found.d;
+        found.d = n.value;
         i += 1;
     }
     found.whole = next == line.len();
