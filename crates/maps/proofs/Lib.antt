@@ -1,3 +1,4 @@
 pub mod Exact
 pub mod Readings
 pub mod InHand
+pub mod Longer
