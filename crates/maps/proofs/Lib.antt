@@ -1,6 +1,8 @@
+pub mod Adding
 pub mod Exact
+pub mod Filling
+pub mod InHand
+pub mod Longer
+pub mod Over
 pub mod Readings
 pub mod Sums
-pub mod Over
-pub mod Adding
-pub mod Filling
