@@ -1,3 +1,4 @@
 pub mod Exact
+pub mod InHand
 pub mod Readings
 pub mod Replay
