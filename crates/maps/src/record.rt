@@ -1,5 +1,6 @@
 // The record of a map: its splits replayed in order as exact splits. Every call on a map starts here, once.
 use crate::Map;
+use crate::allowed_side;
 use crate::splits::exact_step;
 use crate::splits::with_split;
 use mesh::Blend;
@@ -109,15 +110,18 @@ pub(crate) fn open(map: Map) -> Opened
         good: false,
         table: no_table(),
     };
-    let mut lines = no_lines(map.w, map.h);
-    let first = live(lines);
-    if !first.sound {
+    if !allowed_side(map.w) {
+        return refused;
+    }
+    if !allowed_side(map.h) {
         return refused;
     }
     let count = map.count;
     if 60 < count {
         return refused;
     }
+    let mut lines = no_lines(map.w, map.h);
+    let first = live(lines);
     let mut table = first.table;
     let mut i = 0;
     while i < count {

@@ -1,18 +1,14 @@
 -- `maps::record::no_values_from` meets its contract. The invariant: the values from `i` on decide the whole answer.
-use Prim.Native.Nat.{ℕ, _+_, _-_}
+use Prim.Native.Nat.{_+_, _-_}
 use mathlib.Core.Path.{_≡_, refl, sym, _∙_}
-use lib.Dec.{eqb}
 use lib.ListN.{drop, getD, length}
 use Rattle.mesh.specs.Range.{all}
-use Rattle.maps.proofs.Replay.{rest-turn, rest-none}
+use Rattle.maps.proofs.Replay.{isZero, rest-turn, rest-none}
 use borrow.Author.Tests.{eq-eqb, ne-eqb}
-use mathlib.Core.Bool.{Bool, _&&_}
+use mathlib.Core.Bool.{_&&_}
 use native.Mathlib.Omega.{arith}
 use Rattle.maps.proofs.record.no_values_from.Statement.{statement}
 use Rattle.maps.proofs.record.no_values_from.Tie as tie
-
-abbrev isZero : ℕ → Bool
-isZero v = eqb v 0
 
 abbrev Inv-loop : tie.InvT-loop
 Inv-loop from values i₀ i = all isZero (drop from values) ≡ all isZero (drop i values)
