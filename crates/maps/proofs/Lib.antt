@@ -1,4 +1,5 @@
 pub mod Exact
+pub mod Good
 pub mod InHand
 pub mod Readings
 pub mod Replay
