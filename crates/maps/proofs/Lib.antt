@@ -1,8 +1,10 @@
 pub mod Adding
 pub mod Exact
 pub mod Filling
+pub mod Good
 pub mod InHand
 pub mod Longer
 pub mod Over
 pub mod Readings
+pub mod Replay
 pub mod Sums
