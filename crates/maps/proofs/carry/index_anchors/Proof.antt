@@ -1,7 +1,7 @@
 -- `maps::carry::index_anchors` meets its contract. The invariant: the blends that remain, noted in the index as it is, give the whole index.
 use Prim.Native.Nat.{_+_, _-_, _≤_, _<_}
 use native.Mathlib.Omega.{arith}
-use mathlib.Core.Path.{_≡_, refl, _∙_}
+use mathlib.Core.Path.{_≡_, refl}
 use mathlib.Core.Bool.{true}
 use mathlib.Core.List.{_∷_}
 use lib.ListN.{drop, getD, length, length-map, length-set}
