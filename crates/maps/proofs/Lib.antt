@@ -1,3 +1,7 @@
 pub mod Exact
 pub mod Readings
+pub mod Sums
+pub mod Over
+pub mod Adding
+pub mod Filling
 pub mod Index
