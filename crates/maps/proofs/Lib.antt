@@ -4,4 +4,5 @@ pub mod Sums
 pub mod Over
 pub mod Adding
 pub mod Filling
+pub mod InHand
 pub mod Index
