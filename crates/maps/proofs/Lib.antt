@@ -5,4 +5,5 @@ pub mod Over
 pub mod Adding
 pub mod Filling
 pub mod InHand
+pub mod Replay
 pub mod Index
