@@ -10,7 +10,7 @@ use mathlib.Core.List.List·Memᴰ.{List·Memᴰ·head, List·Memᴰ·tail}
 use borrow.Author.Tests.{ltb-true, ltb-false, eq-eqb}
 use lib.Dec.{ltb}
 use lib.ListN.{length, getD, set, take, replicate, length-set, length-map, length-replicate, getD-replicate}
-use lib.Seq.{getD-set-same, getD-set-other, getD-take, take-append-seam, take-length, take-suc, length-take-le, set-at}
+use lib.Seq.{getD-set-same, getD-set-other, getD-take, take-length, take-suc, length-take-le, set-at}
 use Rattle.mesh.specs.declared.Blend.{Blend}
 use Rattle.mesh.specs.declared.Table.{Table}
 use Rattle.mesh.specs.Blends.{anchored}
@@ -29,6 +29,7 @@ use Rattle.maps.specs.Plain.{Plain, meshOf, blends}
 use Rattle.maps.specs.Inner.{anchorIndex, InTable}
 use Rattle.maps.proofs.Exact.{entry, placed}
 use Rattle.maps.proofs.Readings.{Valued, place-found}
+use Rattle.maps.proofs.InHand.{table-blends, table-count}
 
 -- anchors on knots, where each has a place of its own in the index
 pub record OnKnots (B : Blend) : Type 0 where
@@ -129,19 +130,13 @@ module _ (index : List ℕ) (bs : List Blend) (noted : Indexed index bs) (B : Bl
       (λ e. absurd (some (noted-absent e)))
       (either is-old)
 
--- a table holds its blends in front
-pub table-blends : (bs : List Blend) → blendsOf (table bs) ≡ bs
-unfolding table
-table-blends bs = take-append-seam bs (replicate (1024 - length bs) none)
-
 of-proper : (P : Plain) (w h : ℕ) → P .w ≡ w → P .h ≡ h → 1 ≤ w → 1 ≤ h → AllProper w h (blends P)
 of-proper P w h e f hw hh = rw (← e, ← f) (live-proper (P .w) (P .h) (omega arith) (omega arith) (meshOf P))
 
 -- The old map of a split, as a table and an array of values.
 module _ {w h : ℕ} {t : Table} {values : List ℕ} (old : InTable w h t values) where
   count-of : t .count ≡ length (blends (old .of))
-  unfolding table
-  count-of = ap (λ (t : Table). t .count) (old .is-table)
+  count-of = ap (λ (t : Table). t .count) (old .is-table) ∙ table-count (blends (old .of))
 
   pub count-most : t .count ≤ 1024
   count-most = rw count-of (old .is-short)
