@@ -7,3 +7,4 @@ pub mod Filling
 pub mod InHand
 pub mod Replay
 pub mod Index
+pub mod Recording
