@@ -8,3 +8,4 @@ pub mod InHand
 pub mod Replay
 pub mod Index
 pub mod Recording
+pub mod Longer
