@@ -5,7 +5,8 @@ pub mod Over
 pub mod Adding
 pub mod Filling
 pub mod InHand
+pub mod Longer
 pub mod Replay
+pub mod Good
 pub mod Index
 pub mod Recording
-pub mod Longer

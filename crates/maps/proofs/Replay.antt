@@ -3,6 +3,7 @@ use Prim.Native.Nat.{ℕ, _+_, _≤_, _<_}
 use native.Mathlib.Omega.{arith}
 use native.Mathlib.Numerals.{add-one}
 use mathlib.Core.Path.{_≡_, refl, sym, ap, _∙_}
+use mathlib.Core.Logic.{⊎-elim}
 use mathlib.Core.Bool.{Bool, true, false, _&&_}
 use mathlib.Core.List.{List, []}
 use borrow.Author.Tests.{leb-true, le-leb, eq-eqb, ne-eqb}
@@ -15,10 +16,11 @@ use Rattle.mesh.specs.Range.{all}
 use Rattle.mesh.specs.Lines.{allowedSide}
 use Rattle.mesh.specs.Blends.{live, firstFour}
 use Rattle.mesh.specs.Sound.{table, answer, proper, refined, liveTable}
-use Rattle.mesh.proofs.Tests.{true-not-false, false-of, and-both, and-of, all-of, cond-true, cond-false}
+use Rattle.mesh.proofs.Tests.{either, true-not-false, false-of, and-both, and-of, all-of, cond-true, cond-false}
 use Rattle.mesh.proofs.Drawing.{left-turn, left-none}
 use Rattle.mesh.proofs.Fresh.{first-proper, fresh-live, fresh-sound}
 use Rattle.maps.specs.declared.Map.{Map}
+use Rattle.maps.specs.declared.record.Opened.{Opened}
 use Rattle.maps.specs.declared.splits.Step.{Step}
 use Rattle.maps.specs.Plain.{Plain, blends}
 use Rattle.maps.specs.Splits.{exactNumber, withLine}
@@ -83,6 +85,13 @@ module _ (m : Map) where
   pub is-opened : Passes m → opened m ≡ record { good = true; table = table (blends (bare m)) }
   unfolding opened
   is-opened p = cond-true _ _ _ (passes-good p)
+
+  pub opened-good : opened m .good ≡ good m
+  unfolding opened
+  opened-good = ⊎-elim (λ e. rw e) (λ e. rw e) (either (good m))
+
+  pub opened-table : good m ≡ true → opened m .table ≡ table (blends (bare m))
+  opened-table e = ap (λ (o : Opened). o .table) (is-opened (good-passes e))
 
 -- the blends of a fresh map, cut anew, are the first four
 pub live-fresh : (w h : ℕ) → allowedSide w ≡ true → allowedSide h ≡ true →
