@@ -1,16 +1,15 @@
 -- A good record, opened: what it holds, and what a call on it leaves.
-use Prim.Native.Nat.{ℕ, zero, suc, _+_, _-_, _≤_, _<_}
+use Prim.Native.Nat.{ℕ, suc, _+_, _-_, _≤_, _<_}
 use native.Mathlib.Omega.{arith}
-use native.Mathlib.Numerals.{add-one}
 use mathlib.Core.Path.{_≡_, refl, sym, ap, _∙_}
 use mathlib.Core.Logic.{⊎-elim}
-use mathlib.Core.Bool.{Bool, true, false, cond, not, _&&_}
+use mathlib.Core.Bool.{true, false, not, _&&_}
 use mathlib.Core.List.{List, [], _∷_, _++_, map, append-assoc, List·Memᴰ, Memᴰ·append-left}
 use mathlib.Core.List.List·Memᴰ.{List·Memᴰ·head}
 use borrow.Author.Tests.{eq-eqb, leb-true, not-false, ltb-true, ltb-false, le-ltb, lt-ltb}
-use lib.Dec.{eqb, ltb, leb}
+use lib.Dec.{ltb, leb}
 use lib.ListN.{length, getD, set, take, drop, take-append-drop, replicate, length-append, length-map, length-set}
-use lib.Seq.{getD-take, set-append-seam, set-append-left, length-take-le}
+use lib.Seq.{getD-take, set-append-seam, set-append-left}
 use Rattle.mesh.specs.declared.Split.{Split}
 use Rattle.mesh.specs.declared.Lines.{Lines}
 use Rattle.mesh.specs.declared.Table.{Table}
@@ -21,7 +20,7 @@ use Rattle.mesh.proofs.SoundMaps.{live-proper}
 use Rattle.mesh.proofs.Places.{proper-facts}
 use Rattle.mesh.proofs.Cutting.{proper-most}
 use Rattle.mesh.proofs.AtMost.{at-most}
-use Rattle.mesh.proofs.Tests.{only-mem, all-of, all-at, either, and-both, false-of, true-not-false, cond-true, cond-false}
+use Rattle.mesh.proofs.Tests.{only-mem, all-of, all-at, either, and-both, true-not-false, cond-true, cond-false}
 use Rattle.maps.specs.declared.Map.{Map}
 use Rattle.maps.specs.declared.splits.Step.{Step}
 use Rattle.maps.specs.declared.splits.Found.{Found}
@@ -34,13 +33,9 @@ use Rattle.maps.specs.Calls.{changed, drawnFirst, setPlain, setValue}
 use Rattle.maps.specs.Inner.{linesOf, held, InHand, InTable, opened, stepped, found, carriedArray}
 use Rattle.maps.proofs.Exact.{entry}
 use Rattle.maps.proofs.Readings.{place-found}
+use Rattle.maps.proofs.Replay.{opened-good, opened-table}
+use Rattle.maps.proofs.Good.{GoodFacts, good-facts}
 use Rattle.maps.proofs.InHand.{hand-sides, hand-few, hand-length, hand-count, hand-blends, hand-proper, table-count, table-blends, given-says, exact-says}
-
-good-hand : (m : Map) → length (m .splits) ≡ 60 → good m ≡ true → InHand (linesOf m) (table (blends (bare m)))
-good-hand = ?
-
-good-record : (m : Map) → length (m .splits) ≡ 60 → length (m .values) ≡ 1024 → good m ≡ true → recordOf (plain m) ≡ m
-good-record = ?
 
 -- a list padded to a length: with one entry more, and with one of its entries set
 module _ {A : Type 0} (xs : List A) (n : ℕ) (d x : A) where
@@ -87,32 +82,28 @@ module _ (P : Plain) where
 -- a good record, and the table of its live blends
 pub record GoodMap (m : Map) (t : Table) : Type 0 where
   pub is-good : good m ≡ true
+  pub facts : GoodFacts m
   pub hand : InHand (linesOf m) t
-  pub full : length (m .values) ≡ 1024
-  pub again : recordOf (plain m) ≡ m
 
 pub good-map : (m : Map) (t : Table) → length (m .splits) ≡ 60 → length (m .values) ≡ 1024 → good m ≡ true → t ≡ table (blends (plain m)) →
     GoodMap m t
-unfolding plain
-good-map m t places full y e =
-    record { is-good = y; hand = rw e (good-hand m places y); full = full; again = good-record m places full y }
+good-map m t places room y e =
+    let f = good-facts m places room y in
+    record { is-good = y; facts = f; hand = rw (e, f .same-blends) (f .hand) }
 
 -- What opening a record says of it.
 module _ (m : Map) (o : Opened) (e : o ≡ opened m) where
-  opened-same : o .good ≡ good m
-  unfolding opened
-  opened-same =
-      ⊎-elim (λ y. ap (λ (r : Opened). r .good) (e ∙ cond-true _ _ _ y) ∙ sym y) (λ n. ap (λ (r : Opened). r .good) (e ∙ cond-false _ _ _ n) ∙ sym n)
-      (either (good m))
+  same-test : o .good ≡ good m
+  same-test = ap (λ (r : Opened). r .good) e ∙ opened-good m
 
-  pub opened-not : not (o .good) ≡ true → not (good m) ≡ true
-  opened-not n = ap not (sym opened-same) ∙ n
+  pub not-good : not (o .good) ≡ true → not (good m) ≡ true
+  not-good n = ap not (sym same-test) ∙ n
 
-  pub opened-good : length (m .splits) ≡ 60 → length (m .values) ≡ 1024 → not (o .good) ≡ false → GoodMap m (o .table)
-  unfolding opened plain
-  opened-good places full n =
-      let y : good m ≡ true = sym opened-same ∙ not-false (o .good) n in
-      good-map m (o .table) places full y (ap (λ (r : Opened). r .table) (e ∙ cond-true _ _ _ y))
+  pub good-opened : length (m .splits) ≡ 60 → length (m .values) ≡ 1024 → not (o .good) ≡ false → GoodMap m (o .table)
+  good-opened places room n =
+      let y : good m ≡ true = sym same-test ∙ not-false (o .good) n in
+      let f = good-facts m places room y in
+      good-map m (o .table) places room y (rw (f .same-blends) (ap (λ (r : Opened). r .table) e ∙ opened-table m y))
 
 module _ {m : Map} {t : Table} (g : GoodMap m t) where
   -- its table and values are those of what it holds
@@ -182,10 +173,6 @@ module _ {m : Map} {t : Table} (g : GoodMap m t) where
   unfolding plain
   splits-counted = hand-length (g .hand)
 
-  pub values-counted : length (plain m .values) ≡ length (blends (plain m))
-  unfolding plain
-  values-counted = length-take-le (length (blends (bare m))) (m .values) (omega (arith, hand-few (g .hand), g .full))
-
   -- Setting a value: an anchor beyond knot 129 has no blend;
   pub beyond : (i j : ℕ) → (i ≤ 129 → j ≤ 129 → ⊥) → length (blends (plain m)) ≤ placeOf (blends (plain m)) i j
   unfolding plain
@@ -211,7 +198,7 @@ module _ {m : Map} {t : Table} (g : GoodMap m t) where
       changed 0 (record { w = m .w; h = m .h; count = m .count; splits = m .splits; values = set (m .values) k v }) ≡ setValue m i j v
   unfolding setValue
   set-some i j v lt =
-      rw (← (rw (g .again) at (record-set (plain m) i j v (rw values-counted lt)))) (sym (cond-false _ _ _ passed ∙ cond-true _ _ _ (lt-ltb _ _ lt)))
+      rw (← (rw (g .facts .is-record) at (record-set (plain m) i j v (rw (g .facts .counted) lt)))) (sym (cond-false _ _ _ passed ∙ cond-true _ _ _ (lt-ltb _ _ lt)))
 
   -- a line that leaves the map sound: the new table, and the record
   module _ (s : Split) (room : m .count < 60) (still : soundWith (plain m) s ≡ true) (new : Table) (e : new ≡ table (blends (drawn (plain m) s))) where
@@ -234,7 +221,7 @@ module _ {m : Map} {t : Table} (g : GoodMap m t) where
     drawn-record values v =
         let new-blends : blendsOf new ≡ blends (drawn (plain m) s) = rw e (table-blends (blends (drawn (plain m) s))) in
         rw (v, live-blends, live-values, new-blends)
-        (sym (rw (g .again) at (record-drawn (plain m) s (rw splits-counted room))))
+        (sym (rw (g .facts .is-record) at (record-drawn (plain m) s (rw splits-counted room))))
 
   -- The exact split: its number and its table, from the step on the record's lines;
   module _ (L : Lines) (e : L ≡ linesOf m) (s : Split) where

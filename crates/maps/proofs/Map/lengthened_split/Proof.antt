@@ -1,5 +1,4 @@
 -- `maps::Map::lengthened_split` meets its contract: each return is what the tests before it decide.
-use Prim.Native.Nat.{ℕ}
 use borrow.Author.Needs.{needs}
 use borrow.Author.Tests.{eq-eqb, ne-eqb}
 use mathlib.Core.Path.{_≡_, sym, _∙_}
@@ -8,7 +7,7 @@ use Rattle.mesh.proofs.Tests.{cond-true, cond-false}
 use Rattle.maps.specs.Splits.{given, chosen}
 use Rattle.maps.specs.Record.{plain}
 use Rattle.maps.specs.Calls.{drawnFirst, lengthenedSplit}
-use Rattle.maps.proofs.Recording.{GoodMap, opened-not, opened-good, passed, live-table, lines-hand, given-number, given-room, longer-none, longer-one}
+use Rattle.maps.proofs.Recording.{GoodMap, not-good, good-opened, passed, live-table, lines-hand, given-number, given-room, longer-none, longer-one}
 use Rattle.maps.proofs.Map.lengthened_split.Statement.{statement}
 use Rattle.maps.proofs.Map.lengthened_split.Tie as tie
 
@@ -19,13 +18,13 @@ returns : tie.Need-returns
 unfolding lengthenedSplit
 returns c =
     let o = c .before .before .«open» in
-    sym (cond-true _ _ _ (opened-not _ (o .result) (o .ensures) (c .if1 .taken)))
+    sym (cond-true _ _ _ (not-good _ (o .result) (o .ensures) (c .if1 .taken)))
 
 good-self : (c : tie.Else1) → GoodMap (c .before .before .before .args .self) (c .before .before .«open» .result .table)
 good-self c =
     let s = c .before .before .before in
     let o = c .before .before .«open» in
-    opened-good (s .args .self) (o .result) (o .ensures) (simp length-map at (s .good .0 .1 .1 .1 .1 .1 .0 .1 .0 .1)) (simp length-map at (s .good .0 .1 .1 .1 .1 .1 .1 .0 .1 .0 .1))
+    good-opened (s .args .self) (o .result) (o .ensures) (simp length-map at (s .good .0 .1 .1 .1 .1 .1 .0 .1 .0 .1)) (simp length-map at (s .good .0 .1 .1 .1 .1 .1 .1 .0 .1 .0 .1))
     (c .if1 .left)
 
 lines-of-requires : tie.Need-lines-of-requires

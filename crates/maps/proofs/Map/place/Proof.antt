@@ -4,14 +4,13 @@ use native.Mathlib.Omega.{arith}
 use borrow.Author.Needs.{needs, elem-fits-field}
 use mir.Syntax.{w16, w64}
 use borrow.Author.Tests.{le-ltb, lt-ltb}
-use mathlib.Core.Path.{_≡_, sym, ap, _∙_}
+use mathlib.Core.Path.{sym, _∙_}
 use lib.ListN.{length, length-map}
-use Rattle.mesh.specs.declared.Blend.{Blend}
 use Rattle.mesh.proofs.Tests.{cond-true, cond-false}
 use Rattle.maps.specs.Plain.{blends}
 use Rattle.maps.specs.Record.{plain}
-use Rattle.maps.specs.Calls.{tablePlace, shape}
-use Rattle.maps.proofs.Recording.{GoodMap, opened-not, opened-good, passed, few, live-count, live-blend, live-knots, live-value}
+use Rattle.maps.specs.Calls.{tablePlace}
+use Rattle.maps.proofs.Recording.{GoodMap, not-good, good-opened, passed, few, live-count, live-blend, live-knots, live-value}
 use Rattle.maps.proofs.Map.place.Statement.{statement}
 use Rattle.maps.proofs.Map.place.Tie as tie
 
@@ -25,13 +24,13 @@ returns : tie.Need-returns
 unfolding tablePlace
 returns c =
     let o = c .before .before .before .«open» in
-    rw (c .no-shape .ensures) (sym (cond-true _ _ _ (opened-not _ (o .result) (o .ensures) (c .before .if1 .taken))))
+    rw (c .no-shape .ensures) (sym (cond-true _ _ _ (not-good _ (o .result) (o .ensures) (c .before .if1 .taken))))
 
 good-self : (c : tie.Else1) → GoodMap (c .before .before .before .args .t1) (c .before .before .«open» .result .table)
 good-self c =
     let s = c .before .before .before in
     let o = c .before .before .«open» in
-    opened-good (s .args .t1) (o .result) (o .ensures) (simp length-map at (s .good .0 .1 .1 .1 .1 .1 .0 .1 .0 .1)) (simp length-map at (s .good .0 .1 .1 .1 .1 .1 .1 .0 .1 .0 .1))
+    good-opened (s .args .t1) (o .result) (o .ensures) (simp length-map at (s .good .0 .1 .1 .1 .1 .1 .0 .1 .0 .1)) (simp length-map at (s .good .0 .1 .1 .1 .1 .1 .1 .0 .1 .0 .1))
     (c .if1 .left)
 
 no-shape-requires-2 : tie.Need-no-shape-requires-2

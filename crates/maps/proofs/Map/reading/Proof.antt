@@ -8,7 +8,7 @@ use lib.ListN.{length-map}
 use Rattle.mesh.proofs.Tests.{cond-true, cond-false}
 use Rattle.maps.specs.Record.{plain}
 use Rattle.maps.specs.Calls.{reading}
-use Rattle.maps.proofs.Recording.{GoodMap, opened-not, opened-good, passed, at-point, live-blends, live-values}
+use Rattle.maps.proofs.Recording.{GoodMap, not-good, good-opened, passed, at-point, live-blends, live-values}
 use Rattle.maps.proofs.Map.reading.Statement.{statement}
 use Rattle.maps.proofs.Map.reading.Tie as tie
 
@@ -19,13 +19,13 @@ returns : tie.Need-returns
 unfolding reading
 returns c =
     let o = c .before .before .«open» in
-    sym (cond-true _ _ _ (opened-not _ (o .result) (o .ensures) (c .if1 .taken)))
+    sym (cond-true _ _ _ (not-good _ (o .result) (o .ensures) (c .if1 .taken)))
 
 good-self : (c : tie.Else1) → GoodMap (c .before .before .before .args .self) (c .before .before .«open» .result .table)
 good-self c =
     let s = c .before .before .before in
     let o = c .before .before .«open» in
-    opened-good (s .args .self) (o .result) (o .ensures) (simp length-map at (s .good .0 .1 .1 .1 .1 .1 .0 .1 .0 .1)) (simp length-map at (s .good .0 .1 .1 .1 .1 .1 .1 .0 .1 .0 .1))
+    good-opened (s .args .self) (o .result) (o .ensures) (simp length-map at (s .good .0 .1 .1 .1 .1 .1 .0 .1 .0 .1)) (simp length-map at (s .good .0 .1 .1 .1 .1 .1 .1 .0 .1 .0 .1))
     (c .if1 .left)
 
 in-domain-requires : tie.Need-in-domain-requires

@@ -1,15 +1,15 @@
 -- `maps::Map::set` meets its contract: each return is what the tests before it decide.
-use Prim.Native.Nat.{_+_, _≤_, _<_}
+use Prim.Native.Nat.{_+_}
 use native.Mathlib.Omega.{arith}
 use borrow.Author.Needs.{needs}
-use mathlib.Core.Path.{_≡_, sym, _∙_}
-use lib.ListN.{length, length-map}
+use mathlib.Core.Path.{_≡_, sym}
+use lib.ListN.{length-map}
 use Rattle.mesh.proofs.Tests.{cond-true}
 use Rattle.maps.specs.Plain.{blends}
 use Rattle.maps.specs.Values.{placeOf}
 use Rattle.maps.specs.Record.{plain}
 use Rattle.maps.specs.Calls.{setValue}
-use Rattle.maps.proofs.Recording.{GoodMap, opened-not, opened-good, live-blends, live-count, few, beyond, set-none, set-some}
+use Rattle.maps.proofs.Recording.{GoodMap, not-good, good-opened, live-blends, live-count, few, beyond, set-none, set-some}
 use Rattle.maps.proofs.Map.set.Statement.{statement}
 use Rattle.maps.proofs.Map.set.Tie as tie
 
@@ -20,13 +20,13 @@ returns : tie.Need-returns
 unfolding setValue
 returns c =
     let o = c .before .before .«open» in
-    sym (cond-true _ _ _ (opened-not _ (o .result) (o .ensures) (c .if1 .taken)))
+    sym (cond-true _ _ _ (not-good _ (o .result) (o .ensures) (c .if1 .taken)))
 
 good-self : (c : tie.Else1) → GoodMap (c .before .before .before .args .self) (c .before .before .«open» .result .table)
 good-self c =
     let s = c .before .before .before in
     let o = c .before .before .«open» in
-    opened-good (s .args .self) (o .result) (o .ensures) (simp length-map at (s .good .0 .1 .1 .1 .1 .1 .0 .1 .0 .1)) (simp length-map at (s .good .0 .1 .1 .1 .1 .1 .1 .0 .1 .0 .1))
+    good-opened (s .args .self) (o .result) (o .ensures) (simp length-map at (s .good .0 .1 .1 .1 .1 .1 .0 .1 .0 .1)) (simp length-map at (s .good .0 .1 .1 .1 .1 .1 .1 .0 .1 .0 .1))
     (c .if1 .left)
 
 returns-2 : tie.Need-returns-2

@@ -1,11 +1,6 @@
 -- `maps::calls::with_line` meets its contract: the split goes behind the others, and the values are carried.
-use Prim.Native.Nat.{_≤_}
-use native.Mathlib.Omega.{arith}
 use borrow.Author.Needs.{needs}
-use mathlib.Core.Path.{_≡_, ap, _∙_}
-use lib.ListN.{length, length-map}
-use Rattle.mesh.specs.Sound.{blendsOf}
-use Rattle.maps.specs.Inner.{carriedArray}
+use lib.ListN.{length-map}
 use Rattle.maps.proofs.Recording.{GoodMap, good-map, in-table, new-few, new-proper, drawn-record}
 use Rattle.maps.proofs.calls.with_line.Statement.{statement}
 use Rattle.maps.proofs.calls.with_line.Tie as tie
