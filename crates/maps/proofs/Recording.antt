@@ -10,6 +10,9 @@ use borrow.Author.Tests.{eq-eqb, leb-true, not-false, ltb-true, ltb-false, le-lt
 use lib.Dec.{ltb, leb}
 use lib.ListN.{length, getD, set, take, drop, take-append-drop, replicate, length-append, length-map, length-set}
 use lib.Seq.{getD-take, set-append-seam, set-append-left}
+use mir.Val.{Val}
+use denote.Shadow.{shadow}
+use denote.Struct.Declared.{row}
 use Rattle.mesh.specs.declared.Split.{Split}
 use Rattle.mesh.specs.declared.Lines.{Lines}
 use Rattle.mesh.specs.declared.Table.{Table}
@@ -31,6 +34,7 @@ use Rattle.maps.specs.Splits.{given, exactNumber, containing, candidate,
 use Rattle.maps.specs.Record.{noSplit, recordOf, bare, plain, good}
 use Rattle.maps.specs.Calls.{changed, drawnFirst, setPlain, setValue}
 use Rattle.maps.specs.Inner.{linesOf, held, InHand, InTable, opened, stepped, found, carriedArray}
+use Rattle.maps.proofs.Map.{the-type}
 use Rattle.maps.proofs.Exact.{entry}
 use Rattle.maps.proofs.Readings.{place-found}
 use Rattle.maps.proofs.Replay.{opened-good, opened-table}
@@ -79,16 +83,20 @@ module _ (P : Plain) where
   unfolding recordOf setPlain
   record-set i j v lt = rw (padded-set (P .values) 1024 0 v _ lt)
 
+-- a map that is passed by value has all the places of its arrays
+pub full : (m : Map) (vs : List Val) → shadow (row the-type .own m vs) → (length (m .splits) ≡ 60) × (length (m .values) ≡ 1024)
+full m vs p = (simp length-map at (p .1 .1 .1 .1 .1 .0 .1 .0 .1), simp length-map at (p .1 .1 .1 .1 .1 .1 .0 .1 .0 .1))
+
 -- a good record, and the table of its live blends
 pub record GoodMap (m : Map) (t : Table) : Type 0 where
   pub is-good : good m ≡ true
   pub facts : GoodFacts m
   pub hand : InHand (linesOf m) t
 
-pub good-map : (m : Map) (t : Table) → length (m .splits) ≡ 60 → length (m .values) ≡ 1024 → good m ≡ true → t ≡ table (blends (plain m)) →
+pub good-map : (m : Map) (t : Table) (vs : List Val) → shadow (row the-type .own m vs) → good m ≡ true → t ≡ table (blends (plain m)) →
     GoodMap m t
-good-map m t places room y e =
-    let f = good-facts m places room y in
+good-map m t vs p y e =
+    let f = good-facts m (full m vs p .0) (full m vs p .1) y in
     record { is-good = y; facts = f; hand = rw (e, f .same-blends) (f .hand) }
 
 -- What opening a record says of it.
@@ -99,11 +107,11 @@ module _ (m : Map) (o : Opened) (e : o ≡ opened m) where
   pub not-good : not (o .good) ≡ true → not (good m) ≡ true
   not-good n = ap not (sym same-test) ∙ n
 
-  pub good-opened : length (m .splits) ≡ 60 → length (m .values) ≡ 1024 → not (o .good) ≡ false → GoodMap m (o .table)
-  good-opened places room n =
+  pub good-opened : (vs : List Val) → shadow (row the-type .own m vs) → not (o .good) ≡ false → GoodMap m (o .table)
+  unfolding plain
+  good-opened vs p n =
       let y : good m ≡ true = sym same-test ∙ not-false (o .good) n in
-      let f = good-facts m places room y in
-      good-map m (o .table) places room y (rw (f .same-blends) (ap (λ (r : Opened). r .table) e ∙ opened-table m y))
+      good-map m (o .table) vs p y (ap (λ (r : Opened). r .table) e ∙ opened-table m y)
 
 module _ {m : Map} {t : Table} (g : GoodMap m t) where
   -- its table and values are those of what it holds

@@ -106,13 +106,14 @@ impl Map {
             };
         }
         let live = opened.table;
-        if 128 < m {
+        // An anchor lies within the sides, so that its knots fit.
+        if Map::LARGEST_SIDE < m {
             return Changed {
                 number: 9,
                 map: self,
             };
         }
-        if 128 < n {
+        if Map::LARGEST_SIDE < n {
             return Changed {
                 number: 9,
                 map: self,

@@ -2,7 +2,6 @@
 use borrow.Author.Needs.{needs}
 use borrow.Author.Tests.{eq-eqb, ne-eqb}
 use mathlib.Core.Path.{_≡_, sym, _∙_}
-use lib.ListN.{length-map}
 use Rattle.mesh.proofs.Tests.{cond-true, cond-false}
 use Rattle.maps.specs.Splits.{given, chosen}
 use Rattle.maps.specs.Record.{plain}
@@ -24,8 +23,7 @@ good-self : (c : tie.Else1) → GoodMap (c .before .before .before .args .self) 
 good-self c =
     let s = c .before .before .before in
     let o = c .before .before .«open» in
-    good-opened (s .args .self) (o .result) (o .ensures) (simp length-map at (s .good .0 .1 .1 .1 .1 .1 .0 .1 .0 .1)) (simp length-map at (s .good .0 .1 .1 .1 .1 .1 .1 .0 .1 .0 .1))
-    (c .if1 .left)
+    good-opened (s .args .self) (o .result) (o .ensures) _ (s .good .0) (c .if1 .left)
 
 lines-of-requires : tie.Need-lines-of-requires
 lines-of-requires c κs = search needs

@@ -5,7 +5,7 @@ use borrow.Author.Needs.{needs, elem-fits-field}
 use mir.Syntax.{w16, w64}
 use borrow.Author.Tests.{le-ltb, lt-ltb}
 use mathlib.Core.Path.{sym, _∙_}
-use lib.ListN.{length, length-map}
+use lib.ListN.{length}
 use Rattle.mesh.proofs.Tests.{cond-true, cond-false}
 use Rattle.maps.specs.Plain.{blends}
 use Rattle.maps.specs.Record.{plain}
@@ -30,8 +30,7 @@ good-self : (c : tie.Else1) → GoodMap (c .before .before .before .args .t1) (c
 good-self c =
     let s = c .before .before .before in
     let o = c .before .before .«open» in
-    good-opened (s .args .t1) (o .result) (o .ensures) (simp length-map at (s .good .0 .1 .1 .1 .1 .1 .0 .1 .0 .1)) (simp length-map at (s .good .0 .1 .1 .1 .1 .1 .1 .0 .1 .0 .1))
-    (c .if1 .left)
+    good-opened (s .args .t1) (o .result) (o .ensures) _ (s .good .0) (c .if1 .left)
 
 no-shape-requires-2 : tie.Need-no-shape-requires-2
 no-shape-requires-2 c κs = search needs

@@ -4,7 +4,6 @@ use mathlib.Core.Path.{_≡_, sym, _∙_}
 use mathlib.Core.Bool.{true, _&&_}
 use borrow.Author.Tests.{not-true, not-false}
 use lib.Dec.{leb}
-use lib.ListN.{length-map}
 use Rattle.mesh.proofs.Tests.{cond-true, cond-false}
 use Rattle.maps.specs.Record.{plain}
 use Rattle.maps.specs.Calls.{reading}
@@ -25,8 +24,7 @@ good-self : (c : tie.Else1) → GoodMap (c .before .before .before .args .self) 
 good-self c =
     let s = c .before .before .before in
     let o = c .before .before .«open» in
-    good-opened (s .args .self) (o .result) (o .ensures) (simp length-map at (s .good .0 .1 .1 .1 .1 .1 .0 .1 .0 .1)) (simp length-map at (s .good .0 .1 .1 .1 .1 .1 .1 .0 .1 .0 .1))
-    (c .if1 .left)
+    good-opened (s .args .self) (o .result) (o .ensures) _ (s .good .0) (c .if1 .left)
 
 in-domain-requires : tie.Need-in-domain-requires
 in-domain-requires c κs = search needs

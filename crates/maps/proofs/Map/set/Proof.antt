@@ -3,7 +3,6 @@ use Prim.Native.Nat.{_+_}
 use native.Mathlib.Omega.{arith}
 use borrow.Author.Needs.{needs}
 use mathlib.Core.Path.{_≡_, sym}
-use lib.ListN.{length-map}
 use Rattle.mesh.proofs.Tests.{cond-true}
 use Rattle.maps.specs.Plain.{blends}
 use Rattle.maps.specs.Values.{placeOf}
@@ -26,8 +25,7 @@ good-self : (c : tie.Else1) → GoodMap (c .before .before .before .args .self) 
 good-self c =
     let s = c .before .before .before in
     let o = c .before .before .«open» in
-    good-opened (s .args .self) (o .result) (o .ensures) (simp length-map at (s .good .0 .1 .1 .1 .1 .1 .0 .1 .0 .1)) (simp length-map at (s .good .0 .1 .1 .1 .1 .1 .1 .0 .1 .0 .1))
-    (c .if1 .left)
+    good-opened (s .args .self) (o .result) (o .ensures) _ (s .good .0) (c .if1 .left)
 
 returns-2 : tie.Need-returns-2
 returns-2 c =

@@ -1,14 +1,12 @@
 -- `maps::calls::with_line` meets its contract: the split goes behind the others, and the values are carried.
 use borrow.Author.Needs.{needs}
-use lib.ListN.{length-map}
 use Rattle.maps.proofs.Recording.{GoodMap, good-map, in-table, new-few, new-proper, drawn-record}
 use Rattle.maps.proofs.calls.with_line.Statement.{statement}
 use Rattle.maps.proofs.calls.with_line.Tie as tie
 
 old-map : (c : tie.Start) → GoodMap (c .args .map) (c .args .old)
 old-map c =
-    good-map (c .args .map) (c .args .old) (simp length-map at (c .good .0 .1 .1 .1 .1 .1 .0 .1 .0 .1)) (simp length-map at (c .good .0 .1 .1 .1 .1 .1 .1 .0 .1 .0 .1))
-    (c .pre .0) (c .pre .3)
+    good-map (c .args .map) (c .args .old) _ (c .good .0) (c .pre .0) (c .pre .3)
 
 mul-s : tie.Need-mul-s
 mul-s c = search needs
