@@ -4,9 +4,14 @@ mod show;
 mod text;
 
 use maps::Map;
+ghost use Prim.Native.Nat.{_≤_};
+ghost use lib.ListN.{length};
 
 // Where the line that starts at a place ends.
-fn line_end(input: &[u8], from: usize) -> usize {
+fn line_end(input: &[u8], from: usize) -> usize
+    requires { ⌜ from ≤ length (now input) ⌝ }
+    ensures { λ r. ⌜ (from ≤ r) × (r ≤ length (now (input .entry))) ⌝ }
+{
     let mut to = from;
     while to < input.len() {
         if input[to] == b'\n' {
@@ -30,7 +35,7 @@ fn run(input: &[u8]) {
 }
 
 fn main() {
-    let mut input = [0u8; 2097152];
+    let mut input = [0u8; 262144];
     let n = io::read_full(libc::STDIN_FILENO, &mut input);
     run(&input[..n]);
 }

@@ -2,7 +2,6 @@
 use maps::Shape;
 use maps::Weight;
 use maps::Weights;
-ghost use Prim.Native.Nat.{_≤_};
 
 pub fn text(bytes: &[u8]) {
     io::write_all(libc::STDOUT_FILENO, bytes);
