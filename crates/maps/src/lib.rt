@@ -102,3 +102,9 @@ pub struct Weights {
     pub number: usize,
     pub entries: [Weight; 4],
 }
+
+// A number, and whether two maps are the same.
+pub struct Same {
+    pub number: usize,
+    pub yes: bool,
+}
