@@ -4,3 +4,6 @@ pub mod Sums
 pub mod Over
 pub mod Adding
 pub mod Filling
+pub mod InHand
+pub mod Replay
+pub mod Good

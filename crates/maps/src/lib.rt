@@ -7,6 +7,7 @@ mod values;
 
 use mesh::Split;
 ghost use mathlib.Core.Path.{_≡_};
+ghost use Rattle.mesh.specs.Lines.{allowedSide};
 ghost use Rattle.maps.specs.Plain.{freshPlain};
 ghost use Rattle.maps.specs.Record.{recordOf};
 ghost use Rattle.maps.specs.Calls.{freshMap};
@@ -29,17 +30,27 @@ impl Map {
     pub fn fresh(w: usize, h: usize) -> Changed
         ensures { λ r. ⌜ r ≡ freshMap w h ⌝ }
     {
-        if w < 1 || Map::LARGEST_SIDE < w || h < 1 || Map::LARGEST_SIDE < h {
+        if allowed_side(w) && allowed_side(h) {
             return Changed {
-                number: 1,
-                map: blank(1, 1),
+                number: 0,
+                map: blank(w, h),
             };
         }
         Changed {
-            number: 0,
-            map: blank(w, h),
+            number: 1,
+            map: blank(1, 1),
         }
     }
+}
+
+// Whether a side is in range.
+fn allowed_side(side: usize) -> bool
+    ensures { λ r. ⌜ r ≡ allowedSide side ⌝ }
+{
+    if side < 1 {
+        return false;
+    }
+    side <= Map::LARGEST_SIDE
 }
 
 // A map without splits, all its values zero.
