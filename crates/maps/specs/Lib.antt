@@ -5,5 +5,6 @@ pub mod Record
 pub mod Calls
 pub mod Sameness
 pub mod Histories
+pub mod Demand
 pub mod Inner
 pub mod Cases
