@@ -173,6 +173,17 @@ module _ {L : Lines} {t : Table} (hand : InHand L t) (s : Split) (fits : inRange
   pub hand-table : soundWith (held L) s ≡ true → refined (withSplit L s) t .table ≡ table (blends (withLine (held L) s))
   hand-table o = ap (λ (r : Refined). r .table) (refined-sound o)
 
+  -- the same of what a call of `refine` on these lines answers
+  module _ {next : Lines} {r : Refined} (more : next ≡ withSplit L s) (e : r ≡ refined next t) where
+    is-refined : r ≡ refined (withSplit L s) t
+    is-refined = e ∙ ap (λ (N : Lines). refined N t) more
+
+    pub answered-sound : r .sound ≡ soundWith (held L) s
+    answered-sound = ap (λ (r : Refined). r .sound) is-refined ∙ hand-sound
+
+    pub answered-table : soundWith (held L) s ≡ true → r .table ≡ table (blends (withLine (held L) s))
+    answered-table o = ap (λ (r : Refined). r .table) is-refined ∙ hand-table o
+
 -- an accepted split leaves lines whose live blends are in hand;
 pub hand-next : {L : Lines} {t : Table} → InHand L t → (s : Split) → exactNumber (held L) s ≡ 0 →
     InHand (withSplit L s) (table (blends (withLine (held L) s)))

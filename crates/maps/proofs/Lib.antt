@@ -5,5 +5,6 @@ pub mod Over
 pub mod Adding
 pub mod Filling
 pub mod InHand
+pub mod Longer
 pub mod Replay
 pub mod Good

@@ -8,7 +8,9 @@ use mesh::points::ends_on_lines;
 use mesh::points::fits_sides;
 use mesh::points::shares_stretch;
 ghost use mathlib.Core.Path.{_≡_};
-ghost use Prim.Native.Nat.{ℕ, _≤_, _<_};
+ghost use mathlib.Core.Bool.{true, _&&_, not};
+ghost use Prim.Native.Nat.{_<_};
+ghost use Rattle.mesh.specs.Lines.{allowed, inRange, ended, shares, meshOf};
 ghost use Rattle.maps.specs.Splits.{given, chosen};
 ghost use Rattle.maps.specs.Inner.{held, withSplit, InHand, stepped, found};
 
@@ -86,7 +88,19 @@ pub(crate) fn exact_step(lines: Lines, live: Table, s: Split) -> Step
     }
 }
 
+// Whether a line has both ends on crossing lines and shares no stretch with a line at its position; no where it is out of range.
+fn may_stand(lines: Lines, c: Split) -> bool
+    requires { ⌜ allowed lines ≡ true ⌝ }
+    ensures { λ r. ⌜ r ≡ (inRange (lines .w) (lines .h) c && ended (meshOf lines) c && not (shares (meshOf lines) c)) ⌝ }
+{
+    if !ends_on_lines(lines, c) {
+        return false;
+    }
+    !shares_stretch(lines, c)
+}
+
 // The line that a lengthened split takes: nested loops over length and start, left with the first sound line.
+// A line that would reach past the side is out of range, and may not stand.
 pub(crate) fn longer_line(lines: Lines, live: Table, s: Split) -> Found
     requires { ⌜ InHand lines live × (given (held lines) s ≡ 0) ⌝ }
     ensures { λ r. ⌜ r ≡ found lines live s (chosen (held lines) s) ⌝ }
@@ -106,14 +120,14 @@ pub(crate) fn longer_line(lines: Lines, live: Table, s: Split) -> Found
         if length < s.to {
             from = s.to - length;
         }
-        while from <= s.from && from + length <= run {
+        while from <= s.from {
             let c = Split {
                 direction: s.direction,
                 position: s.position,
                 from: from,
                 to: from + length,
             };
-            if ends_on_lines(lines, c) && !shares_stretch(lines, c) {
+            if may_stand(lines, c) {
                 let next = refine(with_split(lines, c), live);
                 if next.sound {
                     let t = next.table;

@@ -8,12 +8,11 @@ use mathlib.Core.Bool.{true, false}
 use Rattle.mesh.specs.declared.Lines.{Lines}
 use Rattle.mesh.specs.declared.Table.{Table}
 use Rattle.mesh.specs.declared.Split.{Split}
-use Rattle.mesh.specs.declared.Refined.{Refined}
-use Rattle.mesh.specs.Sound.{refined, table}
+use Rattle.mesh.specs.Sound.{table}
 use Rattle.maps.specs.Plain.{blends}
 use Rattle.maps.specs.Splits.{given, exactNumber, withLine, soundWith}
-use Rattle.maps.specs.Inner.{held, withSplit, stepped}
-use Rattle.maps.proofs.InHand.{given-says, hand-length, hand-sound, hand-table}
+use Rattle.maps.specs.Inner.{held, stepped}
+use Rattle.maps.proofs.InHand.{given-says, hand-length, answered-sound, answered-table}
 use Rattle.maps.proofs.splits.exact_step.Statement.{statement}
 use Rattle.maps.proofs.splits.exact_step.Tie as tie
 
@@ -51,19 +50,12 @@ with-split-requires c κs = room c
 refine-requires : tie.Need-refine-requires
 refine-requires c κs = search needs
 
-refined-with : (c : tie.After-refine) → let a = c .before .before .before .before .args in
-    c .refine .result ≡ refined (withSplit (a .lines) (a .s)) (a .live)
-refined-with c =
-    let a = c .before .before .before .before .args in
-    c .refine .ensures ∙ ap (λ (L : Lines). refined L (a .live)) (c .before .with-split .ensures)
-
 is-sound : (c : tie.After-refine) → let a = c .before .before .before .before .args in
     soundWith (held (a .lines)) (a .s) ≡ c .refine .result .sound
 is-sound c =
-    let a = c .before .before .before .before .args in
-    let g = given-says _ _ (passed (c .before .before)) in
-    sym (ap (λ (r : Refined). r .sound) (refined-with c) ∙
-    hand-sound (c .before .before .before .before .pre) (a .s) (g .fits) (room (c .before .before)))
+    let e = c .before .before in
+    let start = e .before .before in
+    sym (answered-sound (start .pre) (start .args .s) (given-says _ _ (passed e) .fits) (room e) (c .before .with-split .ensures) (c .refine .ensures))
 
 returns-2 : tie.Need-returns-2
 returns-2 c =
@@ -75,10 +67,9 @@ returns-3 c =
     let r = c .before .before .before in
     let e = r .before .before in
     let start = e .before .before in
-    let g = given-says _ _ (passed e) in
     let o = is-sound r ∙ not-false _ (c .before .if2 .left) in
     ap (λ (t : Table). record { number = 0; table = t })
-    (ap (λ (n : Refined). n .table) (refined-with r) ∙ hand-table (start .pre) (start .args .s) (g .fits) (room e) o) ∙
+    (answered-table (start .pre) (start .args .s) (given-says _ _ (passed e) .fits) (room e) (r .before .with-split .ensures) (r .refine .ensures) o) ∙
     step-sound _ _ _ (passed e) o
 
 pub exact-step-spec : {M : Type 1} → statement M
