@@ -17,10 +17,13 @@ use Rattle.mesh.specs.Order.{Uncut, Coarser}
 use Rattle.mesh.proofs.Tests.{either, true-not-false, and-both, and-of, or-either, or-left, or-right, any-at, any-of, only-mem, each-mem, cond-true, cond-false}
 use Rattle.mesh.proofs.Cuts.{RiseB, cutter-none, cutter-cuts}
 use Rattle.mesh.proofs.Order.{cut-or-not, uncut-of, finer-cuts}
+use Rattle.mesh.proofs.Live.{proper-rises}
+use Rattle.mesh.proofs.SoundMaps.{live-proper}
 use Rattle.mesh.proofs.Refining.{some-line, no-line}
 use Rattle.maps.specs.Plain.{Plain, meshOf, blends}
 use Rattle.maps.specs.Splits.{withLine, soundWith, given, exactNumber, reaching, run, containing, candidate, chosen}
-use Rattle.maps.proofs.InHand.{Given, given-says, exact-says}
+use Rattle.maps.proofs.InHand.{given-says}
+use Rattle.maps.proofs.Longer.{line, reaching-fits, ends-in}
 
 -- A blend that a line cuts is cut, and a finer mesh cuts what a coarser one cuts.
 module _ (M N : Mesh) (finer : Coarser M N) (B : Blend) (h : RiseB B) where
@@ -88,10 +91,7 @@ module _ (P : Plain) (c s : Split) (i : Contains c s) (within : c .to ≤ run P 
       (List·Memᴰ·append-cases (P .splits) (r .1))))
       (or-either fresh (any test (P .splits ++ s ∷ [])) e)
 
--- the line of length n from a start on, where it stays within the side
-abbrev line : Plain → Split → ℕ → ℕ → List Split
-line P s n from = only (λ c. leb (c .to) (run P s)) (reaching s from n ∷ [])
-
+-- the lines that contain a given one
 containing-says : (P : Plain) (s c : Split) → s .from < s .to → List·Memᴰ c (containing P s) →
     (from : ℕ) × (n : ℕ) × (c ≡ reaching s from n) × (from ≤ s .from) × (s .to ≤ from + n) × (from + n ≤ run P s)
 unfolding containing
@@ -115,7 +115,7 @@ first-passes test xs c cs e = only-mem test xs c (first (only test xs) e)
   where
     first : (ys : List Split) → take 1 ys ≡ c ∷ cs → List·Memᴰ c ys
     first [] e = let z : _≡_ {A = ℕ} 0 1 = cc in absurd (omega arith)
-    first (y ∷ ys) e = List·Memᴰ.List·Memᴰ·head (sym (cc))
+    first (y ∷ ys) e = let same : c ≡ y = cc in List·Memᴰ.List·Memᴰ·head same
 
 pub chosen-exact : (P : Plain) → 1 ≤ P .w → 1 ≤ P .h → (s c : Split) (cs : List Split) → given P s ≡ 0 → chosen P s ≡ c ∷ cs →
     exactNumber P c ≡ 0
@@ -123,4 +123,20 @@ unfolding chosen candidate exactNumber given
 chosen-exact P hw hh s c cs e first =
     let g = given-says P s e in
     let f = first-passes (candidate P) (containing P s) c cs first in
-    ?
+    let ends = ends-in P s (g .fits) in
+    let r = containing-says P s c (ends .0) (f .0) in
+    let from = r .0 in
+    let n = r .1 in
+    let is = r .2 in
+    let in-range : inRange (P .w) (P .h) c ≡ true = rw is (reaching-fits P s from n (g .fits) (omega arith) (omega arith)) in
+    let a = and-both (ended (meshOf P) c && not (shares (meshOf P) c)) (soundWith P c) (f .1) in
+    let b = and-both (ended (meshOf P) c) (not (shares (meshOf P) c)) (a .0) in
+    let room : leb 60 (length (P .splits)) ≡ false = lt-leb _ _ (g .room) in
+    let holds : Contains c s = rw is (record { same-way = refl; same-place = refl; begins = omega arith; ends = omega arith }) in
+    let within : c .to ≤ run P s = rw is (omega arith) in
+    let cut = any-at (isCut (meshOf (withLine P s))) (blends P) (g .cut) in
+    let rises = proper-rises (P .w) (P .h) (cut .0) (live-proper (P .w) (P .h) hw hh (meshOf P) (cut .0) (cut .1)) in
+    let still : any (isCut (meshOf (withLine P c))) (blends P) ≡ true =
+    any-of (isCut (meshOf (withLine P c))) (blends P) (cut .0) (cut .1)
+    (finer-cut (meshOf (withLine P s)) (meshOf (withLine P c)) (contains-finer P c s holds within) (cut .0) rises (cut .2)) in
+    rw (in-range, room, not-true (shares (meshOf P) c) (b .1), b .0, still, a .1)
