@@ -60,6 +60,11 @@ fresh-reached w h a b =
 pub start-reached : (P : Plain) → Start P → Reached P
 start-reached P (fresh w h a b) = fresh-reached w h a b
 
+-- what one of two outcomes, by a test, holds for the next call
+pub by-test : (G : Plain → Type 0) (b : Bool) (x y : Outcome Plain) → (b ≡ true → G (x .next)) → (b ≡ false → G (y .next)) → G (cond b x y .next)
+by-test G true x y f g = f refl
+by-test G false x y f g = g refl
+
 module _ (P : Plain) (at : Reached P) where
   pub set-reached : (i j v : ℕ) → v < 65536 → Reached (setPlain P i j v)
   set-reached i j v lt = record { holds = set-holds (at .holds) i j v; valued = set-valued P (at .valued) i j v lt }
@@ -73,20 +78,15 @@ module _ (P : Plain) (at : Reached P) where
   first-reached s e (c ∷ cs) q =
       drawn-reached c (chosen-exact P (at .valued .wide .0) (at .valued .tall .0) s c cs e q)
 
-  -- one of two outcomes by a test
-  by-test : (b : Bool) (x y : Outcome Plain) → (b ≡ true → Reached (x .next)) → (b ≡ false → Reached (y .next)) → Reached (cond b x y .next)
-  by-test true x y f g = f refl
-  by-test false x y f g = g refl
-
   -- A call leaves such a map again,
   pub step-reached : (c : Call) → Reached (byMachine P c .next)
-  step-reached (set i j v) = by-test (ltb (placeOf (blends P) (i + 1) (j + 1)) (length (blends P))) _ _ (λ e. set-reached i j (v % 65536) (mod-lt v (omega arith))) (λ e. at)
-  step-reached (exact s) = by-test _ _ _ (λ e. drawn-reached s (eqb-true _ _ e)) (λ e. at)
-  step-reached (lengthened s) = by-test _ _ _ (λ e. first-reached s (eqb-true _ _ e) (chosen P s) refl) (λ e. at)
-  step-reached (place i) = by-test (ltb i (length (blends P))) _ _ (λ e. at) (λ e. at)
-  step-reached (reads u v) = by-test (inDomain P u v) _ _ (λ e. at) (λ e. at)
-  step-reached (weighs u v) = by-test (inDomain P u v) _ _ (λ e. at) (λ e. at)
-  step-reached (sameAs m) = by-test (good m) _ _ (λ e. at) (λ e. at)
+  step-reached (set i j v) = by-test Reached (ltb (placeOf (blends P) (i + 1) (j + 1)) (length (blends P))) _ _ (λ e. set-reached i j (v % 65536) (mod-lt v (omega arith))) (λ e. at)
+  step-reached (exact s) = by-test Reached _ _ _ (λ e. drawn-reached s (eqb-true _ _ e)) (λ e. at)
+  step-reached (lengthened s) = by-test Reached _ _ _ (λ e. first-reached s (eqb-true _ _ e) (chosen P s) refl) (λ e. at)
+  step-reached (place i) = by-test Reached (ltb i (length (blends P))) _ _ (λ e. at) (λ e. at)
+  step-reached (reads u v) = by-test Reached (inDomain P u v) _ _ (λ e. at) (λ e. at)
+  step-reached (weighs u v) = by-test Reached (inDomain P u v) _ _ (λ e. at) (λ e. at)
+  step-reached (sameAs m) = by-test Reached (good m) _ _ (λ e. at) (λ e. at)
 
 -- and so does a list of calls.
 pub ending-reached : (cs : List Call) (P : Plain) → Reached P → Reached (ending byMachine P cs)
