@@ -1,9 +1,9 @@
 -- The library follows the plain machine: on the record of what it holds each call answers as the machine does, and hands back or leaves the
 -- record of what the machine then holds.
-use Prim.Native.Nat.{ℕ, _+_, _%_}
-use mathlib.Core.Path.{_≡_, refl, sym, ap, ap₂, subst, _∙_}
-use mathlib.Core.Bool.{Bool, true, false, cond, not}
-use mathlib.Core.List.{List, [], _∷_, _++_, map}
+use Prim.Native.Nat.{_+_}
+use mathlib.Core.Path.{_≡_, refl, ap}
+use mathlib.Core.Bool.{Bool, true, false, cond}
+use mathlib.Core.List.{List, [], _∷_, map}
 use lib.Dec.{ltb, eqb}
 use lib.ListN.{length}
 use Rattle.mesh.specs.declared.Split.{Split}
@@ -11,9 +11,9 @@ use Rattle.maps.specs.declared.Map.{Map}
 use Rattle.maps.specs.declared.Changed.{Changed}
 use Rattle.maps.specs.Plain.{Plain, blends}
 use Rattle.maps.specs.Values.{inDomain, placeOf}
-use Rattle.maps.specs.Splits.{given, exactNumber, chosen, drawn}
+use Rattle.maps.specs.Splits.{given, exactNumber, chosen}
 use Rattle.maps.specs.Record.{recordOf, plain, good}
-use Rattle.maps.specs.Calls.{changed, setPlain, setValue, tablePlace, reading, weights, exactSplit, drawnFirst, lengthenedSplit}
+use Rattle.maps.specs.Calls.{setValue, tablePlace, reading, weights, exactSplit, drawnFirst, lengthenedSplit}
 use Rattle.maps.specs.Sameness.{sameness}
 use Rattle.maps.specs.Histories.{Call, set, exact, lengthened, place, reads, weighs, sameAs, Answer, number, placed, read, weighed, told, Outcome, outcome, byLibrary, firstDrawn, byMachine, outcomes, ending}
 use Rattle.maps.specs.Demand.{leftBy, recorded}

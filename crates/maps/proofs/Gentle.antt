@@ -1,20 +1,19 @@
 -- What an accepted split does to the answers of the reading call.
 use Prim.Native.Nat.{ℕ, zero, suc, _+_, _-_, _≤_, _<_}
 use native.Mathlib.Omega.{arith}
-use mathlib.Core.Path.{_≡_, refl, sym, ap, subst, _∙_}
+use mathlib.Core.Path.{_≡_, refl, _∙_}
 use mathlib.Core.Logic.{⊎-elim}
-use mathlib.Core.Bool.{Bool, true, false, cond, _&&_}
-use mathlib.Core.List.{List, [], _∷_, List·Memᴰ}
+use mathlib.Core.Bool.{true, false}
+use mathlib.Core.List.{List·Memᴰ}
 use borrow.Author.Tests.{leb-true, le-leb, ltb-true, ltb-false}
 use lib.Dec.{leb, ltb}
-use lib.IntN.{ℤ, pos, predℤ}
+use lib.IntN.{pos, predℤ}
 use lib.ListN.{length, getD}
 use Rattle.mesh.specs.declared.Split.{Split}
 use Rattle.mesh.specs.declared.Blend.{Blend}
 use Rattle.mesh.specs.Sound.{none}
-use Rattle.mesh.proofs.Tests.{either, and-both, and-of, cond-true, cond-false}
+use Rattle.mesh.proofs.Tests.{either, and-both, and-of}
 use Rattle.mesh.proofs.Places.{proper-facts}
-use Rattle.maps.specs.declared.Placed.{Placed}
 use Rattle.maps.specs.declared.Reading.{Reading}
 use Rattle.maps.specs.Plain.{Plain, blends}
 use Rattle.maps.specs.Values.{readingAt, inDomain}
@@ -25,7 +24,7 @@ use Rattle.maps.specs.Demand.{Gentle}
 use Rattle.maps.proofs.Exact.{entry}
 use Rattle.maps.proofs.InHand.{exact-says}
 use Rattle.maps.proofs.Good.{Holds, record-good}
-use Rattle.maps.proofs.Readings.{Valued, blends-proper, drawn-reading, drawn-anchor}
+use Rattle.maps.proofs.Readings.{blends-proper, drawn-reading, drawn-anchor}
 use Rattle.maps.proofs.Reached.{Reached, drawn-reached}
 use Rattle.maps.proofs.Tabled.{place-listed, place-none}
 

@@ -8,3 +8,10 @@ pub mod InHand
 pub mod Longer
 pub mod Replay
 pub mod Good
+pub mod Longest
+pub mod Reached
+pub mod Following
+pub mod Tabled
+pub mod Squares
+pub mod Gentle
+pub mod Demand3

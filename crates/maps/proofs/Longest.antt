@@ -1,25 +1,25 @@
 -- Document 01, "Values, readings, splits": the line that a lengthened split takes is an exact split that is accepted.
-use Prim.Native.Nat.{ℕ, zero, suc, _+_, _-_, _≤_, _<_}
+use Prim.Native.Nat.{ℕ, _+_, _-_, _≤_, _<_}
 use native.Mathlib.Omega.{arith}
 use mathlib.Core.Path.{_≡_, refl, sym, ap, subst, _∙_}
-use mathlib.Core.Logic.{_⊎_, inl, inr, ⊎-elim}
-use mathlib.Core.Bool.{Bool, true, false, cond, _&&_, _||_, not}
+use mathlib.Core.Logic.{⊎-elim}
+use mathlib.Core.Bool.{Bool, true, false, _&&_, not}
 use mathlib.Core.List.{List, [], _∷_, _++_, List·Memᴰ, List·Memᴰ·eq-of-singleton, List·Memᴰ·append-cases, Memᴰ·append-left, Memᴰ·append-right}
-use borrow.Author.Tests.{eqb-true, eqb-false, ltb-true, leb-true, leb-false, le-leb, lt-leb, lt-ltb, eq-eqb, ne-eqb, not-true, not-false}
+use borrow.Author.Tests.{eqb-true, eqb-false, ltb-true, leb-true, le-leb, lt-leb, lt-ltb, eq-eqb, ne-eqb, not-true}
 use lib.Dec.{leb, ltb, eqb}
 use lib.ListN.{length, take}
 use Rattle.mesh.specs.declared.Split.{Split}
 use Rattle.mesh.specs.declared.Blend.{Blend}
 use Rattle.mesh.specs.Range.{each, any, only}
-use Rattle.mesh.specs.Lines.{Mesh, Direction, upright, level, number, direction, side, other, mesh, freshMesh, draws, inRange, fits, start, end, shares, ended}
+use Rattle.mesh.specs.Lines.{Mesh, Direction, upright, level, number, side, other, mesh, freshMesh, draws, inRange, start, end, shares, ended}
 use Rattle.mesh.specs.Blends.{cutter, isCut}
-use Rattle.mesh.specs.Order.{Uncut, Coarser}
-use Rattle.mesh.proofs.Tests.{either, true-not-false, and-both, and-of, or-either, or-left, or-right, any-at, any-of, only-mem, each-mem, cond-true, cond-false}
+use Rattle.mesh.specs.Order.{Coarser}
+use Rattle.mesh.proofs.Tests.{either, true-not-false, and-both, and-of, or-either, or-left, or-right, any-at, any-of, only-mem, each-mem}
 use Rattle.mesh.proofs.Cuts.{RiseB, cutter-none, cutter-cuts}
-use Rattle.mesh.proofs.Order.{cut-or-not, uncut-of, finer-cuts}
+use Rattle.mesh.proofs.Order.{finer-cuts}
 use Rattle.mesh.proofs.Live.{proper-rises}
 use Rattle.mesh.proofs.SoundMaps.{live-proper}
-use Rattle.mesh.proofs.Refining.{some-line, no-line}
+use Rattle.mesh.proofs.Refining.{some-line}
 use Rattle.maps.specs.Plain.{Plain, meshOf, blends}
 use Rattle.maps.specs.Splits.{withLine, soundWith, given, exactNumber, reaching, run, containing, candidate, chosen}
 use Rattle.maps.proofs.InHand.{given-says}

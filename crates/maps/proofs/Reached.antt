@@ -2,18 +2,16 @@
 use Prim.Native.Nat.{ℕ, zero, suc, _+_, _≤_, _<_, _%_}
 use native.Mathlib.Omega.{arith}
 use native.Mathlib.Nat.{mod-lt}
-use mathlib.Core.Path.{_≡_, refl, sym, ap, subst, _∙_}
+use mathlib.Core.Path.{_≡_, refl}
 use mathlib.Core.Logic.{⊎-elim}
-use mathlib.Core.Bool.{Bool, true, false, cond, _&&_}
-use mathlib.Core.List.{List, [], _∷_, _++_, List·Memᴰ, List·Memᴰ·cases-cons, List·Memᴰ·not-nil}
+use mathlib.Core.Bool.{Bool, true, false, cond}
+use mathlib.Core.List.{List, [], _∷_, List·Memᴰ, List·Memᴰ·cases-cons, List·Memᴰ·not-nil}
 use borrow.Author.Tests.{eqb-true, leb-true}
-use lib.Dec.{leb, ltb, eqb}
+use lib.Dec.{leb, ltb}
 use lib.ListN.{length, replicate}
 use Rattle.mesh.specs.declared.Split.{Split}
 use Rattle.mesh.specs.Lines.{allowedSide}
-use Rattle.mesh.specs.Blends.{firstFour}
-use Rattle.mesh.specs.Sound.{sound}
-use Rattle.mesh.proofs.Tests.{either, and-both}
+use Rattle.mesh.proofs.Tests.{and-both}
 use Rattle.mesh.proofs.Fresh.{fresh-live, fresh-sound}
 use Rattle.maps.specs.Plain.{Plain, freshPlain, blends}
 use Rattle.maps.specs.Values.{inDomain, placeOf}
@@ -23,7 +21,7 @@ use Rattle.maps.specs.Calls.{setPlain}
 use Rattle.maps.specs.Histories.{Call, set, exact, lengthened, place, reads, weighs, sameAs, Outcome, firstDrawn, byMachine, ending}
 use Rattle.maps.specs.Demand.{Start, fresh}
 use Rattle.maps.proofs.InHand.{exact-says}
-use Rattle.maps.proofs.Good.{Holds, replays-stands, fresh-holds, set-holds, drawn-holds}
+use Rattle.maps.proofs.Good.{Holds, fresh-holds, set-holds, drawn-holds}
 use Rattle.maps.proofs.Readings.{Valued, set-valued, drawn-valued}
 use Rattle.maps.proofs.Longest.{chosen-exact}
 

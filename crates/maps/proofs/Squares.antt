@@ -1,18 +1,17 @@
 -- The live blends of a sound map over each unit square, and their sum at each point, in the words of the demand.
-use Prim.Native.Nat.{ℕ, _+_, _*_, _≤_, _<_}
+use Prim.Native.Nat.{ℕ, _+_, _<_}
 use native.Mathlib.Omega.{arith}
-use mathlib.Core.Path.{_≡_, refl}
+use mathlib.Core.Path.{_≡_}
 use mathlib.Core.Logic.{⊎-elim}
-use mathlib.Core.Bool.{Bool, true, false}
+use mathlib.Core.Bool.{Bool, true}
 use mathlib.Core.List.{List, [], _∷_, List·Memᴰ}
-use lib.ListN.{length}
 use Rattle.mesh.specs.declared.Blend.{Blend}
 use Rattle.mesh.specs.Range.{only}
 use Rattle.mesh.specs.Sound.{overSquare}
-use Rattle.mesh.proofs.Tests.{either, true-not-false, only-mem, mem-only}
+use Rattle.mesh.proofs.Tests.{either, only-mem, mem-only}
 use Rattle.mesh.proofs.Distinct.{Distinct}
 use Rattle.mesh.proofs.Weights.{weight-den}
-use Rattle.mesh.proofs.SoundMaps.{live-proper, live-distinct, weights-add-up, four-positive}
+use Rattle.mesh.proofs.SoundMaps.{live-distinct, weights-add-up, four-positive}
 use Rattle.maps.specs.Plain.{Plain, meshOf, blends}
 use Rattle.maps.specs.Demand.{weightThere, Inside, Apart, FourIn, AddUp}
 use Rattle.maps.proofs.Readings.{Valued, blends-proper}

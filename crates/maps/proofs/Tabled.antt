@@ -1,19 +1,17 @@
 -- The blends that the table calls give: those that the map holds, and no others.
-use Prim.Native.Nat.{ℕ, zero, suc, _+_, _-_, _≤_, _<_}
+use Prim.Native.Nat.{ℕ, _≤_, _<_}
 use native.Mathlib.Omega.{arith}
-use mathlib.Core.Path.{_≡_, refl, sym, ap, subst, _∙_}
-use mathlib.Core.Logic.{⊎-elim}
-use mathlib.Core.Bool.{Bool, true, false, cond}
-use mathlib.Core.List.{List, [], _∷_}
-use borrow.Author.Tests.{ltb-true, ltb-false, lt-ltb, le-ltb}
+use mathlib.Core.Path.{_≡_, sym, ap, _∙_}
+use mathlib.Core.Bool.{cond}
+use mathlib.Core.List.{List}
+use borrow.Author.Tests.{lt-ltb, le-ltb}
 use lib.Dec.{ltb}
-use lib.IntN.{ℤ, pos, sucℤ, predℤ, suc-pred}
+use lib.IntN.{pos, sucℤ, predℤ, suc-pred}
 use lib.ListN.{length, getD}
 use lib.Seq.{ext-getD}
-use Rattle.mesh.specs.declared.Triple.{Triple}
 use Rattle.mesh.specs.declared.Blend.{Blend}
 use Rattle.mesh.specs.Sound.{none}
-use Rattle.mesh.proofs.Tests.{either, cond-true, cond-false}
+use Rattle.mesh.proofs.Tests.{cond-true, cond-false}
 use Rattle.maps.specs.declared.Map.{Map}
 use Rattle.maps.specs.declared.Shape.{Shape}
 use Rattle.maps.specs.declared.Placed.{Placed}
