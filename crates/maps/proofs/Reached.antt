@@ -1,18 +1,16 @@
 -- What holds of a map wherever a history is: it stays so through every call.
-use Prim.Native.Nat.{ℕ, zero, suc, _+_, _≤_, _<_, _%_}
+use Prim.Native.Nat.{ℕ, zero, suc, _+_, _<_, _%_}
 use native.Mathlib.Omega.{arith}
 use native.Mathlib.Nat.{mod-lt}
 use mathlib.Core.Path.{_≡_, refl}
 use mathlib.Core.Logic.{⊎-elim}
 use mathlib.Core.Bool.{Bool, true, false, cond}
 use mathlib.Core.List.{List, [], _∷_, List·Memᴰ, List·Memᴰ·cases-cons, List·Memᴰ·not-nil}
-use borrow.Author.Tests.{eqb-true, leb-true}
-use lib.Dec.{leb, ltb}
+use borrow.Author.Tests.{eqb-true}
+use lib.Dec.{ltb}
 use lib.ListN.{length, replicate}
 use Rattle.mesh.specs.declared.Split.{Split}
 use Rattle.mesh.specs.Lines.{allowedSide}
-use Rattle.mesh.proofs.Tests.{and-both}
-use Rattle.mesh.proofs.Fresh.{fresh-live, fresh-sound}
 use Rattle.maps.specs.Plain.{Plain, freshPlain, blends}
 use Rattle.maps.specs.Values.{inDomain, placeOf}
 use Rattle.maps.specs.Splits.{given, exactNumber, chosen, drawn}
@@ -20,8 +18,8 @@ use Rattle.maps.specs.Record.{good}
 use Rattle.maps.specs.Calls.{setPlain}
 use Rattle.maps.specs.Histories.{Call, set, exact, lengthened, place, reads, weighs, sameAs, Outcome, firstDrawn, byMachine, ending}
 use Rattle.maps.specs.Demand.{Start, fresh}
-use Rattle.maps.proofs.InHand.{exact-says}
-use Rattle.maps.proofs.Good.{Holds, fresh-holds, set-holds, drawn-holds}
+use Rattle.maps.proofs.InHand.{exact-says, hand-sides, hand-fresh}
+use Rattle.maps.proofs.Good.{Holds, replays-stands, fresh-holds, set-holds, drawn-holds}
 use Rattle.maps.proofs.Readings.{Valued, set-valued, drawn-valued}
 use Rattle.maps.proofs.Longest.{chosen-exact}
 
@@ -30,26 +28,26 @@ pub record Reached (P : Plain) : Type 0 where
   pub holds : Holds P
   pub valued : Valued P
 
-side-range : (s : ℕ) → allowedSide s ≡ true → (1 ≤ s) × (s ≤ 128)
-side-range s e = let p = and-both (leb 1 s) (leb s 128) e in (leb-true 1 s (p .0), leb-true s 128 (p .1))
-
-pub fresh-reached : (w h : ℕ) → allowedSide w ≡ true → allowedSide h ≡ true → Reached (freshPlain w h)
-unfolding freshPlain
-fresh-reached w h a b =
-    let x = side-range w a in
-    let y = side-range h b in
-    let four = fresh-live w h (x .0) (y .0) (y .1) in
+-- Of a map that a good record may hold, only that the values are small is left to show;
+pub holds-reached : (P : Plain) → Holds P → ((v : ℕ) → List·Memᴰ v (P .values) → v < 65536) → Reached P
+holds-reached P holds small =
+    let sides = hand-sides (hand-fresh (P .w) (P .h) (holds .lines .across) (holds .lines .up)) in
     record {
-      holds = fresh-holds w h a b;
+      holds = holds;
       valued =
           record {
-            wide = x;
-            tall = y;
-            is-sound = rw four (fresh-sound w h (x .0) (y .0));
-            counted = fresh-holds w h a b .counted;
-            small = λ v m. zeros 4 v m;
+            wide = sides .across;
+            tall = sides .up;
+            is-sound = replays-stands (holds .lines) .is-sound;
+            counted = holds .counted;
+            small = small;
           };
     }
+
+-- in a fresh map they are 0.
+pub fresh-reached : (w h : ℕ) → allowedSide w ≡ true → allowedSide h ≡ true → Reached (freshPlain w h)
+unfolding freshPlain
+fresh-reached w h a b = holds-reached (freshPlain w h) (fresh-holds w h a b) (zeros 4)
   where
     zeros : (n v : ℕ) → List·Memᴰ v (replicate n 0) → v < 65536
     zeros zero v m = absurd (List·Memᴰ·not-nil m)

@@ -108,29 +108,30 @@ meshBy P cs = mesh (P .w) (P .h) (P .splits ++ linesOf P cs)
 
 -- The demand on a list of calls, of a map that holds P at its start.
 pub record DemandFrom (P : Plain) (cs : List Call) : Type 0 where
-  -- "Compared at each call are the number, every part of the answer, and the map handed back or left, which must be the record of what the
-  -- machine holds."
+  -- 1. At every call the number, every part of the answer and the map handed back or left are those of the plain machine, the map being "the
+  -- record of what the machine holds"; and so is the map after the list.
   pub same-outcomes : outcomes byLibrary (recordOf P) cs ≡ map recorded (outcomes byMachine P cs)
   pub same-left : leftBy P cs ≡ recordOf (ending byMachine P cs)
   -- "A history's blends are the live blends, as the table calls give them after the list."
   pub blends : List Blend
   pub are-tabled : Tabled (leftBy P cs) blends
-  -- For each unit square of the domain exactly four of them are positive throughout its inside, every other one nowhere in it.
+  -- 2. After the list, for each unit square of the domain exactly four of the table's blends are positive throughout its inside, the same four
+  -- at all of it, every other one nowhere in it, fractional points included.
   pub four-in : (x y : ℕ) → x < P .w → y < P .h → FourIn blends x y
-  -- At every point of the domain, edges included, they add up to exactly one.
+  -- 3. At every point of the domain with fractional coordinates, edges included, the blends that the table calls give add up to exactly one.
   pub add-up : AddUp (P .w) (P .h) blends
-  -- Every accepted split, wherever it stands, leaves readings at old anchors alone, raises none and lowers none by more than one.
+  -- 4. Every accepted split in the list, wherever it stands, leaves the reading call's answer at every old anchor alone, raises none at a whole
+  -- point and lowers none by more than one: the map just before it against the map just after.
   pub gentle : (earlier : List Call) (c : Call) (later : List Call) → cs ≡ earlier ++ c ∷ later → IsSplit c →
       let m = leftBy P earlier in byLibrary m c .answer ≡ number 0 → Gentle m (byLibrary m c .next)
-  -- The record left holds the history's lines.
+  -- 5. Any two lists on equal sides whose lines cover the same points end with the same blends: "Two histories' lines cover the same points when
+  -- every unit step along a line of either lies on a line of the other." The record left after a list holds its lines.
   pub are-lines : plain (leftBy P cs) .splits ≡ P .splits ++ linesOf P cs
-  -- "Two histories' lines cover the same points when every unit step along a line of either lies on a line of the other": two such, on
-  -- equal sides, end with the same blends.
   pub same-blends : (Q : Plain) → Start Q → Q .w ≡ P .w → Q .h ≡ P .h → (ds : List Call) →
       Coarser (meshBy P cs) (meshBy Q ds) → Coarser (meshBy Q ds) (meshBy P cs) →
       (bs : List Blend) → Tabled (leftBy Q ds) bs → bs ≡ blends
 
--- Demand 3, of a list of calls on a map of sides w and h: the fresh map is made, and the list starts from it.
+-- Demand 3, of a list of calls on a map of sides w and h: "A history starts from the fresh map of sides W and H."
 pub record Demand3 (w h : ℕ) (cs : List Call) : Type 0 where
   pub made : freshMap w h ≡ changed 0 (recordOf (freshPlain w h))
   pub holds : DemandFrom (freshPlain w h) cs
