@@ -15,3 +15,6 @@ pub mod Tabled
 pub mod Squares
 pub mod Gentle
 pub mod Demand3
+pub mod Index
+pub mod Recording
+pub mod Agreeing

@@ -19,7 +19,9 @@ use mesh::Lines;
 use mesh::Split;
 use mesh::Table;
 ghost use mathlib.Core.Path.{_≡_};
-ghost use mathlib.Core.Bool.{true};
+ghost use mathlib.Core.Bool.{true, _&&_};
+ghost use Prim.Native.Nat.{ℕ, _<_};
+ghost use lib.Dec.{leb};
 ghost use Rattle.maps.specs.Record.{good, plain, recordOf};
 ghost use Rattle.maps.specs.Splits.{drawn, soundWith};
 ghost use Rattle.maps.specs.Plain.{blends};
@@ -66,9 +68,19 @@ fn no_weights(number: usize) -> Weights
     }
 }
 
+// Whether the point (u, v) lies in the domain of these sides.
+fn in_domain(w: usize, h: usize, u: usize, v: usize) -> bool
+    ensures { λ r. ⌜ r ≡ (leb u w && leb v h) ⌝ }
+{
+    if w < u {
+        return false;
+    }
+    v <= h
+}
+
 // The map with a line drawn that leaves it sound.
 fn with_line(map: Map, old: Table, s: Split, new: Table) -> Map
-    requires { ⌜ (good map ≡ true) × (soundWith (plain map) s ≡ true) × (old ≡ table (blends (plain map))) ×
+    requires { ⌜ (good map ≡ true) × (map .count < 60) × (soundWith (plain map) s ≡ true) × (old ≡ table (blends (plain map))) ×
         (new ≡ table (blends (drawn (plain map) s))) ⌝ }
     ensures { λ r. ⌜ r ≡ recordOf (drawn (plain map) s) ⌝ }
 {
@@ -94,7 +106,14 @@ impl Map {
             };
         }
         let live = opened.table;
-        if 128 < m || 128 < n {
+        // An anchor lies within the sides, so that its knots fit.
+        if Map::LARGEST_SIDE < m {
+            return Changed {
+                number: 9,
+                map: self,
+            };
+        }
+        if Map::LARGEST_SIDE < n {
             return Changed {
                 number: 9,
                 map: self,
@@ -154,7 +173,7 @@ impl Map {
                 litres: 0,
             };
         }
-        if self.w < u || self.h < v {
+        if !in_domain(self.w, self.h, u, v) {
             return Reading {
                 number: 10,
                 litres: 0,
@@ -176,7 +195,7 @@ impl Map {
         if !opened.good {
             return no_weights(2);
         }
-        if self.w < u || self.h < v {
+        if !in_domain(self.w, self.h, u, v) {
             return no_weights(10);
         }
         let live = opened.table;
