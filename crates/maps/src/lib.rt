@@ -2,6 +2,7 @@
 mod calls;
 mod carry;
 mod record;
+mod sameness;
 mod splits;
 mod values;
 
