@@ -1,83 +1,35 @@
 -- Demand 3 of the product holds of every list of calls.
-use Prim.Native.Nat.{ℕ, _+_, _%_}
+use Prim.Native.Nat.{ℕ, _+_}
 use native.Mathlib.Omega.{arith}
 use mathlib.Core.Path.{_≡_, refl, sym, ap, ap₂, subst, _∙_}
 use mathlib.Core.Logic.{⊎-elim}
 use mathlib.Core.Bool.{true, cond}
-use mathlib.Core.List.{List, [], _∷_, _++_, append-assoc, append-nil}
+use mathlib.Core.List.{List, [], _∷_, _++_}
 use borrow.Author.Tests.{eqb-true, eqb-false}
-use lib.Dec.{ltb, eqb}
-use lib.ListN.{length, take}
+use lib.Dec.{eqb}
 use Rattle.mesh.specs.declared.Split.{Split}
-use Rattle.mesh.specs.Range.{only}
 use Rattle.mesh.specs.Lines.{allowedSide}
 use Rattle.mesh.specs.Blends.{live}
 use Rattle.mesh.specs.Order.{Coarser}
 use Rattle.mesh.proofs.Tests.{either, and-of, same-test, cond-true}
 use Rattle.mesh.proofs.Order.{same-steps}
 use Rattle.maps.specs.Plain.{Plain, freshPlain, blends}
-use Rattle.maps.specs.Values.{inDomain, placeOf}
-use Rattle.maps.specs.Splits.{given, exactNumber, containing, candidate, chosen, drawn}
-use Rattle.maps.specs.Record.{recordOf, plain, good}
-use Rattle.maps.specs.Calls.{freshMap, setPlain}
-use Rattle.maps.specs.Histories.{Call, set, exact, lengthened, place, reads, weighs, sameAs, number, Outcome, outcome, firstDrawn, byLibrary, byMachine, ending}
-use Rattle.maps.specs.Demand.{leftBy, Tabled, Gentle, IsSplit, exact-split, lengthened-split, lineOf, linesOf, meshBy, DemandFrom, Demand3}
+use Rattle.maps.specs.Splits.{given, exactNumber, chosen, drawn}
+use Rattle.maps.specs.Record.{recordOf, plain}
+use Rattle.maps.specs.Calls.{freshMap}
+use Rattle.maps.specs.Histories.{Call, number, Outcome, outcome, firstDrawn, byLibrary, byMachine, ending}
+use Rattle.maps.specs.Demand.{leftBy, Tabled, Gentle, IsSplit, exact-split, lengthened-split, linesOf, meshBy, DemandFrom, Demand3}
 use Rattle.maps.proofs.Good.{record-good}
 use Rattle.maps.proofs.Longest.{chosen-exact}
-use Rattle.maps.proofs.Reached.{Reached, fresh-reached, start-reached, by-test, ending-reached}
+use Rattle.maps.proofs.Reached.{Reached, fresh-reached, start-reached, ending-leads}
 use Rattle.maps.proofs.Following.{step-follows, outcomes-follow, ending-follows}
 use Rattle.maps.proofs.Tabled.{tabled-once, holds-tabled}
 use Rattle.maps.proofs.Squares.{valued-four, valued-sum}
 use Rattle.maps.proofs.Gentle.{split-gentle}
 
--- Sides stay, and some splits come after those that were there.
-record Drew (P : Plain) (lines : List Split) (Q : Plain) : Type 0 where
-  wide : Q .w ≡ P .w
-  tall : Q .h ≡ P .h
-  more : Q .splits ≡ P .splits ++ lines
-
-module _ (P : Plain) where
-  drew-none : Drew P [] P
-  drew-none = record { wide = refl; tall = refl; more = sym (append-nil (P .splits)) }
-
-  drew-set : (i j v : ℕ) → Drew P [] (setPlain P i j v)
-  unfolding setPlain
-  drew-set i j v = record { wide = refl; tall = refl; more = sym (append-nil (P .splits)) }
-
-  drew-one : (s : Split) → Drew P (s ∷ []) (drawn P s)
-  unfolding drawn
-  drew-one s = record { wide = refl; tall = refl; more = refl }
-
-  drew-first : (cs : List Split) → Drew P (take 1 cs) (firstDrawn P (take 1 cs) .next)
-  drew-first [] = drew-none
-  drew-first (c ∷ cs) = drew-one c
-
-  -- a call draws its line
-  step-drew : (c : Call) → Drew P (lineOf P c) (byMachine P c .next)
-  unfolding chosen
-  step-drew (set i j v) = by-test (Drew P []) (ltb (placeOf (blends P) (i + 1) (j + 1)) (length (blends P))) _ _ (λ e. drew-set i j (v % 65536)) (λ e. drew-none)
-  step-drew (exact s) = by-test (Drew P _) (eqb (exactNumber P s) 0) _ _ (λ e. rw e (drew-one s)) (λ e. rw e drew-none)
-  step-drew (lengthened s) = by-test (Drew P _) (eqb (given P s) 0) _ _ (λ e. rw e (drew-first (only (candidate P) (containing P s)))) (λ e. rw e drew-none)
-  step-drew (place i) = by-test (Drew P []) (ltb i (length (blends P))) _ _ (λ e. drew-none) (λ e. drew-none)
-  step-drew (reads u v) = by-test (Drew P []) (inDomain P u v) _ _ (λ e. drew-none) (λ e. drew-none)
-  step-drew (weighs u v) = by-test (Drew P []) (inDomain P u v) _ _ (λ e. drew-none) (λ e. drew-none)
-  step-drew (sameAs m) = by-test (Drew P []) (good m) _ _ (λ e. drew-none) (λ e. drew-none)
-
--- and a list of calls its lines
-ending-drew : (cs : List Call) (P : Plain) → Drew P (linesOf P cs) (ending byMachine P cs)
-ending-drew [] P = drew-none P
-ending-drew (c ∷ cs) P =
-    let first = step-drew P c in
-    let rest = ending-drew cs (byMachine P c .next) in
-    record {
-      wide = rest .wide ∙ first .wide;
-      tall = rest .tall ∙ first .tall;
-      more = rest .more ∙ ap (λ (l : List Split). l ++ linesOf (byMachine P c .next) cs) (first .more) ∙ append-assoc (P .splits) _ _;
-    }
-
--- so its blends are those of its lines
-ending-blends : (cs : List Call) (P : Plain) → blends (ending byMachine P cs) ≡ live (P .w) (P .h) (meshBy P cs)
-ending-blends cs P = let d = ending-drew cs P in rw (d .wide, d .tall, d .more)
+-- The blends after a list of calls are those of its lines.
+ending-blends : (cs : List Call) (P : Plain) → Reached P → blends (ending byMachine P cs) ≡ live (P .w) (P .h) (meshBy P cs)
+ending-blends cs P at = let l = ending-leads cs P at in rw (l .wide, l .tall, l .more)
 
 -- An accepted split draws a line that is accepted as an exact split,
 module _ (P : Plain) (at : Reached P) where
@@ -110,41 +62,41 @@ module _ (P : Plain) (at : Reached P) where
 -- A list of calls, from a map that was reached:
 module _ (P : Plain) (at : Reached P) (cs : List Call) where
   end : Reached (ending byMachine P cs)
-  end = ending-reached cs P at
+  end = ending-leads cs P at .reached
 
   end-tabled : Tabled (leftBy P cs) (blends (ending byMachine P cs))
   end-tabled = rw (ending-follows cs P at) (holds-tabled (ending byMachine P cs) (end .holds))
 
   end-lines : plain (leftBy P cs) .splits ≡ P .splits ++ linesOf P cs
-  end-lines = rw (ending-follows cs P at, record-good (end .holds) .1) (ending-drew cs P .more)
+  end-lines = rw (ending-follows cs P at, record-good (end .holds) .1) (ending-leads cs P at .more)
 
   any-gentle : (c : Call) → IsSplit c → let m = leftBy P cs in byLibrary m c .answer ≡ number 0 → Gentle m (byLibrary m c .next)
   any-gentle c i = rw (ending-follows cs P at, step-follows (ending byMachine P cs) end c) (accepted-gentle (ending byMachine P cs) end c i)
 
 -- lists whose lines cover the same points end with the same blends
-same-lines : (P Q : Plain) (cs ds : List Call) → Q .w ≡ P .w → Q .h ≡ P .h → Coarser (meshBy P cs) (meshBy Q ds) → Coarser (meshBy Q ds) (meshBy P cs) →
+same-lines : (P Q : Plain) → Reached P → Reached Q → (cs ds : List Call) → Q .w ≡ P .w → Q .h ≡ P .h → Coarser (meshBy P cs) (meshBy Q ds) → Coarser (meshBy Q ds) (meshBy P cs) →
     blends (ending byMachine Q ds) ≡ blends (ending byMachine P cs)
-same-lines P Q cs ds wide tall f g =
-    ending-blends ds Q ∙ ap₂ (λ (w h : ℕ). live w h (meshBy Q ds)) wide tall ∙
-    same-steps (P .w) (P .h) (meshBy Q ds) (meshBy P cs) (λ d z k. same-test _ _ (g d z k) (f d z k)) ∙ sym (ending-blends cs P)
+same-lines P Q at from cs ds wide tall f g =
+    ending-blends ds Q from ∙ ap₂ (λ (w h : ℕ). live w h (meshBy Q ds)) wide tall ∙
+    same-steps (P .w) (P .h) (meshBy Q ds) (meshBy P cs) (λ d z k. same-test _ _ (g d z k) (f d z k)) ∙ sym (ending-blends cs P at)
 
 -- The demand holds of it,
 pub reached-demand : (P : Plain) → Reached P → (cs : List Call) → DemandFrom P cs
 reached-demand P at cs =
     let Q = ending byMachine P cs in
-    let ok = end P at cs in
-    let drew = ending-drew cs P in
+    let leads = ending-leads cs P at in
     record {
       same-outcomes = outcomes-follow cs P at;
       same-left = ending-follows cs P at;
       blends = blends Q;
       are-tabled = end-tabled P at cs;
-      four-in = λ x y hx hy. valued-four Q (ok .valued) x y (rw (drew .wide) hx) (rw (drew .tall) hy);
-      add-up = λ p q d pos hp hq. valued-sum Q (ok .valued) p q d pos (rw (drew .wide) hp) (rw (drew .tall) hq);
+      four-in = λ x y hx hy. valued-four Q (leads .reached .valued) x y (rw (leads .wide) hx) (rw (leads .tall) hy);
+      add-up = λ p q d pos hp hq. valued-sum Q (leads .reached .valued) p q d pos (rw (leads .wide) hp) (rw (leads .tall) hq);
       gentle = λ earlier c later e i. any-gentle P at earlier c i;
       are-lines = end-lines P at cs;
       same-blends = λ R start wide tall ds f g bs tabled.
-          tabled-once tabled (end-tabled R (start-reached R start) ds) ∙ same-lines P R cs ds wide tall f g;
+          let from = start-reached R start in
+          tabled-once tabled (end-tabled R from ds) ∙ same-lines P R at from cs ds wide tall f g;
     }
 
 -- and so of every list on a fresh map.

@@ -18,7 +18,7 @@ use Rattle.maps.specs.Sameness.{sameness}
 use Rattle.maps.specs.Histories.{Call, set, exact, lengthened, place, reads, weighs, sameAs, Answer, number, placed, read, weighed, told, Outcome, outcome, byLibrary, firstDrawn, byMachine, outcomes, ending}
 use Rattle.maps.specs.Demand.{leftBy, recorded}
 use Rattle.maps.proofs.Good.{record-good}
-use Rattle.maps.proofs.Reached.{Reached, step-reached}
+use Rattle.maps.proofs.Reached.{Reached, step-leads}
 
 -- an outcome made of a call's number and map, of one of two by a test
 changed-by : (b : Bool) (x y : Changed) (p q : Outcome Plain) →
@@ -57,8 +57,8 @@ module _ (P : Plain) (at : Reached P) where
 pub outcomes-follow : (cs : List Call) (P : Plain) → Reached P → outcomes byLibrary (recordOf P) cs ≡ map recorded (outcomes byMachine P cs)
 outcomes-follow [] P at = refl
 outcomes-follow (c ∷ cs) P at =
-    rw (step-follows P at c) (ap (λ (l : List (Outcome Map)). recorded (byMachine P c) ∷ l) (outcomes-follow cs (byMachine P c .next) (step-reached P at c)))
+    rw (step-follows P at c) (ap (λ (l : List (Outcome Map)). recorded (byMachine P c) ∷ l) (outcomes-follow cs (byMachine P c .next) (step-leads P at c .reached)))
 
 pub ending-follows : (cs : List Call) (P : Plain) → Reached P → leftBy P cs ≡ recordOf (ending byMachine P cs)
 ending-follows [] P at = refl
-ending-follows (c ∷ cs) P at = rw (step-follows P at c) (ending-follows cs (byMachine P c .next) (step-reached P at c))
+ending-follows (c ∷ cs) P at = rw (step-follows P at c) (ending-follows cs (byMachine P c .next) (step-leads P at c .reached))

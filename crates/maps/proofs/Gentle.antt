@@ -25,7 +25,7 @@ use Rattle.maps.proofs.Exact.{entry}
 use Rattle.maps.proofs.InHand.{exact-says}
 use Rattle.maps.proofs.Good.{Holds, record-good}
 use Rattle.maps.proofs.Readings.{blends-proper, drawn-reading, drawn-anchor}
-use Rattle.maps.proofs.Reached.{Reached, drawn-reached}
+use Rattle.maps.proofs.Reached.{Reached, drawn-leads}
 use Rattle.maps.proofs.Tabled.{place-listed, place-none}
 
 -- what a reading answers, on the record of a map
@@ -54,7 +54,7 @@ module _ (P : Plain) (at : Reached P) (s : Split) (accepted : exactNumber P s �
   still = exact-says P s accepted .1
 
   after : Holds (drawn P s)
-  after = drawn-reached P at s accepted .holds
+  after = drawn-leads P at s accepted .reached .holds
 
   same-domain : (u v : ℕ) → inDomain (drawn P s) u v ≡ inDomain P u v
   unfolding drawn

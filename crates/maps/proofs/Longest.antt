@@ -25,7 +25,7 @@ use Rattle.maps.specs.Splits.{withLine, soundWith, given, exactNumber, r
 use Rattle.maps.proofs.InHand.{given-says}
 use Rattle.maps.proofs.Longer.{line, reaching-fits, ends-in}
 
--- A blend that a line cuts is cut, and a finer mesh cuts what a coarser one cuts.
+-- A finer mesh cuts what a coarser one cuts.
 module _ (M N : Mesh) (finer : Coarser M N) (B : Blend) (h : RiseB B) where
   cut-still : (d : Direction) → not (eqb (cutter M d B) 0) ≡ true → isCut N B ≡ true
   cut-still d e =
@@ -117,6 +117,7 @@ first-passes test xs c cs e = only-mem test xs c (first (only test xs) e)
     first [] e = let z : _≡_ {A = ℕ} 0 1 = cc in absurd (omega arith)
     first (y ∷ ys) e = let same : c ≡ y = cc in List·Memᴰ.List·Memᴰ·head same
 
+-- The line that a lengthened split takes passes every check of an exact one: it contains the given line, so it cuts what that cuts.
 pub chosen-exact : (P : Plain) → 1 ≤ P .w → 1 ≤ P .h → (s c : Split) (cs : List Split) → given P s ≡ 0 → chosen P s ≡ c ∷ cs →
     exactNumber P c ≡ 0
 unfolding chosen candidate exactNumber given
