@@ -80,7 +80,7 @@ module _ (P : Plain) (s : Split) where
       ap (λ (xs : List Split). first (xs ++ more)) (cond-true _ _ _ (le-leb _ _ le)) ∙ ap (take 1) (cond-true _ _ _ ok)
 
 -- a line in range keeps to its ranges with other ends within the side that it runs along
-reaching-fits : (P : Plain) (s : Split) (from n : ℕ) → inRange (P .w) (P .h) s ≡ true → 0 < n → from + n ≤ run P s →
+pub reaching-fits : (P : Plain) (s : Split) (from n : ℕ) → inRange (P .w) (P .h) s ≡ true → 0 < n → from + n ≤ run P s →
     inRange (P .w) (P .h) (reaching s from n) ≡ true
 unfolding inRange
 reaching-fits P s from n e lo hi =

@@ -3,5 +3,8 @@ pub mod Values
 pub mod Splits
 pub mod Record
 pub mod Calls
+pub mod Sameness
+pub mod Histories
+pub mod Demand
 pub mod Inner
 pub mod Cases

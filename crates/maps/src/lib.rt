@@ -2,6 +2,7 @@
 mod calls;
 mod carry;
 mod record;
+mod sameness;
 mod splits;
 mod values;
 
@@ -112,4 +113,10 @@ pub struct Weight {
 pub struct Weights {
     pub number: usize,
     pub entries: [Weight; 4],
+}
+
+// A number, and whether two maps are the same.
+pub struct Same {
+    pub number: usize,
+    pub yes: bool,
 }

@@ -1,0 +1,106 @@
+-- Demand 3 of the product holds of every list of calls.
+use Prim.Native.Nat.{ℕ, _+_}
+use native.Mathlib.Omega.{arith}
+use mathlib.Core.Path.{_≡_, refl, sym, ap, ap₂, subst, _∙_}
+use mathlib.Core.Logic.{⊎-elim}
+use mathlib.Core.Bool.{true, cond}
+use mathlib.Core.List.{List, [], _∷_, _++_}
+use borrow.Author.Tests.{eqb-true, eqb-false}
+use lib.Dec.{eqb}
+use Rattle.mesh.specs.declared.Split.{Split}
+use Rattle.mesh.specs.Lines.{allowedSide}
+use Rattle.mesh.specs.Blends.{live}
+use Rattle.mesh.specs.Order.{Coarser}
+use Rattle.mesh.proofs.Tests.{either, and-of, same-test, cond-true}
+use Rattle.mesh.proofs.Order.{same-steps}
+use Rattle.maps.specs.Plain.{Plain, freshPlain, blends}
+use Rattle.maps.specs.Splits.{given, exactNumber, chosen, drawn}
+use Rattle.maps.specs.Record.{recordOf, plain}
+use Rattle.maps.specs.Calls.{freshMap}
+use Rattle.maps.specs.Histories.{Call, number, Outcome, outcome, firstDrawn, byLibrary, byMachine, ending}
+use Rattle.maps.specs.Demand.{leftBy, Tabled, Gentle, IsSplit, exact-split, lengthened-split, linesOf, meshBy, DemandFrom, Demand3}
+use Rattle.maps.proofs.Good.{record-good}
+use Rattle.maps.proofs.Longest.{chosen-exact}
+use Rattle.maps.proofs.Reached.{Reached, fresh-reached, start-reached, ending-leads}
+use Rattle.maps.proofs.Following.{step-follows, outcomes-follow, ending-follows}
+use Rattle.maps.proofs.Tabled.{tabled-once, holds-tabled}
+use Rattle.maps.proofs.Squares.{valued-four, valued-sum}
+use Rattle.maps.proofs.Gentle.{split-gentle}
+
+-- The blends after a list of calls are those of its lines.
+ending-blends : (cs : List Call) (P : Plain) → Reached P → blends (ending byMachine P cs) ≡ live (P .w) (P .h) (meshBy P cs)
+ending-blends cs P at = let l = ending-leads cs P at in rw (l .wide, l .tall, l .more)
+
+-- An accepted split draws a line that is accepted as an exact split,
+module _ (P : Plain) (at : Reached P) where
+  number-zero : (n : ℕ) (x : Outcome Plain) → let o = cond (eqb n 0) x (outcome (number n) P) in o .answer ≡ number 0 → (n ≡ 0) × (o ≡ x)
+  number-zero n x e =
+      ⊎-elim (λ t. (eqb-true n 0 t, cond-true _ _ _ t)) (λ f. let q : number n ≡ number 0 = rw f at e in absurd (eqb-false n 0 f (cc)))
+      (either (eqb n 0))
+
+  abbrev Accepts : Outcome Plain → Type 0
+  Accepts o = (s : Split) × (exactNumber P s ≡ 0) × (o .next ≡ drawn P s)
+
+  first-accepts : (s : Split) → given P s ≡ 0 → (cs : List Split) → chosen P s ≡ cs → firstDrawn P cs .answer ≡ number 0 → Accepts (firstDrawn P cs)
+  first-accepts s e [] q a = absurd (let z : _≡_ {A = ℕ} 8 0 = cc in omega arith)
+  first-accepts s e (c ∷ cs) q a = (c, chosen-exact P (at .valued .wide .0) (at .valued .tall .0) s c cs e q, refl)
+
+  split-accepts : (c : Call) → IsSplit c → byMachine P c .answer ≡ number 0 → Accepts (byMachine P c)
+  split-accepts c (exact-split s) e =
+      let r = number-zero (exactNumber P s) (outcome (number 0) (drawn P s)) e in (s, r .0, ap (λ (o : Outcome Plain). o .next) (r .1))
+  split-accepts c (lengthened-split s) e =
+      let r = number-zero (given P s) (firstDrawn P (chosen P s)) e in
+      let f = first-accepts s (r .0) (chosen P s) refl (sym (ap (λ (o : Outcome Plain). o .answer) (r .1)) ∙ e) in
+      (f .0, f .1, ap (λ (o : Outcome Plain). o .next) (r .1) ∙ f .2)
+
+  -- and so does to readings what such a split does.
+  accepted-gentle : (c : Call) → IsSplit c → byMachine P c .answer ≡ number 0 → Gentle (recordOf P) (recordOf (byMachine P c .next))
+  accepted-gentle c i e =
+      let r = split-accepts c i e in
+      subst (λ (N : Plain). Gentle (recordOf P) (recordOf N)) (sym (r .2)) (split-gentle P at (r .0) (r .1))
+
+-- A list of calls, from a map that was reached:
+module _ (P : Plain) (at : Reached P) (cs : List Call) where
+  end : Reached (ending byMachine P cs)
+  end = ending-leads cs P at .reached
+
+  end-tabled : Tabled (leftBy P cs) (blends (ending byMachine P cs))
+  end-tabled = rw (ending-follows cs P at) (holds-tabled (ending byMachine P cs) (end .holds))
+
+  end-lines : plain (leftBy P cs) .splits ≡ P .splits ++ linesOf P cs
+  end-lines = rw (ending-follows cs P at, record-good (end .holds) .1) (ending-leads cs P at .more)
+
+  any-gentle : (c : Call) → IsSplit c → let m = leftBy P cs in byLibrary m c .answer ≡ number 0 → Gentle m (byLibrary m c .next)
+  any-gentle c i = rw (ending-follows cs P at, step-follows (ending byMachine P cs) end c) (accepted-gentle (ending byMachine P cs) end c i)
+
+-- lists whose lines cover the same points end with the same blends
+same-lines : (P Q : Plain) → Reached P → Reached Q → (cs ds : List Call) → Q .w ≡ P .w → Q .h ≡ P .h → Coarser (meshBy P cs) (meshBy Q ds) → Coarser (meshBy Q ds) (meshBy P cs) →
+    blends (ending byMachine Q ds) ≡ blends (ending byMachine P cs)
+same-lines P Q at from cs ds wide tall f g =
+    ending-blends ds Q from ∙ ap₂ (λ (w h : ℕ). live w h (meshBy Q ds)) wide tall ∙
+    same-steps (P .w) (P .h) (meshBy Q ds) (meshBy P cs) (λ d z k. same-test _ _ (g d z k) (f d z k)) ∙ sym (ending-blends cs P at)
+
+-- The demand holds of it,
+pub reached-demand : (P : Plain) → Reached P → (cs : List Call) → DemandFrom P cs
+reached-demand P at cs =
+    let Q = ending byMachine P cs in
+    let leads = ending-leads cs P at in
+    record {
+      same-outcomes = outcomes-follow cs P at;
+      same-left = ending-follows cs P at;
+      blends = blends Q;
+      are-tabled = end-tabled P at cs;
+      four-in = λ x y hx hy. valued-four Q (leads .reached .valued) x y (rw (leads .wide) hx) (rw (leads .tall) hy);
+      add-up = λ p q d pos hp hq. valued-sum Q (leads .reached .valued) p q d pos (rw (leads .wide) hp) (rw (leads .tall) hq);
+      gentle = λ earlier c later e i. any-gentle P at earlier c i;
+      are-lines = end-lines P at cs;
+      same-blends = λ R start wide tall ds f g bs tabled.
+          let from = start-reached R start in
+          tabled-once tabled (end-tabled R from ds) ∙ same-lines P R at from cs ds wide tall f g;
+    }
+
+-- and so of every list on a fresh map.
+pub demand-three : (w h : ℕ) → allowedSide w ≡ true → allowedSide h ≡ true → (cs : List Call) → Demand3 w h cs
+unfolding freshMap
+demand-three w h a b cs =
+    record { made = cond-true _ _ _ (and-of _ _ a b); holds = reached-demand (freshPlain w h) (fresh-reached w h a b) cs }

@@ -1,0 +1,52 @@
+-- The live blends of a sound map over each unit square, and their sum at each point, in the words of the demand.
+use Prim.Native.Nat.{ℕ, _+_, _<_}
+use native.Mathlib.Omega.{arith}
+use mathlib.Core.Path.{_≡_}
+use mathlib.Core.Logic.{⊎-elim}
+use mathlib.Core.Bool.{Bool, true}
+use mathlib.Core.List.{List, [], _∷_, List·Memᴰ}
+use Rattle.mesh.specs.declared.Blend.{Blend}
+use Rattle.mesh.specs.Range.{only}
+use Rattle.mesh.specs.Sound.{overSquare}
+use Rattle.mesh.proofs.Tests.{either, only-mem, mem-only}
+use Rattle.mesh.proofs.Distinct.{Distinct}
+use Rattle.mesh.proofs.Weights.{weight-den}
+use Rattle.mesh.proofs.SoundMaps.{live-distinct, weights-add-up, four-positive}
+use Rattle.maps.specs.Plain.{Plain, meshOf, blends}
+use Rattle.maps.specs.Demand.{weightThere, Inside, Apart, FourIn, AddUp}
+use Rattle.maps.proofs.Readings.{Valued, blends-proper}
+
+-- some of different blends are different
+only-apart : (test : Blend → Bool) (bs : List Blend) → Distinct bs → Apart (only test bs)
+only-apart test [] d = tt
+only-apart test (B ∷ bs) d =
+    ⊎-elim (λ e. rw e (λ m. d .0 (only-mem test bs B m .0), only-apart test bs (d .1))) (λ e. rw e (only-apart test bs (d .1)))
+    (either (test B))
+
+module _ (P : Plain) (valued : Valued P) where
+  pub valued-four : (x y : ℕ) → x < P .w → y < P .h → FourIn (blends P) x y
+  valued-four x y hx hy =
+      let w = P .w in
+      let h = P .h in
+      let over = overSquare (x + 1) (y + 1) in
+      let f = four-positive w h (valued .wide .0) (valued .tall .0) (meshOf P) (valued .is-sound) x y hx hy in
+      let some : (B : Blend) → List·Memᴰ B (only over (blends P)) → List·Memᴰ B (blends P) × (over B ≡ true) = only-mem over (blends P) in
+      record {
+        four = only over (blends P);
+        count = f .0;
+        apart = only-apart over (blends P) (live-distinct w h (valued .wide .0) (valued .tall .0) (meshOf P));
+        of-these = λ B m. some B m .0;
+        positive = λ B m p q d i.
+            (f .1 B (some B m .0) p q d (i .left) (i .right) (i .bottom) (i .top) .0 (some B m .1), den B (some B m .0) p q d i);
+        others = λ B m out p q d i.
+            (none _ (λ pos. out (mem-only over (blends P) B m (f .1 B m p q d (i .left) (i .right) (i .bottom) (i .top) .1 pos))), den B m p q d i);
+      }
+    where
+      none : (n : ℕ) → (0 < n → ⊥) → n ≡ 0
+      none n not = omega arith
+
+      den : (B : Blend) → List·Memᴰ B (blends P) → (p q d : ℕ) → Inside x y p q d → 0 < weightThere B p q d .den
+      den B m p q d i = weight-den (P .w) (P .h) B (blends-proper P valued B m) (p + d) (q + d) d (omega arith)
+
+  pub valued-sum : AddUp (P .w) (P .h) (blends P)
+  valued-sum = weights-add-up (P .w) (P .h) (valued .wide .0) (valued .tall .0) (meshOf P) (valued .is-sound)

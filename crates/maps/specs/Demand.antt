@@ -1,0 +1,137 @@
+-- Demand 3 of the product: one claim about a whole list of calls, in the words of document 01, "Histories".
+use Prim.Native.Nat.{ℕ, _+_, _*_, _≤_, _<_}
+use mathlib.Core.Path.{_≡_}
+use mathlib.Core.Bool.{true, cond}
+use mathlib.Core.List.{List, [], _∷_, _++_, map, List·Memᴰ}
+use lib.Dec.{eqb}
+use lib.IntN.{pos}
+use lib.ListN.{length, getD}
+use Rattle.mesh.specs.declared.Split.{Split}
+use Rattle.mesh.specs.declared.Blend.{Blend}
+use Rattle.mesh.specs.Triple.{Fraction}
+use Rattle.mesh.specs.Lines.{Mesh, mesh, allowedSide}
+use Rattle.mesh.specs.Order.{Coarser}
+use Rattle.mesh.specs.Sound.{none}
+use Rattle.mesh.specs.Weight.{weight, total}
+use Rattle.maps.specs.declared.Map.{Map}
+use Rattle.maps.specs.Plain.{Plain, freshPlain}
+use Rattle.maps.specs.Splits.{given, exactNumber, chosen}
+use Rattle.maps.specs.Record.{recordOf, plain}
+use Rattle.maps.specs.Calls.{changed, freshMap, shape, tablePlace, reading}
+use Rattle.maps.specs.Histories.{Call, set, exact, lengthened, place, reads, weighs, sameAs, number, Outcome, outcome, byLibrary, byMachine, outcomes, ending}
+
+-- "A history starts from the fresh map of sides W and H": what the map holds at the start of a list.
+pub data Start : Plain → Type 0 where
+  fresh : (w h : ℕ) → allowedSide w ≡ true → allowedSide h ≡ true → Start (freshPlain w h)
+
+-- the map that a list of calls leaves; and a machine's outcome, with the record of what it holds
+abbrev pub leftBy : Plain → List Call → Map
+leftBy P cs = ending byLibrary (recordOf P) cs
+
+abbrev pub recorded : Outcome Plain → Outcome Map
+recorded o = outcome (o .answer) (recordOf (o .next))
+
+-- "A history's blends are the live blends, as the table calls give them after the list": place i answers 0 with the i-th blend, and 9 from
+-- their count on.
+pub record Tabled (m : Map) (bs : List Blend) : Type 0 where
+  pub listed : (i : ℕ) → i < length bs → (tablePlace m i .number ≡ 0) × (tablePlace m i .blend ≡ shape (getD bs i none))
+  pub no-more : (i : ℕ) → length bs ≤ i → tablePlace m i .number ≡ 9
+
+-- a blend's weight at the point (p / d, q / d), which is one further on in knots
+abbrev pub weightThere : Blend → ℕ → ℕ → ℕ → Fraction
+weightThere B p q d = weight B (p + d) (q + d) d
+
+-- "A blend is positive where its weight is above 0."
+abbrev pub Positive : Fraction → Type 0
+Positive x = (0 < x .num) × (0 < x .den)
+
+abbrev pub Nothing : Fraction → Type 0
+Nothing x = (x .num ≡ 0) × (0 < x .den)
+
+-- "The inside of a unit square is strictly between its sides, fractional points included": the point (p / d, q / d), in that at (x, y)
+pub record Inside (x y p q d : ℕ) : Type 0 where
+  pub left : x * d < p
+  pub right : p < (x + 1) * d
+  pub bottom : y * d < q
+  pub top : q < (y + 1) * d
+
+-- no blend stands twice
+abbrev pub Apart : List Blend → Type 0
+Apart [] = Unit
+Apart (B ∷ bs) = (List·Memᴰ B bs → ⊥) × Apart bs
+
+-- "the same four blends are positive at all of it, every other one nowhere in it"
+pub record FourIn (bs : List Blend) (x y : ℕ) : Type 0 where
+  pub four : List Blend
+  pub count : length four ≡ 4
+  pub apart : Apart four
+  pub of-these : (B : Blend) → List·Memᴰ B four → List·Memᴰ B bs
+  pub positive : (B : Blend) → List·Memᴰ B four → (p q d : ℕ) → Inside x y p q d → Positive (weightThere B p q d)
+  pub others : (B : Blend) → List·Memᴰ B bs → (List·Memᴰ B four → ⊥) → (p q d : ℕ) → Inside x y p q d → Nothing (weightThere B p q d)
+
+-- the blends add up to exactly one at each point (p / d, q / d) of the domain: "Points of the domain may lie on its edge."
+abbrev pub AddUp : ℕ → ℕ → List Blend → Type 0
+AddUp w h bs =
+    (p q d : ℕ) → 0 < d → p ≤ w * d → q ≤ h * d →
+    let sum = total (map (λ (B : Blend). weightThere B p q d) bs) in (sum .num ≡ sum .den) × (0 < sum .den)
+
+-- "A reading is the answer of the reading call, on the map just before the split and just after it; an old anchor is one of the map just
+-- before." At an old anchor the answer stays; at no whole point is a reading raised, or lowered by more than one.
+pub record Gentle (before after : Map) : Type 0 where
+  pub anchors : (i : ℕ) → tablePlace before i .number ≡ 0 →
+      (u : ℕ) × (v : ℕ) × (tablePlace before i .blend .m ≡ pos u) × (tablePlace before i .blend .n ≡ pos v) ×
+      (reading before u v .number ≡ 0) × (reading after u v ≡ reading before u v)
+  pub numbers : (u v : ℕ) → reading after u v .number ≡ reading before u v .number
+  pub not-raised : (u v : ℕ) → reading after u v .litres ≤ reading before u v .litres
+  pub lowered : (u v : ℕ) → reading before u v .litres ≤ reading after u v .litres + 1
+
+pub data IsSplit : Call → Type 0 where
+  exact-split : (s : Split) → IsSplit (exact s)
+  lengthened-split : (s : Split) → IsSplit (lengthened s)
+
+-- "The lines of a history are the fresh map's and those of its accepted splits, as drawn or as lengthened, run out and joined."
+abbrev pub lineOf : Plain → Call → List Split
+lineOf P (exact s) = cond (eqb (exactNumber P s) 0) (s ∷ []) []
+lineOf P (lengthened s) = cond (eqb (given P s) 0) (chosen P s) []
+lineOf P (set i j v) = []
+lineOf P (place i) = []
+lineOf P (reads u v) = []
+lineOf P (weighs u v) = []
+lineOf P (sameAs m) = []
+
+abbrev pub linesOf : Plain → List Call → List Split
+linesOf P [] = []
+linesOf P (c ∷ cs) = lineOf P c ++ linesOf (byMachine P c .next) cs
+
+abbrev pub meshBy : Plain → List Call → Mesh
+meshBy P cs = mesh (P .w) (P .h) (P .splits ++ linesOf P cs)
+
+-- The demand on a list of calls, of a map that holds P at its start.
+pub record DemandFrom (P : Plain) (cs : List Call) : Type 0 where
+  -- 1. At every call the number, every part of the answer and the map handed back or left are those of the plain machine, the map being "the
+  -- record of what the machine holds"; and so is the map after the list.
+  pub same-outcomes : outcomes byLibrary (recordOf P) cs ≡ map recorded (outcomes byMachine P cs)
+  pub same-left : leftBy P cs ≡ recordOf (ending byMachine P cs)
+  -- "A history's blends are the live blends, as the table calls give them after the list."
+  pub blends : List Blend
+  pub are-tabled : Tabled (leftBy P cs) blends
+  -- 2. After the list, for each unit square of the domain exactly four of the table's blends are positive throughout its inside, the same four
+  -- at all of it, every other one nowhere in it, fractional points included.
+  pub four-in : (x y : ℕ) → x < P .w → y < P .h → FourIn blends x y
+  -- 3. At every point of the domain with fractional coordinates, edges included, the blends that the table calls give add up to exactly one.
+  pub add-up : AddUp (P .w) (P .h) blends
+  -- 4. Every accepted split in the list, wherever it stands, leaves the reading call's answer at every old anchor alone, raises none at a whole
+  -- point and lowers none by more than one: the map just before it against the map just after.
+  pub gentle : (earlier : List Call) (c : Call) (later : List Call) → cs ≡ earlier ++ c ∷ later → IsSplit c →
+      let m = leftBy P earlier in byLibrary m c .answer ≡ number 0 → Gentle m (byLibrary m c .next)
+  -- 5. Any two lists on equal sides whose lines cover the same points end with the same blends: "Two histories' lines cover the same points when
+  -- every unit step along a line of either lies on a line of the other." The record left after a list holds its lines.
+  pub are-lines : plain (leftBy P cs) .splits ≡ P .splits ++ linesOf P cs
+  pub same-blends : (Q : Plain) → Start Q → Q .w ≡ P .w → Q .h ≡ P .h → (ds : List Call) →
+      Coarser (meshBy P cs) (meshBy Q ds) → Coarser (meshBy Q ds) (meshBy P cs) →
+      (bs : List Blend) → Tabled (leftBy Q ds) bs → bs ≡ blends
+
+-- Demand 3, of a list of calls on a map of sides w and h: "A history starts from the fresh map of sides W and H."
+pub record Demand3 (w h : ℕ) (cs : List Call) : Type 0 where
+  pub made : freshMap w h ≡ changed 0 (recordOf (freshPlain w h))
+  pub holds : DemandFrom (freshPlain w h) cs

@@ -1,0 +1,90 @@
+-- Document 01, "Histories": lists of calls on one map, and the plain machine.
+use Prim.Native.Nat.{ℕ, _+_, _%_}
+use mathlib.Core.Bool.{Bool, true, false, cond, not}
+use mathlib.Core.List.{List, [], _∷_, map}
+use lib.Dec.{ltb, eqb}
+use lib.ListN.{length, getD}
+use Rattle.mesh.specs.declared.Split.{Split}
+use Rattle.mesh.specs.declared.Blend.{Blend}
+use Rattle.mesh.specs.Sound.{none}
+use Rattle.maps.specs.declared.Map.{Map}
+use Rattle.maps.specs.declared.Changed.{Changed}
+use Rattle.maps.specs.declared.Placed.{Placed}
+use Rattle.maps.specs.declared.Reading.{Reading}
+use Rattle.maps.specs.declared.Weights.{Weights}
+use Rattle.maps.specs.declared.Same.{Same}
+use Rattle.maps.specs.Plain.{Plain, freshPlain, blends}
+use Rattle.maps.specs.Values.{readingAt, inDomain, over, placeOf}
+use Rattle.maps.specs.Splits.{given, exactNumber, chosen, drawn}
+use Rattle.maps.specs.Record.{plain, good}
+use Rattle.maps.specs.Calls.{freshMap, setPlain, setValue, shape, noShape, tablePlace, reading, weightOver, noWeights, weights, exactSplit, lengthenedSplit}
+use Rattle.maps.specs.Sameness.{samePlain, sameness}
+
+-- A call on a map. A value is a 16-bit number: what is left of the given one by 65,536.
+pub data Call : Type 0 where
+  set : ℕ → ℕ → ℕ → Call
+  exact lengthened : Split → Call
+  place : ℕ → Call
+  reads weighs : ℕ → ℕ → Call
+  sameAs : Map → Call
+
+-- What a call answers, beside the map that it hands back or leaves: its number and every other part.
+pub data Answer : Type 0 where
+  number : ℕ → Answer
+  placed : Placed → Answer
+  read : Reading → Answer
+  weighed : Weights → Answer
+  told : Same → Answer
+
+-- a call's answer, and the map, or what it holds, for the next call
+pub record Outcome (State : Type 0) : Type 0 where
+  pub answer : Answer
+  pub next : State
+
+abbrev pub outcome : {State : Type 0} → Answer → State → Outcome State
+outcome a s = record { answer = a; next = s }
+
+-- The calls of the library: each step is the definition that the call's public contract cites.
+abbrev pub byLibrary : Map → Call → Outcome Map
+byLibrary m (set i j v) = let r = setValue m i j (v % 65536) in outcome (number (r .number)) (r .map)
+byLibrary m (exact s) = let r = exactSplit m s in outcome (number (r .number)) (r .map)
+byLibrary m (lengthened s) = let r = lengthenedSplit m s in outcome (number (r .number)) (r .map)
+byLibrary m (place i) = outcome (placed (tablePlace m i)) m
+byLibrary m (reads u v) = outcome (read (reading m u v)) m
+byLibrary m (weighs u v) = outcome (weighed (weights m u v)) m
+byLibrary m (sameAs other) = outcome (told (sameness m other)) m
+
+-- The plain machine: it holds what the record of a map holds, and refuses or answers by the rules, its live blends always cut anew.
+abbrev pub firstDrawn : Plain → List Split → Outcome Plain
+firstDrawn P [] = outcome (number 8) P
+firstDrawn P (c ∷ cs) = outcome (number 0) (drawn P c)
+
+abbrev pub byMachine : Plain → Call → Outcome Plain
+byMachine P (set i j v) =
+    cond (ltb (placeOf (blends P) (i + 1) (j + 1)) (length (blends P))) (outcome (number 0) (setPlain P i j (v % 65536)))
+    (outcome (number 9) P)
+byMachine P (exact s) =
+    cond (eqb (exactNumber P s) 0) (outcome (number 0) (drawn P s)) (outcome (number (exactNumber P s)) P)
+byMachine P (lengthened s) = cond (eqb (given P s) 0) (firstDrawn P (chosen P s)) (outcome (number (given P s)) P)
+byMachine P (place i) =
+    cond (ltb i (length (blends P)))
+    (outcome (placed (record { number = 0; blend = shape (getD (blends P) i none); value = getD (P .values) i 0 })) P)
+    (outcome (placed (record { number = 9; blend = noShape; value = 0 })) P)
+byMachine P (reads u v) =
+    cond (inDomain P u v) (outcome (read (record { number = 0; litres = readingAt (blends P) (P .values) u v })) P)
+    (outcome (read (record { number = 10; litres = 0 })) P)
+byMachine P (weighs u v) =
+    cond (inDomain P u v) (outcome (weighed (record { number = 0; entries = map (weightOver (P .w) (P .h) u v) (over P u v) })) P)
+    (outcome (weighed (noWeights 10)) P)
+byMachine P (sameAs other) =
+    cond (good other) (outcome (told (record { number = 0; yes = samePlain P (plain other) })) P)
+    (outcome (told (record { number = 2; yes = false })) P)
+
+-- a history: each call gets what the last one handed back or left; the outcomes in order, and what is left in the end
+abbrev pub outcomes : {State : Type 0} → (State → Call → Outcome State) → State → List Call → List (Outcome State)
+outcomes step s [] = []
+outcomes step s (c ∷ cs) = step s c ∷ outcomes step (step s c .next) cs
+
+abbrev pub ending : {State : Type 0} → (State → Call → Outcome State) → State → List Call → State
+ending step s [] = s
+ending step s (c ∷ cs) = ending step (step s c .next) cs

@@ -1,0 +1,28 @@
+-- Document 01: "Two maps are the same when sides, live blends and values agree."
+use Prim.Native.Nat.{ℕ}
+use mathlib.Core.Bool.{Bool, true, false, cond, _&&_, not}
+use mathlib.Core.List.{List, [], _∷_}
+use lib.Dec.{eqb}
+use Rattle.mesh.specs.declared.Blend.{Blend}
+use Rattle.mesh.specs.Blends.{same}
+use Rattle.maps.specs.declared.Map.{Map}
+use Rattle.maps.specs.declared.Same.{Same}
+use Rattle.maps.specs.Plain.{Plain, blends}
+use Rattle.maps.specs.Record.{plain, good}
+
+-- whether two lists agree entry by entry, by a test of two entries
+abbrev pub agree {ℓ} : {A : Type ℓ} → (A → A → Bool) → List A → List A → Bool
+agree test [] [] = true
+agree test [] (y ∷ ys) = false
+agree test (x ∷ xs) [] = false
+agree test (x ∷ xs) (y ∷ ys) = test x y && agree test xs ys
+
+unfoldable pub samePlain : Plain → Plain → Bool
+samePlain P Q =
+    eqb (P .w) (Q .w) && eqb (P .h) (Q .h) && agree same (blends P) (blends Q) && agree eqb (P .values) (Q .values)
+
+-- Are two maps the same: 2 where either record is not good, and then "no".
+unfoldable pub sameness : Map → Map → Same
+sameness a b =
+    cond (good a && good b) (record { number = 0; yes = samePlain (plain a) (plain b) })
+    (record { number = 2; yes = false })
