@@ -19,9 +19,9 @@ use Rattle.mesh.specs.declared.Triple.{Triple}
 use Rattle.mesh.specs.declared.Blend.{Blend}
 use Rattle.mesh.proofs.Tests.{either, true-not-false, and-both, and-of, or-either, or-left, or-right, any-at, mem-only}
 use Rattle.mesh.proofs.Triples.{Knots}
-use Rattle.mesh.proofs.Order.{OnLine, comes-on-lines, firstFour-rises}
-use Rattle.mesh.proofs.Places.{Rises, proper-facts}
-use Rattle.mesh.proofs.Fresh.{First, is-low, is-high, first-four, first-crossed, fresh-positions}
+use Rattle.mesh.proofs.Order.{OnLine, comes-on-lines}
+use Rattle.mesh.proofs.Cuts.{proper-facts}
+use Rattle.mesh.proofs.Fresh.{First, is-low, is-high, first-four, firstFour-rises, fresh-positions}
 use Rattle.mesh.proofs.Few.{few, square-of-sum, mem-map}
 use Rattle.mesh.proofs.SoundMaps.{live-left, live-proper, live-distinct, own-anchors}
 

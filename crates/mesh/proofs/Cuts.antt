@@ -6,22 +6,51 @@ use mathlib.Core.Logic.{_⊎_, inl, inr, ⊎-elim}
 use mathlib.Core.Bool.{Bool, true, false, cond}
 use borrow.Author.Tests.{eqb-true, eqb-false, ltb-true, ltb-false}
 use lib.Dec.{eqb, ltb}
-use Rattle.mesh.specs.Triple.{Side, half, inside}
+use Rattle.mesh.specs.Triple.{Side, half, inside, rising, sameTriple}
 use Rattle.mesh.specs.Lines.{Direction, upright, level, other, Mesh}
-use Rattle.mesh.specs.Blends.{blend, crossed, along, coversBlend, cuts, halve, below, above, nearest, cutter, size}
+use Rattle.mesh.specs.Blends.{blend, crossed, along, coversBlend, cuts, halve, below, above, nearest, cutter, size, same}
+use Rattle.mesh.specs.Sound.{proper}
+use Rattle.mesh.specs.Bytes.{ProperIn}
 use Rattle.mesh.specs.declared.Triple.{Triple}
 use Rattle.mesh.specs.declared.Blend.{Blend}
 use Rattle.mesh.proofs.Tests.{either, true-not-false, false-of, and-both, and-of, every-at, every-of}
-use Rattle.mesh.proofs.Triples.{Rise, Inside, inside-fact, inside-test, Within, within-refl, within-trans, half-rises, half-within, half-narrower, Knots, half-knots, keeps-middle, From, whole, part, cut-again, cut-once}
+use Rattle.mesh.proofs.Triples.{Rise, rising-facts, rising-of, rise-of, rises-wider, Inside, inside-fact, inside-test, Within, within-refl, within-trans, rises-within, same-triple, triple-same, half-rises, half-within, half-narrower, Knots, half-knots, keeps-middle, From, whole, part, cut-again, cut-once}
 
 -- both triples rise
 pub record RiseB (B : Blend) : Type 0 where
   pub across : Rise (B .across)
   pub up : Rise (B .up)
 
+-- so do those of a proper blend, within the knots of its sides
+pub proper-facts : (w h : ℕ) (B : Blend) → proper w h B ≡ true → ProperIn w h B
+proper-facts w h B e =
+    let b = and-both (rising w (B .across)) (rising h (B .up)) e in
+    record { across = rising-facts w (B .across) (b .0); up = rising-facts h (B .up) (b .1) }
+
+pub proper-of : (w h : ℕ) (B : Blend) → ProperIn w h B → proper w h B ≡ true
+proper-of w h B p = and-of _ _ (rising-of w (B .across) (p .across)) (rising-of h (B .up) (p .up))
+
+pub riseB-of : {w h : ℕ} {B : Blend} → ProperIn w h B → RiseB B
+riseB-of p = record { across = rise-of (p .across); up = rise-of (p .up) }
+
+pub proper-rises : (w h : ℕ) (B : Blend) → proper w h B ≡ true → RiseB B
+proper-rises w h B e = riseB-of (proper-facts w h B e)
+
+pub proper-wider : {w h wide high : ℕ} {B : Blend} → w ≤ wide → h ≤ high → ProperIn w h B → ProperIn wide high B
+proper-wider lw lh p = record { across = rises-wider lw (p .across); up = rises-wider lh (p .up) }
+
 pub crossed-rises : (d : Direction) (B : Blend) → RiseB B → Rise (crossed d B)
 crossed-rises upright B h = h .across
 crossed-rises level B h = h .up
+
+-- the test of equal blends is equality
+pub same-blend : (A B : Blend) → same A B ≡ true → A ≡ B
+same-blend A B e =
+    let b = and-both (sameTriple (A .across) (B .across)) (sameTriple (A .up) (B .up)) e in
+    λ i. record { across = same-triple (A .across) (B .across) (b .0) i; up = same-triple (A .up) (B .up) (b .1) i }
+
+pub blend-same : (A B : Blend) → A ≡ B → same A B ≡ true
+blend-same A B p = rw (← p) (and-of _ _ (triple-same (A .across)) (triple-same (A .up)))
 
 -- a rising blend's support is not empty
 pub size-positive : (B : Blend) → RiseB B → 0 < size B
@@ -37,6 +66,10 @@ withinB-refl B = record { across = within-refl (B .across); up = within-refl (B 
 
 pub withinB-trans : {B C D : Blend} → WithinB B C → WithinB C D → WithinB B D
 withinB-trans p q = record { across = within-trans (p .across) (q .across); up = within-trans (p .up) (q .up) }
+
+pub proper-within : {w h : ℕ} {B C : Blend} → ProperIn w h B → RiseB C → WithinB B C → ProperIn w h C
+proper-within p r s =
+    record { across = rises-within (p .across) (r .across) (s .across); up = rises-within (p .up) (r .up) (s .up) }
 
 pub crossed-within : (d : Direction) {B C : Blend} → WithinB B C → Within (crossed d B) (crossed d C)
 crossed-within upright w = w .across
@@ -77,6 +110,10 @@ pub halve-within : (d : Direction) (s : Side) (z : ℕ) (B : Blend) → RiseB B 
 unfolding halve
 halve-within upright s z B h i = record { across = half-within s z (B .across) (h .across) i; up = within-refl (B .up) }
 halve-within level s z B h i = record { across = within-refl (B .across); up = half-within s z (B .up) (h .up) i }
+
+pub halve-proper : {w h : ℕ} (d : Direction) (s : Side) (z : ℕ) (B : Blend) → ProperIn w h B → Inside z (crossed d B) →
+    ProperIn w h (halve d s z B)
+halve-proper d s z B p i = proper-within p (halve-rises d s z B (riseB-of p) i) (halve-within d s z B (riseB-of p) i)
 
 pub halve-smaller : (d : Direction) (s : Side) (z : ℕ) (B : Blend) → RiseB B → Inside z (crossed d B) → size (halve d s z B) < size B
 unfolding halve
@@ -119,7 +156,7 @@ halves-commute upright-level s u y z B = refl
 halves-commute level-upright s u y z B = refl
 
 -- B with another triple for its crossed one, as a cut of the direction makes it
-abbrev put : Direction → Blend → Triple → Blend
+abbrev pub put : Direction → Blend → Triple → Blend
 put upright B t = blend t (B .up)
 put level B t = blend (B .across) t
 
@@ -145,7 +182,7 @@ from-put : (M : Mesh) (d : Direction) (y : ℕ) (B : Blend) (t X : Triple) → C
 from-put M d y B t X f (whole e) = wholeB (ap (put d B) e)
 from-put M d y B t X f (part v i e) = partB v (cut-put M d B y t i f) (ap (put d B) e ∙ sym (halve-put d B v y t))
 
-halve-own : (d : Direction) (B : Blend) (s : Side) (z : ℕ) → put d B (half s z (crossed d B)) ≡ halve d s z B
+pub halve-own : (d : Direction) (B : Blend) (s : Side) (z : ℕ) → put d B (half s z (crossed d B)) ≡ halve d s z B
 halve-own d B s z = sym (halve-put d B s z (crossed d B)) ∙ ap (halve d s z) (put-own d B)
 
 -- Two lines of one direction cut a blend, at y and at z. What the one at z leaves of a half by y, its halves or that half itself,

@@ -15,14 +15,14 @@ use Rattle.mesh.specs.Lines.{Mesh, Direction, upright, level, mesh, fres
 use Rattle.mesh.specs.Blends.{blend, same, once, leavesOf, inTableOrder, refine, live, firstFour, cuts, crossed, along}
 use Rattle.mesh.specs.Order.{Comes, Left, Uncut, here}
 use Rattle.mesh.specs.Sound.{proper, overSquare, fourEverywhere, noneNested, nested, sound}
-use Rattle.mesh.specs.Bytes.{at, place}
+use Rattle.mesh.specs.Bytes.{at, place, RisesIn}
 use Rattle.mesh.specs.declared.Triple.{Triple}
 use Rattle.mesh.specs.declared.Blend.{Blend}
 use Rattle.mesh.proofs.Tests.{either, true-not-false, and-both, and-of, or-either, false-of, every-of, all-of, only-all}
-use Rattle.mesh.proofs.Cuts.{Cut, cut-fact, RiseB}
-use Rattle.mesh.proofs.Order.{left-uncut, left-itself}
-use Rattle.mesh.proofs.Tables.{blend-same, once-mem, mem-once, once-distinct, order-mem, mem-order}
-use Rattle.mesh.proofs.Places.{ProperIn, Rises, rising-of}
+use Rattle.mesh.proofs.Triples.{low-rises, high-rises, between-fact}
+use Rattle.mesh.proofs.Cuts.{Cut, cut-fact, proper-of, proper-rises, blend-same}
+use Rattle.mesh.proofs.Order.{left-uncut, left-itself, Rising}
+use Rattle.mesh.proofs.Tables.{once-mem, mem-once, once-distinct, order-mem, mem-order}
 use Rattle.mesh.proofs.Ascending.{Ascending, OwnAnchors, order-ascending, ascending-unique}
 use Rattle.mesh.proofs.Live.{AllProper, refine-left, left-refine, refine-leaves}
 
@@ -31,9 +31,9 @@ pub data First (s : ℕ) : Triple → Type 0 where
   is-low : First s (low s)
   is-high : First s (high s)
 
-first-rises : (s : ℕ) → 1 ≤ s → (t : Triple) → First s t → Rises s t
-first-rises s h t is-low = record { low = omega arith; high = omega arith; most = omega arith }
-first-rises s h t is-high = record { low = omega arith; high = omega arith; most = omega arith }
+first-rises : (s : ℕ) → 1 ≤ s → (t : Triple) → First s t → RisesIn s t
+first-rises s h t is-low = low-rises s h
+first-rises s h t is-high = high-rises s h
 
 -- its ends and its middle are the fresh map's positions, none of which lies strictly inside but the middle
 first-uncut : (s z : ℕ) (t : Triple) → First s t → (z ≡ 0) ⊎ ((z ≡ 1) ⊎ ((z ≡ s + 1) ⊎ (z ≡ s + 2))) → t .l < z → z < t .r → (z ≡ t .m → ⊥) → ⊥
@@ -71,7 +71,10 @@ first-four w h B m =
 pub first-proper : (w h : ℕ) → 1 ≤ w → 1 ≤ h → AllProper w h (firstFour w h)
 first-proper w h hw hh B m =
     let f = first-four w h B m in
-    and-of _ _ (rising-of w (B .across) (first-rises w hw (B .across) (f .across))) (rising-of h (B .up) (first-rises h hh (B .up) (f .up)))
+    proper-of w h B (record { across = first-rises w hw (B .across) (f .across); up = first-rises h hh (B .up) (f .up) })
+
+pub firstFour-rises : (w h : ℕ) → 1 ≤ w → 1 ≤ h → Rising (firstFour w h)
+firstFour-rises w h hw hh B m = proper-rises w h B (first-proper w h hw hh B m)
 
 -- a fresh map's lines stand at four positions
 pub fresh-positions : (w h : ℕ) (d : Direction) (z k : ℕ) → mesh w h [] d z k ≡ true →
@@ -178,8 +181,8 @@ module _ (w h : ℕ) (hw : 1 ≤ w) (hh : 1 ≤ h) where
           let g = first-four w h C mC in
           let n = and-both (not (same B C) && between (B .across .m) (C .across)) (between (B .up .m) (C .up)) e in
           let m = and-both (not (same B C)) (between (B .across .m) (C .across)) (n .0) in
-          let a = and-both (ltb (C .across .l) (B .across .m)) (ltb (B .across .m) (C .across .r)) (m .1) in
-          let u = and-both (ltb (C .up .l) (B .up .m)) (ltb (B .up .m) (C .up .r)) (n .1) in
-          let p = first-apart w (B .across) (C .across) (f .across) (g .across) (ltb-true _ _ (a .0)) (ltb-true _ _ (a .1)) in
-          let q = first-apart h (B .up) (C .up) (f .up) (g .up) (ltb-true _ _ (u .0)) (ltb-true _ _ (u .1)) in
+          let a = between-fact (B .across .m) (C .across) (m .1) in
+          let u = between-fact (B .up .m) (C .up) (n .1) in
+          let p = first-apart w (B .across) (C .across) (f .across) (g .across) (a .0) (a .1) in
+          let q = first-apart h (B .up) (C .up) (f .up) (g .up) (u .0) (u .1) in
           true-not-false (same B C) (blend-same B C (λ i. record { across = p i; up = q i })) (not-true _ (m .0))

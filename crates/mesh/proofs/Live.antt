@@ -17,32 +17,18 @@ use Rattle.mesh.specs.Bytes.{place}
 use Rattle.mesh.specs.declared.Blend.{Blend}
 use Rattle.mesh.proofs.Tests.{either, true-not-false, and-both, and-of, false-of, all-at, cond-false, cond-true}
 use Rattle.mesh.proofs.Distinct.{Distinct}
-use Rattle.mesh.proofs.Cuts.{RiseB}
-use Rattle.mesh.proofs.Order.{cut-or-not, comes-rises, comes-within, Rising, LeftOf, SameMembers, leavesOf-left, left-leavesOf, any-order, finer-leaves, firstFour-rises}
-use Rattle.mesh.proofs.Tables.{same-blend, blend-same, once-mem, mem-once, once-distinct, order-mem, mem-order, order-distinct}
-use Rattle.mesh.proofs.Places.{ProperIn, proper-facts, proper-of, proper-anchored, overlap}
+pub use Rattle.mesh.proofs.Cuts.{proper-rises}
+use Rattle.mesh.proofs.Cuts.{proper-facts, proper-of, proper-within, same-blend, blend-same}
+use Rattle.mesh.proofs.Order.{cut-or-not, comes-rises, comes-within, Rising, LeftOf, SameMembers, leavesOf-left, left-leavesOf, finer-leaves}
+use Rattle.mesh.proofs.Tables.{once-mem, mem-once, once-distinct, order-mem, mem-order, order-distinct}
+use Rattle.mesh.proofs.Places.{proper-anchored, overlap}
 use Rattle.mesh.proofs.Ascending.{OwnAnchors, order-ascending, ascending-unique}
-
-pub proper-rises : (w h : ℕ) (B : Blend) → proper w h B ≡ true → RiseB B
-proper-rises w h B e =
-    let p = proper-facts w h B e in
-    record { across = record { low = p .across .low; high = p .across .high }; up = record { low = p .up .low; high = p .up .high } }
 
 -- what is left of a proper blend is proper
 pub left-proper : (w h : ℕ) (M : Mesh) (B C : Blend) → proper w h B ≡ true → Left M B C → proper w h C ≡ true
 left-proper w h M B C e l =
-    let p = proper-facts w h B e in
-    let r = comes-rises (proper-rises w h B e) (l .comes) in
-    let s = comes-within (proper-rises w h B e) (l .comes) in
-    let pa = p .across in
-    let pu = p .up in
-    let sa = s .across in
-    let su = s .up in
-    proper-of w h C
-    (record {
-      across = record { low = r .across .low; high = r .across .high; most = omega arith };
-      up = record { low = r .up .low; high = r .up .high; most = omega arith };
-    })
+    let r = proper-rises w h B e in
+    proper-of w h C (proper-within (proper-facts w h B e) (comes-rises r (l .comes)) (comes-within r (l .comes)))
 
 -- all of a list are proper
 abbrev pub AllProper : ℕ → ℕ → List Blend → Type 0

@@ -9,7 +9,7 @@ use borrow.Author.Tests.{eqb-true, eqb-false}
 use lib.Dec.{eqb}
 use Rattle.mesh.specs.Triple.{Side, lower, upper}
 use Rattle.mesh.specs.Lines.{Direction, upright, level, other, Mesh}
-use Rattle.mesh.specs.Blends.{crossed, along, cuts, halve, cutter, leaves, leavesOf, size, firstFour, live}
+use Rattle.mesh.specs.Blends.{crossed, along, cuts, halve, cutter, leaves, leavesOf, size, live}
 use Rattle.mesh.specs.Order.{Uncut, Comes, here, cut, Left, Step, replace, drop, Steps, done, step, Cutting, Coarser}
 use Rattle.mesh.specs.declared.Blend.{Blend}
 use Rattle.mesh.proofs.Tests.{either, true-not-false, joined-mem, mem-joined}
@@ -190,14 +190,6 @@ comes-on-lines {M} {B} d h k (cut e z s p r) =
 -- Lists: what is left of some blends.
 abbrev pub Rising : List Blend → Type 0
 Rising bs = (B : Blend) → List·Memᴰ B bs → RiseB B
-
-rising-more : (B : Blend) (bs : List Blend) → RiseB B → Rising bs → Rising (B ∷ bs)
-rising-more B bs h hs A m = ⊎-elim (λ e. subst RiseB (sym e) h) (hs A) (List·Memᴰ·cases-cons m)
-
-pub firstFour-rises : (w h : ℕ) → 0 < w → 0 < h → Rising (firstFour w h)
-firstFour-rises w h hw hh =
-    rising-more _ _ (omega arith)
-    (rising-more _ _ (omega arith) (rising-more _ _ (omega arith) (rising-more _ _ (omega arith) (λ B m. absurd (List·Memᴰ·not-nil m)))))
 
 abbrev pub LeftOf : Mesh → List Blend → Blend → Type 0
 LeftOf M bs C = (B : Blend) × List·Memᴰ B bs × Left M B C

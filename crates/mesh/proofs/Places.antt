@@ -6,48 +6,25 @@ use mathlib.Core.Logic.{_⊎_, inl, inr, ⊎-elim}
 use mathlib.Core.Bool.{Bool, true, false, cond, _&&_, not}
 use mathlib.Core.List.{List, [], _∷_, _++_, List·Memᴰ, List·Memᴰ·cases-cons, List·Memᴰ·not-nil}
 use mathlib.Core.List.List·Memᴰ.{List·Memᴰ·head, List·Memᴰ·tail}
-use borrow.Author.Tests.{not-true, eqb-true, eqb-false, eq-eqb, ne-eqb, ltb-true, leb-true, lt-ltb, le-leb}
-use lib.Dec.{eqb, ltb, leb}
+use borrow.Author.Tests.{not-true, eqb-true, eqb-false, eq-eqb, ne-eqb, ltb-true, lt-ltb}
+use lib.Dec.{eqb, ltb}
 use lib.ListN.{length, getD, set, length-set, length-replicate, getD-replicate}
 use lib.Seq.{getD-set-same, getD-set-other}
 use Rattle.mesh.specs.Range.{each, only, all}
-use Rattle.mesh.specs.Triple.{triple, rising, between}
+use Rattle.mesh.specs.Triple.{triple, between}
 use Rattle.mesh.specs.Blends.{blend, same, once, anchored, inTableOrder}
 use Rattle.mesh.specs.Sound.{proper, nested, noneNested, sound, fourEverywhere}
 use Rattle.mesh.specs.Bytes.{at, Square, place, packed, unpacked, keep, keepAll, empty, kept, walk, Holding}
+pub use Rattle.mesh.specs.Bytes.{ProperIn, RisesIn as Rises}
 use Rattle.mesh.specs.declared.Triple.{Triple}
 use Rattle.mesh.specs.declared.Blend.{Blend}
 use Rattle.mesh.proofs.Tests.{either, true-not-false, and-both, and-of, false-of, all-at, only-mem, mem-only, cond-true, cond-false}
 use Rattle.mesh.proofs.Distinct.{Distinct}
-use Rattle.mesh.proofs.Tables.{Anchored, anchored-at, same-blend, once-mem, mem-once, once-distinct, only-distinct, singleton, nothing, each-same, mem-order}
+pub use Rattle.mesh.proofs.Cuts.{proper-facts, proper-of}
+use Rattle.mesh.proofs.Cuts.{same-blend}
+use Rattle.mesh.proofs.Tables.{Anchored, anchored-at, once-mem, mem-once, once-distinct, only-distinct, singleton, nothing, each-same, mem-order}
 
--- the facts of `rising` and `proper`
-pub record Rises (side : ℕ) (t : Triple) : Type 0 where
-  pub low : t .l < t .m
-  pub high : t .m < t .r
-  pub most : t .r ≤ side + 2
-
-pub rising-facts : (side : ℕ) (t : Triple) → rising side t ≡ true → Rises side t
-rising-facts side t e =
-    let a = and-both (ltb (t .l) (t .m) && ltb (t .m) (t .r)) (leb (t .r) (side + 2)) e in
-    let b = and-both (ltb (t .l) (t .m)) (ltb (t .m) (t .r)) (a .0) in
-    record { low = ltb-true _ _ (b .0); high = ltb-true _ _ (b .1); most = leb-true _ _ (a .1) }
-
-pub rising-of : (side : ℕ) (t : Triple) → Rises side t → rising side t ≡ true
-rising-of side t r = rw (lt-ltb (t .l) (t .m) (r .low), lt-ltb (t .m) (t .r) (r .high), le-leb (t .r) (side + 2) (r .most))
-
-pub record ProperIn (w h : ℕ) (B : Blend) : Type 0 where
-  pub across : Rises w (B .across)
-  pub up : Rises h (B .up)
-
-pub proper-facts : (w h : ℕ) (B : Blend) → proper w h B ≡ true → ProperIn w h B
-proper-facts w h B e =
-    let b = and-both (rising w (B .across)) (rising h (B .up)) e in
-    record { across = rising-facts w (B .across) (b .0); up = rising-facts h (B .up) (b .1) }
-
-pub proper-of : (w h : ℕ) (B : Blend) → ProperIn w h B → proper w h B ≡ true
-proper-of w h B p = and-of _ _ (rising-of w (B .across) (p .across)) (rising-of h (B .up) (p .up))
-
+-- a proper blend's anchor lies in the domain
 pub proper-anchored : (w h : ℕ) (B : Blend) → ProperIn w h B → Anchored w h B
 proper-anchored w h B p =
     let a = p .across in

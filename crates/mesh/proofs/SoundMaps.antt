@@ -21,12 +21,11 @@ use Rattle.mesh.specs.declared.Split.{Split}
 use Rattle.mesh.specs.declared.Blend.{Blend}
 use Rattle.mesh.proofs.Tests.{either, true-not-false, and-both, and-of, or-either, false-of, every-at, any-at, only-mem}
 use Rattle.mesh.proofs.Distinct.{Distinct}
-use Rattle.mesh.proofs.Order.{cut-or-not, LeftOf, SameMembers, any-order, keeps-anchor, comes-trans, firstFour-rises, OnLine, comes-on-lines}
-use Rattle.mesh.proofs.Places.{ProperIn, Rises, proper-facts, proper-of, rising-of}
+use Rattle.mesh.proofs.Order.{cut-or-not, LeftOf, SameMembers, any-order, comes-trans}
 use Rattle.mesh.proofs.Ascending.{OwnAnchors}
 use Rattle.mesh.proofs.Live.{proper-rises, AllProper, refine-left, left-refine, refine-leaves, refine-proper, refine-distinct, sound-own, finer-answer, finer-table}
 use Rattle.mesh.proofs.Weights.{square-positive, own-anchor, other-anchor, Covered, CoveredTerms, reproduced, adds-up}
-use Rattle.mesh.proofs.Fresh.{first-proper}
+use Rattle.mesh.proofs.Fresh.{first-proper, firstFour-rises}
 use Rattle.mesh.proofs.Few.{few, square-of-sum}
 
 module _ (w h : ℕ) (hw : 1 ≤ w) (hh : 1 ≤ h) (M : Mesh) where

@@ -1,19 +1,50 @@
 -- One triple and positions on its axis: what a cut does, and that the order of two cuts does not matter. Nothing here knows how many axes there are.
-use Prim.Native.Nat.{ℕ, _-_, _≤_, _<_, min, max}
+use Prim.Native.Nat.{ℕ, _+_, _-_, _≤_, _<_, min, max}
 use native.Mathlib.Omega.{arith}
 use mathlib.Core.Path.{_≡_, refl, sym, subst}
 use mathlib.Core.Logic.{_⊎_, inl, inr, ⊎-elim}
-use mathlib.Core.Bool.{true, _&&_, not}
-use borrow.Author.Tests.{ltb-true, leb-true, leb-false, eqb-false, not-true, lt-ltb, ne-eqb}
+use mathlib.Core.Bool.{true, false, _&&_, not}
+use borrow.Author.Tests.{ltb-true, ltb-false, leb-true, leb-false, eqb-true, eqb-false, not-true, lt-ltb, le-leb, eq-eqb, ne-eqb}
 use lib.Dec.{leb, ltb, eqb}
-use Rattle.mesh.specs.Triple.{Side, lower, upper, half, inside}
+use Rattle.mesh.specs.Triple.{Side, lower, upper, half, inside, between, rising, low, high, sameTriple}
+use Rattle.mesh.specs.Bytes.{RisesIn}
 use Rattle.mesh.specs.declared.Triple.{Triple}
-use Rattle.mesh.proofs.Tests.{either, and-both}
+use Rattle.mesh.proofs.Tests.{either, and-both, and-of, and-fails}
 
 -- the numbers rise
 pub record Rise (t : Triple) : Type 0 where
   pub low : t .l < t .m
   pub high : t .m < t .r
+
+-- rising within the knots of a side: what the test says, what it leaves out, and what has it too
+pub rising-facts : (side : ℕ) (t : Triple) → rising side t ≡ true → RisesIn side t
+rising-facts side t e =
+    let a = and-both (ltb (t .l) (t .m) && ltb (t .m) (t .r)) (leb (t .r) (side + 2)) e in
+    let b = and-both (ltb (t .l) (t .m)) (ltb (t .m) (t .r)) (a .0) in
+    record { low = ltb-true _ _ (b .0); high = ltb-true _ _ (b .1); most = leb-true _ _ (a .1) }
+
+pub rising-of : (side : ℕ) (t : Triple) → RisesIn side t → rising side t ≡ true
+rising-of side t r = and-of _ _ (and-of _ _ (lt-ltb _ _ (r .low)) (lt-ltb _ _ (r .high))) (le-leb _ _ (r .most))
+
+pub rise-of : {side : ℕ} {t : Triple} → RisesIn side t → Rise t
+rise-of r = omega arith
+
+pub rises-wider : {side more : ℕ} {t : Triple} → side ≤ more → RisesIn side t → RisesIn more t
+rises-wider le r = omega arith
+
+-- the first two triples of a side
+pub low-rises : (side : ℕ) → 1 ≤ side → RisesIn side (low side)
+low-rises side h = omega arith
+
+pub high-rises : (side : ℕ) → 1 ≤ side → RisesIn side (high side)
+high-rises side h = omega arith
+
+-- strictly between the ends
+pub between-fact : (z : ℕ) (t : Triple) → between z t ≡ true → (t .l < z) × (z < t .r)
+between-fact z t e = let b = and-both (ltb (t .l) z) (ltb z (t .r)) e in (ltb-true _ _ (b .0), ltb-true _ _ (b .1))
+
+pub not-between : (z : ℕ) (t : Triple) → between z t ≡ false → (z ≤ t .l) ⊎ (t .r ≤ z)
+not-between z t e = ⊎-elim (λ s. inl (ltb-false _ _ s)) (λ s. inr (ltb-false _ _ s)) (and-fails (ltb (t .l) z) (ltb z (t .r)) e)
 
 -- a line at z can cut
 pub record Inside (z : ℕ) (t : Triple) : Type 0 where
@@ -23,9 +54,9 @@ pub record Inside (z : ℕ) (t : Triple) : Type 0 where
 
 pub inside-fact : (z : ℕ) (t : Triple) → inside z t ≡ true → Inside z t
 inside-fact z t e =
-    let p = and-both (ltb (t .l) z && ltb z (t .r)) (not (eqb z (t .m))) e in
-    let q = and-both (ltb (t .l) z) (ltb z (t .r)) (p .0) in
-    record { lo = ltb-true _ _ (q .0); hi = ltb-true _ _ (q .1); off = eqb-false _ _ (not-true _ (p .1)) }
+    let p = and-both (between z t) (not (eqb z (t .m))) e in
+    let q = between-fact z t (p .0) in
+    record { lo = q .0; hi = q .1; off = eqb-false _ _ (not-true _ (p .1)) }
 
 pub inside-test : (z : ℕ) (t : Triple) → Inside z t → inside z t ≡ true
 inside-test z t i = rw (lt-ltb (t .l) z (i .lo), lt-ltb z (t .r) (i .hi), ne-eqb z (t .m) (i .off))
@@ -41,8 +72,21 @@ within-refl t = omega arith
 pub within-trans : {t u v : Triple} → Within t u → Within u v → Within t v
 within-trans p q = omega arith
 
+pub rises-within : {side : ℕ} {t u : Triple} → RisesIn side t → Rise u → Within t u → RisesIn side u
+rises-within r h w = omega arith
+
 pub triple-eq : {t u : Triple} → t .l ≡ u .l → t .m ≡ u .m → t .r ≡ u .r → t ≡ u
 triple-eq p q r = λ i. record { l = p i; m = q i; r = r i }
+
+-- the test of equal triples is equality
+pub same-triple : (s t : Triple) → sameTriple s t ≡ true → s ≡ t
+same-triple s t e =
+    let a = and-both (eqb (s .l) (t .l) && eqb (s .m) (t .m)) (eqb (s .r) (t .r)) e in
+    let b = and-both (eqb (s .l) (t .l)) (eqb (s .m) (t .m)) (a .0) in
+    triple-eq (eqb-true _ _ (b .0)) (eqb-true _ _ (b .1)) (eqb-true _ _ (a .1))
+
+pub triple-same : (t : Triple) → sameTriple t t ≡ true
+triple-same t = rw (eq-eqb (t .l) (t .l) refl, eq-eqb (t .m) (t .m) refl, eq-eqb (t .r) (t .r) refl)
 
 -- A half rises, lies within the triple, and is narrower.
 pub half-rises : (s : Side) (z : ℕ) (t : Triple) → Rise t → Inside z t → Rise (half s z t)
