@@ -1,13 +1,11 @@
 -- Cutting a blend: the search for the line that cuts first, the halves, and what is kept.
 use Prim.Native.Nat.{ℕ, zero, suc, _+_, _-_, _≤_, _<_}
 use native.Mathlib.Omega.{arith}
-use native.Mathlib.Numerals.{add-one}
 use borrow.Author.Tests.{eq-eqb, ne-eqb}
 use mathlib.Core.Path.{_≡_, refl, sym, ap, _∙_}
 use mathlib.Core.Bool.{Bool, true, false, cond}
 use mathlib.Core.List.{List, [], _∷_, _++_}
-use lib.ListN.{length, getD, set, drop, drop-of-length-le, length-take}
-use lib.Seq.{drop-cons, getD-take, length-take-le}
+use lib.ListN.{length, getD, set, drop}
 use Rattle.mesh.specs.Range.{every, all}
 use Rattle.mesh.specs.Triple.{Side, lower, upper, half}
 use Rattle.mesh.specs.Lines.{Direction, upright, level, other, Mesh}
@@ -18,6 +16,7 @@ use Rattle.mesh.specs.declared.Table.{Table}
 use Rattle.mesh.specs.declared.Triple.{Triple}
 use Rattle.mesh.specs.declared.Blend.{Blend}
 use Rattle.mesh.proofs.Tests.{all-at, all-of}
+use Rattle.mesh.proofs.Entries.{none-left, left-turn, left-mem}
 use Rattle.mesh.proofs.Cuts.{put, halve-own, cut-fact, cutter-cuts, riseB-of, halve-proper, halve-smaller, proper-facts, proper-wider, proper-of as proper-test}
 
 -- whether the line at a knot covers the n steps from knot b on
@@ -170,9 +169,13 @@ module _ (places : List ℕ) (B : Blend) where
 module _ (t : Table) (i : ℕ) where
   pub blends-turn : i < t .count → t .count ≤ length (t .blends) →
       drop i (blendsOf t) ≡ getD (t .blends) i none ∷ drop (i + 1) (blendsOf t)
-  blends-turn h k =
-      let e = length-take-le (t .count) (t .blends) k in
-      drop-cons (blendsOf t) i none (omega arith) ∙ rw (add-one, getD-take (t .count) (t .blends) i none h)
+  blends-turn lt le = left-turn (t .blends) (t .count) i le none lt
 
   pub blends-end : t .count ≤ i → drop i (blendsOf t) ≡ []
-  blends-end h = drop-of-length-le (blendsOf t) {i = i} (omega (arith, length-take (t .count) (t .blends)))
+  blends-end = none-left (t .blends) (t .count) i
+
+  -- the next one is proper if all are
+  pub blends-proper : all (proper 128 128) (blendsOf t) ≡ true → i < t .count → t .count ≤ length (t .blends) →
+      Proper (getD (t .blends) i none)
+  blends-proper e lt le =
+      proper-facts 128 128 _ (all-at (proper 128 128) (blendsOf t) e _ (left-mem (t .blends) (t .count) i le none lt))

@@ -1,16 +1,15 @@
 -- Walks over the places of a table, and what they tell of the blends that are kept there.
 use Prim.Native.Nat.{ℕ, suc, _+_, _-_, _≤_, _<_}
 use native.Mathlib.Omega.{arith}
-use native.Mathlib.Numerals.{add-one}
 use mathlib.Core.Path.{_≡_, refl, sym, ap, _∙_}
 use mathlib.Core.Logic.{_⊎_, inl, inr, ⊎-elim}
-use mathlib.Core.Bool.{Bool, true, false, _&&_, not}
-use mathlib.Core.List.{List, [], _∷_, _++_, append-assoc, append-nil, List·Memᴰ, Memᴰ·append-right, List·Memᴰ·not-nil, List·Memᴰ·eq-of-singleton}
+use mathlib.Core.Bool.{Bool, true, false, _&&_, not, and-assoc, and-false}
+use mathlib.Core.List.{List, [], _∷_, _++_, append-assoc, append-nil, List·Memᴰ, List·Memᴰ·not-nil, List·Memᴰ·eq-of-singleton}
 use mathlib.Core.List.List·Memᴰ.{List·Memᴰ·head}
 use borrow.Author.Tests.{lt-ltb, not-true, leb-true, eqb-true, eqb-false, eq-eqb, ne-eqb, lt-leb, le-leb}
 use lib.Dec.{leb, eqb}
-use lib.ListN.{length, getD, set, take, drop, replicate, length-append, take-append-drop, drop-of-length-le}
-use lib.Seq.{take-append-seam, set-at, drop-cons, getD-take, length-take-le}
+use lib.ListN.{length, getD, set, replicate, length-append}
+use lib.Seq.{take-append-seam, set-at}
 use Rattle.mesh.specs.Range.{every, each, all}
 use Rattle.mesh.specs.Triple.{between}
 use Rattle.mesh.specs.Blends.{anchored, same}
@@ -19,6 +18,7 @@ use Rattle.mesh.specs.Bytes.{at, ProperIn, AllProper, Holding, lone, cle
 use Rattle.mesh.specs.declared.Blend.{Blend}
 use Rattle.mesh.specs.declared.Refined.{Refined}
 use Rattle.mesh.proofs.Tests.{either, true-not-false, same-test, all-at, all-of, every-at, every-of, cond-true, each-mem, mem-each, and-both, and-of, or-either, or-right, false-of, every-turn, every-none, each-turn, each-none}
+pub use Rattle.mesh.proofs.Entries.{left-turn, left-none, left-mem}
 use Rattle.mesh.proofs.Triples.{between-fact}
 use Rattle.mesh.proofs.Cuts.{proper-facts, proper-wider, same-blend, blend-same}
 use Rattle.mesh.proofs.Tables.{Anchored}
@@ -30,24 +30,6 @@ every-run k e test h = let less : e - k - 1 ≡ e - (k + 1) = omega arith in eve
 each-run {ℓ} : {A : Type ℓ} (k e : ℕ) (f : ℕ → List A) → k < e → each k (e - k) f ≡ f k ++ each (k + 1) (e - (k + 1)) f
 each-run k e f h = let less : e - k - 1 ≡ e - (k + 1) = omega arith in each-turn k (e - k) f (omega arith) ∙ rw less
 
-and-regroup : (a b c : Bool) → ((a && b) && c) ≡ (a && (b && c))
-and-regroup true b c = refl
-and-regroup false b c = refl
-
--- the first n entries of a list, one by one, as a loop takes them
-module _ {ℓ} {A : Type ℓ} (xs : List A) (n i : ℕ) (all : n ≤ length xs) where
-  pub left-turn : (d : A) → i < n → drop i (take n xs) ≡ getD xs i d ∷ drop (i + 1) (take n xs)
-  left-turn d h =
-      let l = length-take-le n xs all in
-      drop-cons (take n xs) i d (omega arith) ∙ rw (add-one, getD-take n xs i d h)
-
-  pub left-none : n ≤ i → drop i (take n xs) ≡ []
-  left-none h = let l = length-take-le n xs all in drop-of-length-le (take n xs) {i = i} (omega arith)
-
-  pub left-mem : (d : A) → i < n → List·Memᴰ (getD xs i d) (take n xs)
-  left-mem d h =
-      rw (← take-append-drop i (take n xs)) (Memᴰ·append-right (take i (take n xs)) (rw (left-turn d h) (List·Memᴰ·head refl)))
-
 -- A test of each place from l to r and from b to t, as two loops take it: `rowsPass` is what is left where a row begins, `placesPass` within
 -- row i. Each lemma carries what is left, which is the whole answer, to the next turn.
 module _ (r b t : ℕ) (test : ℕ → ℕ → Bool) where
@@ -58,7 +40,7 @@ module _ (r b t : ℕ) (test : ℕ → ℕ → Bool) where
   placesPass i j = every j (t - j) (test i) && rowsPass (i + 1)
 
   places-turn : (i j : ℕ) → j < t → placesPass i j ≡ (test i j && placesPass i (j + 1))
-  places-turn i j h = rw (every-run j t (test i) h) (and-regroup (test i j) _ _)
+  places-turn i j h = rw (every-run j t (test i) h) (and-assoc (test i j) _ _)
 
   pub rows-turn : {whole : Bool} (i : ℕ) → i < r → rowsPass i ≡ whole → placesPass i b ≡ whole
   rows-turn i h e = sym (every-run i r (λ x. every b (t - b) (test x)) h) ∙ e
@@ -275,10 +257,6 @@ module _ (w h : ℕ) (places : List ℕ) (holding : Holding w h places) where
       same-test _ _
       (λ e. all-of _ _ (λ B mB. all-of _ _ (λ C mC. clear-unnested B C mB mC (all-at _ _ e C mC))))
       (λ e. all-of _ _ (λ C mC. unnested-clear C mC (λ B mB. all-at _ _ (all-at _ _ e B mB) C mC)))
-
-and-false : (a : Bool) → (a && false) ≡ false
-and-false true = refl
-and-false false = refl
 
 -- a table that was read out, and the answer on it
 blends-table : (bs : List Blend) → blendsOf (table bs) ≡ bs

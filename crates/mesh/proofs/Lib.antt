@@ -1,5 +1,6 @@
 pub mod Tests
 pub mod Bytes
+pub mod Entries
 pub mod Distinct
 pub mod Triples
 pub mod Cuts

@@ -6,9 +6,9 @@ use mathlib.Core.Logic.{_⊎_, inl, inr, ⊎-elim}
 use mathlib.Core.Bool.{Bool, true, false, cond, _&&_, not}
 use mathlib.Core.List.{List, [], _∷_, _++_, List·Memᴰ, List·Memᴰ·cases-cons, List·Memᴰ·not-nil}
 use mathlib.Core.List.List·Memᴰ.{List·Memᴰ·head, List·Memᴰ·tail}
-use borrow.Author.Tests.{not-true, eqb-true, eqb-false, eq-eqb, ne-eqb, ltb-true, lt-ltb}
-use lib.Dec.{eqb, ltb}
-use lib.ListN.{length, getD, set, length-set, length-replicate, getD-replicate}
+use borrow.Author.Tests.{not-true, eqb-true, eqb-false, eq-eqb, ne-eqb, lt-ltb}
+use lib.Dec.{eqb}
+use lib.ListN.{length, getD, set, length-set, length-replicate}
 use lib.Seq.{getD-set-same, getD-set-other}
 use Rattle.mesh.specs.Range.{each, only, all}
 use Rattle.mesh.specs.Triple.{triple, between}
@@ -18,11 +18,12 @@ use Rattle.mesh.specs.Bytes.{at, Square, place, packed, unpacked, keep, 
 pub use Rattle.mesh.specs.Bytes.{ProperIn, RisesIn as Rises}
 use Rattle.mesh.specs.declared.Triple.{Triple}
 use Rattle.mesh.specs.declared.Blend.{Blend}
-use Rattle.mesh.proofs.Tests.{either, true-not-false, and-both, and-of, false-of, all-at, only-mem, mem-only, cond-true, cond-false}
+use Rattle.mesh.proofs.Tests.{either, true-not-false, and-both, and-of, false-of, all-at, only-mem, mem-only, cond-false, each-same}
+use Rattle.mesh.proofs.Bytes.{zeros}
 use Rattle.mesh.proofs.Distinct.{Distinct}
 pub use Rattle.mesh.proofs.Cuts.{proper-facts, proper-of}
 use Rattle.mesh.proofs.Cuts.{same-blend}
-use Rattle.mesh.proofs.Tables.{Anchored, anchored-at, once-mem, mem-once, once-distinct, only-distinct, singleton, nothing, each-same, mem-order}
+use Rattle.mesh.proofs.Tables.{Anchored, anchored-at, once-mem, mem-once, once-distinct, only-distinct, singleton, nothing, mem-order}
 
 -- a proper blend's anchor lies in the domain
 pub proper-anchored : (w h : ℕ) (B : Blend) → ProperIn w h B → Anchored w h B
@@ -69,12 +70,9 @@ nothing-kept w h =
       square = length-replicate {A = ℕ} 17161 0;
       good = λ B m. absurd (List·Memᴰ·not-nil m);
       found = λ z B m. absurd (List·Memᴰ·not-nil m);
-      from = λ z m n lo hi ne. absurd (ne (in-empty (at m n)));
-      met = λ ne. absurd (ne (in-empty 0));
+      from = λ z m n lo hi ne. absurd (ne (zeros 17161 (at m n)));
+      met = λ ne. absurd (ne (zeros 17161 0));
     }
-  where
-    in-empty : (i : ℕ) → getD empty i 0 ≡ 0
-    in-empty i = ⊎-elim (λ t. getD-replicate 17161 i 0 0 (ltb-true i 17161 t)) (λ t. lib.ListN.List·getD-eq-default empty 0 (subst (λ (k : ℕ). k ≤ i) (sym (length-replicate {A = ℕ} 17161 0)) (borrow.Author.Tests.ltb-false i 17161 t))) (either (ltb i 17161))
 
 module _ (w h : ℕ) (hw : w ≤ 128) (hh : h ≤ 128) (T : List ℕ) (ds : List Blend) (K : Kept w h T ds) (B : Blend) (p : ProperIn w h B) where
   in-square : place B < length T

@@ -83,11 +83,6 @@ module _ {ℓ} {A : Type ℓ} where
   nothing [] f = refl
   nothing (x ∷ xs) f = absurd (f x (List·Memᴰ·head refl))
 
-  pub each-same : (from n : ℕ) (f g : ℕ → List A) → ((k : ℕ) → from ≤ k → k < from + n → f k ≡ g k) → each from n f ≡ each from n g
-  each-same from zero f g e = refl
-  each-same from (suc n) f g e =
-      rw (e from (omega arith) (omega arith), each-same (from + 1) n f g (λ k lo hi. e k (omega arith) (omega arith)))
-
 -- an anchor in the domain, in knots
 pub record Anchored (w h : ℕ) (B : Blend) : Type 0 where
   pub left : 1 ≤ B .across .m

@@ -8,7 +8,8 @@ use mathlib.Core.Bool.{true, _&&_}
 use lib.ListN.{drop, length, length-map}
 use Rattle.mesh.specs.Range.{all}
 use Rattle.mesh.specs.Lines.{allowed, allowedSide, inRange, splitsOf}
-use Rattle.mesh.proofs.Drawing.{left-turn, left-none, blank}
+use Rattle.mesh.proofs.Entries.{left-turn, left-none}
+use Rattle.mesh.proofs.Drawing.{blank}
 use Rattle.mesh.proofs.steps.allowed_lines.Statement.{statement}
 use Rattle.mesh.proofs.steps.allowed_lines.Tie as tie
 
