@@ -3,13 +3,13 @@ use Prim.Native.Nat.{ℕ, zero, suc, _+_, _-_, _≤_, _<_}
 use native.Mathlib.Omega.{arith}
 use mathlib.Core.Path.{_≡_, refl, sym, ap, subst, _∙_}
 use mathlib.Core.Logic.{_⊎_, inl, inr, ⊎-elim}
-use mathlib.Core.Bool.{Bool, true, false, cond}
-use borrow.Author.Tests.{eqb-true, eqb-false, ltb-true, ltb-false}
+use mathlib.Core.Bool.{Bool, true, false, cond, _&&_, not}
+use borrow.Author.Tests.{eqb-true, eqb-false, ltb-true, ltb-false, not-true}
 use lib.Dec.{eqb, ltb}
-use Rattle.mesh.specs.Triple.{Side, half, inside, rising, sameTriple}
+use Rattle.mesh.specs.Triple.{Side, half, inside, between, rising, sameTriple}
 use Rattle.mesh.specs.Lines.{Direction, upright, level, other, Mesh}
 use Rattle.mesh.specs.Blends.{blend, crossed, along, coversBlend, cuts, halve, below, above, nearest, cutter, size, same}
-use Rattle.mesh.specs.Sound.{proper}
+use Rattle.mesh.specs.Sound.{proper, nested}
 use Rattle.mesh.specs.Bytes.{ProperIn}
 use Rattle.mesh.specs.declared.Triple.{Triple}
 use Rattle.mesh.specs.declared.Blend.{Blend}
@@ -51,6 +51,14 @@ same-blend A B e =
 
 pub blend-same : (A B : Blend) → A ≡ B → same A B ≡ true
 blend-same A B p = rw (← p) (and-of _ _ (triple-same (A .across)) (triple-same (A .up)))
+
+-- what it says that an anchor is strictly inside another's support
+pub nested-facts : (B C : Blend) → nested B C ≡ true →
+    (same B C ≡ false) × (between (B .across .m) (C .across) ≡ true) × (between (B .up .m) (C .up) ≡ true)
+nested-facts B C e =
+    let a = and-both (not (same B C) && between (B .across .m) (C .across)) (between (B .up .m) (C .up)) e in
+    let b = and-both (not (same B C)) (between (B .across .m) (C .across)) (a .0) in
+    (not-true _ (b .0), b .1, a .1)
 
 -- a rising blend's support is not empty
 pub size-positive : (B : Blend) → RiseB B → 0 < size B

@@ -15,6 +15,7 @@ use Rattle.mesh.specs.Bytes.{at, place}
 use Rattle.mesh.proofs.Tests.{either, mem-joined}
 use Rattle.mesh.proofs.Places.{at-inj}
 use Rattle.mesh.proofs.Distinct.{Distinct}
+use Rattle.mesh.proofs.Ascending.{OwnAnchors}
 
 module _ {ℓ} {A : Type ℓ} where
   -- a list without one of its members
@@ -73,8 +74,7 @@ places-length (m ∷ P) Q =
     (let e = length-map Q (at m) in let r = places-length P Q in omega (arith, e, r))
 
 -- blends whose anchors differ and lie on the positions P across and Q up
-pub few : (P Q : List ℕ) (bs : List Blend) → Distinct bs →
-    ((B C : Blend) → List·Memᴰ B bs → List·Memᴰ C bs → B .across .m ≡ C .across .m → B .up .m ≡ C .up .m → B ≡ C) →
+pub few : (P Q : List ℕ) (bs : List Blend) → Distinct bs → OwnAnchors bs →
     ((B : Blend) → List·Memᴰ B bs → List·Memᴰ (B .across .m) P × List·Memᴰ (B .up .m) Q × (B .up .m < 131)) →
     length bs ≤ length P * length Q
 unfolding places

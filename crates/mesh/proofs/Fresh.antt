@@ -8,7 +8,7 @@ use mathlib.Core.List.{List, [], _∷_, _++_, List·Memᴰ, List·Memᴰ·cases-
 use mathlib.Core.List.List·Memᴰ.{List·Memᴰ·head, List·Memᴰ·tail}
 use lib.Dec.{leb, ltb, eqb}
 use lib.ListN.{length}
-use borrow.Author.Tests.{not-true, eqb-true, eq-eqb, ltb-true, le-leb, lt-ltb}
+use borrow.Author.Tests.{eqb-true, eq-eqb, ltb-true, le-leb, lt-ltb}
 use Rattle.mesh.specs.Range.{every, only, all}
 use Rattle.mesh.specs.Triple.{low, high, between, spans}
 use Rattle.mesh.specs.Lines.{Mesh, Direction, upright, level, mesh, freshMesh, side, other}
@@ -20,7 +20,7 @@ use Rattle.mesh.specs.declared.Triple.{Triple}
 use Rattle.mesh.specs.declared.Blend.{Blend}
 use Rattle.mesh.proofs.Tests.{either, true-not-false, and-both, and-of, or-either, false-of, every-of, all-of, only-all}
 use Rattle.mesh.proofs.Triples.{low-rises, high-rises, between-fact}
-use Rattle.mesh.proofs.Cuts.{Cut, cut-fact, proper-of, proper-rises, blend-same}
+use Rattle.mesh.proofs.Cuts.{Cut, cut-fact, proper-of, proper-rises, blend-same, nested-facts}
 use Rattle.mesh.proofs.Order.{left-uncut, left-itself, Rising}
 use Rattle.mesh.proofs.Tables.{once-mem, mem-once, once-distinct, order-mem, mem-order}
 use Rattle.mesh.proofs.Ascending.{Ascending, OwnAnchors, order-ascending, ascending-unique}
@@ -36,7 +36,10 @@ first-rises s h t is-low = low-rises s h
 first-rises s h t is-high = high-rises s h
 
 -- its ends and its middle are the fresh map's positions, none of which lies strictly inside but the middle
-first-uncut : (s z : ℕ) (t : Triple) → First s t → (z ≡ 0) ⊎ ((z ≡ 1) ⊎ ((z ≡ s + 1) ⊎ (z ≡ s + 2))) → t .l < z → z < t .r → (z ≡ t .m → ⊥) → ⊥
+abbrev pub AtFresh : ℕ → ℕ → Type 0
+AtFresh s z = (z ≡ 0) ⊎ ((z ≡ 1) ⊎ ((z ≡ s + 1) ⊎ (z ≡ s + 2)))
+
+first-uncut : (s z : ℕ) (t : Triple) → First s t → AtFresh s z → t .l < z → z < t .r → (z ≡ t .m → ⊥) → ⊥
 first-uncut s z t is-low (inl e) lo hi off = omega arith
 first-uncut s z t is-low (inr (inl e)) lo hi off = off e
 first-uncut s z t is-low (inr (inr (inl e))) lo hi off = omega arith
@@ -77,8 +80,7 @@ pub firstFour-rises : (w h : ℕ) → 1 ≤ w → 1 ≤ h → Rising (firstFour 
 firstFour-rises w h hw hh B m = proper-rises w h B (first-proper w h hw hh B m)
 
 -- a fresh map's lines stand at four positions
-pub fresh-positions : (w h : ℕ) (d : Direction) (z k : ℕ) → mesh w h [] d z k ≡ true →
-    (z ≡ 0) ⊎ ((z ≡ 1) ⊎ ((z ≡ side d w h + 1) ⊎ (z ≡ side d w h + 2)))
+pub fresh-positions : (w h : ℕ) (d : Direction) (z k : ℕ) → mesh w h [] d z k ≡ true → AtFresh (side d w h) z
 unfolding mesh freshMesh
 fresh-positions w h d z k e =
     let f = ⊎-elim (λ q. q) (λ q. absurd (true-not-false false q refl)) (or-either (freshMesh w h d z k) false e) in
@@ -179,10 +181,9 @@ module _ (w h : ℕ) (hw : 1 ≤ w) (hh : 1 ≤ h) where
       nest B C mB mC e =
           let f = first-four w h B mB in
           let g = first-four w h C mC in
-          let n = and-both (not (same B C) && between (B .across .m) (C .across)) (between (B .up .m) (C .up)) e in
-          let m = and-both (not (same B C)) (between (B .across .m) (C .across)) (n .0) in
-          let a = between-fact (B .across .m) (C .across) (m .1) in
-          let u = between-fact (B .up .m) (C .up) (n .1) in
+          let n = nested-facts B C e in
+          let a = between-fact (B .across .m) (C .across) (n .1) in
+          let u = between-fact (B .up .m) (C .up) (n .2) in
           let p = first-apart w (B .across) (C .across) (f .across) (g .across) (a .0) (a .1) in
           let q = first-apart h (B .up) (C .up) (f .up) (g .up) (u .0) (u .1) in
-          true-not-false (same B C) (blend-same B C (λ i. record { across = p i; up = q i })) (not-true _ (m .0))
+          true-not-false (same B C) (blend-same B C (λ i. record { across = p i; up = q i })) (n .0)

@@ -20,7 +20,7 @@ use Rattle.mesh.specs.declared.Refined.{Refined}
 use Rattle.mesh.proofs.Tests.{either, true-not-false, same-test, all-at, all-of, every-at, every-of, cond-true, each-mem, mem-each, and-both, and-of, or-either, or-right, false-of, every-turn, every-none, each-turn, each-none}
 pub use Rattle.mesh.proofs.Entries.{left-turn, left-none, left-mem}
 use Rattle.mesh.proofs.Triples.{between-fact}
-use Rattle.mesh.proofs.Cuts.{proper-facts, proper-wider, same-blend, blend-same}
+use Rattle.mesh.proofs.Cuts.{proper-facts, proper-wider, same-blend, blend-same, nested-facts}
 use Rattle.mesh.proofs.Tables.{Anchored}
 
 -- runs that a loop takes up to an end
@@ -219,13 +219,12 @@ module _ (w h : ℕ) (places : List ℕ) (holding : Holding w h places) where
     where
       refute : nested B C ≡ true → ⊥
       refute n =
-          let a = and-both (not (same B C) && between (B .across .m) (C .across)) (between (B .up .m) (C .up)) n in
-          let b = and-both (not (same B C)) (between (B .across .m) (C .across)) (a .0) in
+          let b = nested-facts B C n in
           let inB = walk-mem w h places B mB in
           let inC = walk-mem w h places C mC in
           ⊎-elim (inB .there)
-          (λ at. true-not-false (same B C) (blend-same B C (one-anchor B C inB inC (at .0) (at .1))) (not-true (same B C) (b .0)))
-          (lone-cases places C (B .across .m) (B .up .m) (clear-at places C (B .across .m) (B .up .m) e (b .1) (a .1)))
+          (λ at. true-not-false (same B C) (blend-same B C (one-anchor B C inB inC (at .0) (at .1))) (b .0))
+          (lone-cases places C (B .across .m) (B .up .m) (clear-at places C (B .across .m) (B .up .m) e (b .1) (b .2)))
 
   unnested-clear : (C : Blend) → List·Memᴰ C (walk w h places) →
       ((B : Blend) → List·Memᴰ B (walk w h places) → not (nested B C) ≡ true) → clear places C ≡ true

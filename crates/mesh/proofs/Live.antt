@@ -18,10 +18,10 @@ use Rattle.mesh.specs.declared.Blend.{Blend}
 use Rattle.mesh.proofs.Tests.{either, true-not-false, and-both, and-of, false-of, all-at, cond-false, cond-true}
 use Rattle.mesh.proofs.Distinct.{Distinct}
 pub use Rattle.mesh.proofs.Cuts.{proper-rises}
-use Rattle.mesh.proofs.Cuts.{proper-facts, proper-of, proper-within, same-blend, blend-same}
+use Rattle.mesh.proofs.Cuts.{proper-facts, proper-of, proper-within}
 use Rattle.mesh.proofs.Order.{cut-or-not, comes-rises, comes-within, Rising, LeftOf, SameMembers, leavesOf-left, left-leavesOf, finer-leaves}
 use Rattle.mesh.proofs.Tables.{once-mem, mem-once, once-distinct, order-mem, mem-order, order-distinct}
-use Rattle.mesh.proofs.Places.{proper-anchored, overlap}
+use Rattle.mesh.proofs.Places.{proper-anchored, sound-own}
 use Rattle.mesh.proofs.Ascending.{OwnAnchors, order-ascending, ascending-unique}
 
 -- what is left of a proper blend is proper
@@ -61,18 +61,6 @@ module _ (w h : ℕ) (M : Mesh) (bs : List Blend) (ok : AllProper w h bs) where
   unfolding refine
   refine-distinct = order-distinct w h (once (leavesOf M bs)) (once-distinct (leavesOf M bs))
 
--- in a sound map no two blends have one anchor
-pub sound-own : (w h : ℕ) (bs : List Blend) → AllProper w h bs → sound w h bs ≡ true → OwnAnchors bs
-unfolding sound noneNested
-sound-own w h bs ok s B C mB mC q r =
-    ⊎-elim (λ e. same-blend B C e)
-    (λ e.
-    let apart = and-both (fourEverywhere w h bs) (noneNested bs) s .1 in
-    let no = all-at (λ C. not (nested B C)) bs (all-at (λ B. all (λ C. not (nested B C)) bs) bs apart B mB) C mC in
-    let yes = overlap w h B C (λ p. true-not-false (same B C) (blend-same B C p) e) q r (proper-facts w h C (ok C mC)) in
-    absurd (true-not-false (nested B C) yes (not-true _ no)))
-    (either (same B C))
-
 -- tables of the same blends are equal where one is sound, and so are the answers on them in any case
 module _ (w h : ℕ) (hh : h ≤ 128) (xs ys : List Blend) (dx : Distinct xs) (dy : Distinct ys) (ok : AllProper w h xs) (eq : SameMembers xs ys) where
   pub same-table : sound w h (inTableOrder w h xs) ≡ true → inTableOrder w h xs ≡ inTableOrder w h ys
@@ -86,7 +74,8 @@ module _ (w h : ℕ) (hh : h ≤ 128) (xs ys : List Blend) (dx : Distinct xs) (d
       there B m = mem-order w h xs B m (proper-anchored w h B (proper-facts w h B (ok B m)))
 
       own : OwnAnchors xs
-      own B C mB mC = sound-own w h (inTableOrder w h xs) (λ D m. ok D (order-mem w h xs D m .0)) s B C (there B mB) (there C mC)
+      own B C mB mC =
+          sound-own w h (inTableOrder w h xs) (λ D m. proper-facts w h D (ok D (order-mem w h xs D m .0))) s B C (there B mB) (there C mC)
 
 pub unsound-answer : (w h : ℕ) (bs : List Blend) → sound w h bs ≡ false → answer w h bs ≡ record { sound = false; table = table [] }
 unfolding answer

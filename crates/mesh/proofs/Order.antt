@@ -313,9 +313,6 @@ finer-leaves M N g bs ds h same C = (
     rising : Rising ds
     rising D m = leavesOf-rises M bs h D (same D .0 m)
 
-pub finer-again : (M N : Mesh) → Coarser M N → (bs : List Blend) → Rising bs → SameMembers (leavesOf N (leavesOf M bs)) (leavesOf N bs)
-finer-again M N g bs h = finer-leaves M N g bs (leavesOf M bs) h (λ C. (λ m. m, λ m. m))
-
 -- At its own anchor something is left of a blend.
 pub keeps-anchor : (M : Mesh) (B : Blend) → RiseB B → (C : Blend) × Left M B C × (C .across .m ≡ B .across .m) × (C .up .m ≡ B .up .m)
 keeps-anchor M B h =

@@ -23,7 +23,8 @@ use Rattle.mesh.proofs.Bytes.{zeros}
 use Rattle.mesh.proofs.Distinct.{Distinct}
 pub use Rattle.mesh.proofs.Cuts.{proper-facts, proper-of}
 use Rattle.mesh.proofs.Cuts.{same-blend}
-use Rattle.mesh.proofs.Tables.{Anchored, anchored-at, once-mem, mem-once, once-distinct, only-distinct, singleton, nothing, mem-order}
+use Rattle.mesh.proofs.Tables.{Anchored, anchored-at, once-mem, mem-once, once-distinct, only-distinct, singleton, nothing, order-mem, mem-order}
+use Rattle.mesh.proofs.Ascending.{OwnAnchors}
 
 -- a proper blend's anchor lies in the domain
 pub proper-anchored : (w h : ℕ) (B : Blend) → ProperIn w h B → Anchored w h B
@@ -172,12 +173,26 @@ keep-seen w h hw hh T ds [] K p = K
 keep-seen w h hw hh T ds (B ∷ bs) K p =
     keep-seen w h hw hh (keep T B) (B ∷ ds) bs (keep-one w h hw hh T ds K B (p B (List·Memᴰ·head refl))) (λ C m. p C (List·Memᴰ·tail m))
 
--- two blends with one anchor: it lies strictly inside both supports
-pub overlap : (w h : ℕ) (B C : Blend) → (B ≡ C → ⊥) → B .across .m ≡ C .across .m → B .up .m ≡ C .up .m → ProperIn w h C → nested B C ≡ true
-overlap w h B C ne q s pC =
-    let a = pC .across in
-    let u = pC .up in
-    rw (false-of (same B C) (λ e. ne (same-blend B C e)), q, s, lt-ltb _ _ (a .low), lt-ltb _ _ (a .high), lt-ltb _ _ (u .low), lt-ltb _ _ (u .high))
+-- no anchor of the list is strictly inside another's support
+pub unnested : (bs : List Blend) → noneNested bs ≡ true → (B C : Blend) → List·Memᴰ B bs → List·Memᴰ C bs → nested B C ≡ false
+unfolding noneNested
+unnested bs e B C mB mC =
+    not-true _
+    (all-at (λ (Y : Blend). not (nested B Y)) bs (all-at (λ (X : Blend). all (λ (Y : Blend). not (nested X Y)) bs) bs e B mB) C mC)
+
+-- so in a sound map no two blends have one anchor: it would be strictly inside both supports
+pub sound-own : (w h : ℕ) (bs : List Blend) → ((C : Blend) → List·Memᴰ C bs → ProperIn w h C) → sound w h bs ≡ true → OwnAnchors bs
+unfolding sound
+sound-own w h bs ok s B C mB mC q r =
+    ⊎-elim (λ e. same-blend B C e)
+    (λ e. absurd (true-not-false (nested B C) (overlap e) (unnested bs (and-both (fourEverywhere w h bs) (noneNested bs) s .1) B C mB mC)))
+    (either (same B C))
+  where
+    overlap : same B C ≡ false → nested B C ≡ true
+    overlap e =
+        let a = ok C mC .across in
+        let u = ok C mC .up in
+        rw (e, q, r, lt-ltb _ _ (a .low), lt-ltb _ _ (a .high), lt-ltb _ _ (u .low), lt-ltb _ _ (u .high))
 
 module _ (w h : ℕ) (hw : w ≤ 128) (hh : h ≤ 128) (E : List ℕ) (blank : Kept w h E []) (ls : List Blend)
     (p : (C : Blend) → List·Memᴰ C ls → ProperIn w h C) where
@@ -189,18 +204,15 @@ module _ (w h : ℕ) (hw : w ≤ 128) (hh : h ≤ 128) (E : List ℕ) (blank : K
 
   -- two different blends met: the map is not sound
   pub met-unsound : (getD (keepAll E ls) 0 0 ≡ 0 → ⊥) → sound w h (inTableOrder w h (once ls)) ≡ false
-  unfolding sound noneNested
   met-unsound ne =
       let r = kept-all .met ne in
-      let mB = of-list (r .0) (r .2) in
-      let mC = of-list (r .1) (r .3) in
-      let inB = mem-order w h (once ls) (r .0) (mem-once ls (r .0) mB) (proper-anchored w h (r .0) (p (r .0) mB)) in
-      let inC = mem-order w h (once ls) (r .1) (mem-once ls (r .1) mC) (proper-anchored w h (r .1) (p (r .1) mC)) in
       false-of _
-      (λ e.
-      let apart = and-both (fourEverywhere w h (inTableOrder w h (once ls))) (noneNested (inTableOrder w h (once ls))) e .1 in
-      let no = all-at (λ C. not (nested (r .0) C)) (inTableOrder w h (once ls)) (all-at (λ B. all (λ C. not (nested B C)) (inTableOrder w h (once ls))) (inTableOrder w h (once ls)) apart (r .0) inB) (r .1) inC in
-      true-not-false (nested (r .0) (r .1)) (overlap w h (r .0) (r .1) (r .4) (r .5) (r .6) (p (r .1) mC)) (not-true _ no))
+      (λ e. r .4
+      (sound-own w h (inTableOrder w h (once ls)) (λ C m. p C (once-mem ls C (order-mem w h (once ls) C m .0))) e (r .0) (r .1)
+      (there (r .0) (of-list (r .0) (r .2))) (there (r .1) (of-list (r .1) (r .3))) (r .5) (r .6)))
+    where
+      there : (C : Blend) → List·Memᴰ C ls → List·Memᴰ C (inTableOrder w h (once ls))
+      there C m = mem-order w h (once ls) C (mem-once ls C m) (proper-anchored w h C (p C m))
 
   -- while none met, a place that is taken holds a blend of the list, and each blend of the list is at its place
   held : getD (keepAll E ls) 0 0 ≡ 0 → (m n : ℕ) (C : Blend) → List·Memᴰ C ls → C .across .m ≡ m → C .up .m ≡ n → getD (keepAll E ls) (at m n) 0 ≡ packed C

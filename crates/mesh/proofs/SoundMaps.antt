@@ -22,8 +22,10 @@ use Rattle.mesh.specs.declared.Blend.{Blend}
 use Rattle.mesh.proofs.Tests.{either, true-not-false, and-both, and-of, or-either, false-of, every-at, any-at, only-mem}
 use Rattle.mesh.proofs.Distinct.{Distinct}
 use Rattle.mesh.proofs.Order.{cut-or-not, LeftOf, SameMembers, any-order, comes-trans}
+use Rattle.mesh.proofs.Cuts.{proper-facts}
+use Rattle.mesh.proofs.Places.{sound-own}
 use Rattle.mesh.proofs.Ascending.{OwnAnchors}
-use Rattle.mesh.proofs.Live.{proper-rises, AllProper, refine-left, left-refine, refine-leaves, refine-proper, refine-distinct, sound-own, finer-answer, finer-table}
+use Rattle.mesh.proofs.Live.{proper-rises, AllProper, refine-left, left-refine, refine-leaves, refine-proper, refine-distinct}
 use Rattle.mesh.proofs.Weights.{square-positive, own-anchor, other-anchor, Covered, CoveredTerms, reproduced, adds-up}
 use Rattle.mesh.proofs.Fresh.{first-proper, firstFour-rises}
 use Rattle.mesh.proofs.Few.{few, square-of-sum}
@@ -95,7 +97,7 @@ module _ (w h : ℕ) (hw : 1 ≤ w) (hh : 1 ≤ h) (M : Mesh) where
 
     -- no two have one anchor;
     pub own-anchors : OwnAnchors (live w h M)
-    own-anchors = sound-own w h (live w h M) live-proper s
+    own-anchors = sound-own w h (live w h M) (λ C m. proper-facts w h C (live-proper C m)) s
 
     -- and each sum of multiples of blends that come before the live ones equals the sum of its values at the anchors times the live blends.
     pub live-reproduce : (ts : List Term) → CoveredTerms M w h (live w h M) ts → (p q d : ℕ) → 0 < d →

@@ -6,29 +6,25 @@ use mathlib.Core.Path.{_≡_, refl, sym, ap, subst, _∙_}
 use mathlib.Core.Logic.{_⊎_, _↔_, inl, inr, ⊎-elim}
 use mathlib.Core.Bool.{true, false, _&&_, not}
 use mathlib.Core.List.{List, [], _∷_, map, List·Memᴰ}
-use borrow.Author.Tests.{not-true, not-false}
-use Rattle.mesh.specs.Range.{all}
+use borrow.Author.Tests.{not-false}
 use Rattle.mesh.specs.Triple.{Fraction, hat, Side, lower, upper, spans, between}
 use Rattle.mesh.specs.Lines.{Direction, upright, level, Mesh}
 use Rattle.mesh.specs.Blends.{crossed, cuts, halve, size, same, firstFour}
 use Rattle.mesh.specs.Order.{here, cut, Left, Uncut}
-use Rattle.mesh.specs.Sound.{proper, overSquare, nested, noneNested}
-use Rattle.mesh.specs.Bytes.{ProperIn}
+use Rattle.mesh.specs.Sound.{proper, overSquare, noneNested}
 use Rattle.mesh.specs.Weight.{times, whole, total, Equal, weight, Term, value, interpolated}
 use Rattle.mesh.specs.declared.Blend.{Blend}
-use Rattle.mesh.proofs.Tests.{and-both, and-of, and-fails, all-at}
+use Rattle.mesh.proofs.Tests.{and-both, and-of, and-fails}
 use Rattle.mesh.proofs.Distinct.{Distinct}
 use Rattle.mesh.proofs.Scale.{Multiple, common, Scaled, scaled-times, scaled-total, scaled-more, scaled-multiple, scaled-equal, scaled-one, total-positive, sum, sum-same, sum-zero, sum-multiple, sum-linear, sum-single}
 use Rattle.mesh.proofs.Hats.{hat-den, hat-middle, hat-off, step-positive, scaledHat, scaled-hat, two-scale, scaled-middle, scaled-off, first-two}
 use Rattle.mesh.proofs.Triples.{Inside}
 use Rattle.mesh.proofs.Cuts.{RiseB, proper-facts, proper-of, proper-rises, halve-proper, halve-smaller, cut-fact, same-blend}
+use Rattle.mesh.proofs.Places.{unnested}
 use Rattle.mesh.proofs.Fresh.{first-proper}
 
 -- a proper blend
 module _ (w h : ℕ) (B : Blend) (ok : proper w h B ≡ true) where
-  facts : ProperIn w h B
-  facts = proper-facts w h B ok
-
   rise : RiseB B
   rise = proper-rises w h B ok
 
@@ -52,14 +48,12 @@ module _ (w h : ℕ) (B : Blend) (ok : proper w h B ≡ true) where
 -- where no anchor is strictly inside another's support, it is off that support on one axis at least
 clear : (L : List Blend) → noneNested L ≡ true → (B C : Blend) → List·Memᴰ B L → List·Memᴰ C L → (B ≡ C → ⊥) →
     (between (B .across .m) (C .across) ≡ false) ⊎ (between (B .up .m) (C .up) ≡ false)
-unfolding noneNested
 clear L apart B C mB mC differ =
-    let no = not-true _ (all-at (λ (X : Blend). not (nested B X)) L (all-at (λ (X : Blend). all (λ (Y : Blend). not (nested X Y)) L) L apart B mB) C mC) in
     ⊎-elim
     (λ e. ⊎-elim (λ s. absurd (differ (same-blend B C (not-false _ s)))) (λ s. inl s)
     (and-fails (not (same B C)) (between (B .across .m) (C .across)) e))
     (λ e. inr e)
-    (and-fails (not (same B C) && between (B .across .m) (C .across)) (between (B .up .m) (C .up)) no)
+    (and-fails (not (same B C) && between (B .across .m) (C .across)) (between (B .up .m) (C .up)) (unnested L apart B C mB mC))
 
 -- a product is 0 where a factor is
 zero-left : (a b : ℕ) → a ≡ 0 → a * b ≡ 0
