@@ -1,27 +1,27 @@
 -- "A sound map so has at most 32 × 32 = 1,024 live blends": their anchors lie on line positions.
-use Prim.Native.Nat.{ℕ, zero, suc, _+_, _-_, _*_, _≤_, _<_}
+use Prim.Native.Nat.{ℕ, _+_, _≤_, _<_}
 use native.Mathlib.Omega.{arith}
 use native.Mathlib.Nat.{le-trans}
-use mathlib.Core.Path.{_≡_, refl, sym, ap, subst, _∙_}
-use mathlib.Core.Logic.{_⊎_, inl, inr, ⊎-elim}
-use mathlib.Core.Bool.{Bool, true, false, _&&_, _||_, or-true}
+use mathlib.Core.Path.{_≡_, refl, sym, subst}
+use mathlib.Core.Logic.{inl, inr, ⊎-elim}
+use mathlib.Core.Bool.{true, false, _&&_, _||_, or-true}
 use mathlib.Core.List.{List, [], _∷_, map, List·Memᴰ}
 use mathlib.Core.List.List·Memᴰ.{List·Memᴰ·head, List·Memᴰ·tail}
 use lib.Dec.{leb, ltb, eqb}
 use lib.ListN.{length, length-map}
-use borrow.Author.Tests.{eqb-true, eqb-false, eq-eqb, ne-eqb, lt-ltb}
+use borrow.Author.Tests.{eqb-true, eq-eqb, ne-eqb, lt-ltb}
 use Rattle.mesh.specs.Range.{any, only}
-use Rattle.mesh.specs.Lines.{Mesh, Direction, upright, level, mesh, freshMesh, draws, start, end, number, other, side}
-use Rattle.mesh.specs.Blends.{live, firstFour, crossed}
+use Rattle.mesh.specs.Lines.{Direction, upright, level, mesh, freshMesh, draws, start, end, number, other, side}
+use Rattle.mesh.specs.Blends.{live}
 use Rattle.mesh.specs.Sound.{sound}
 use Rattle.mesh.specs.declared.Split.{Split}
 use Rattle.mesh.specs.declared.Triple.{Triple}
 use Rattle.mesh.specs.declared.Blend.{Blend}
-use Rattle.mesh.proofs.Tests.{either, true-not-false, and-both, and-of, or-either, or-left, or-right, any-at, mem-only}
-use Rattle.mesh.proofs.Triples.{Knots}
+use Rattle.mesh.proofs.Tests.{either, and-both, and-of, or-either, or-left, any-at, mem-only}
+use Rattle.mesh.proofs.Triples.{Knots, First, is-low, is-high, AtFresh}
 use Rattle.mesh.proofs.Order.{OnLine, comes-on-lines}
 use Rattle.mesh.proofs.Cuts.{proper-facts}
-use Rattle.mesh.proofs.Fresh.{First, AtFresh, is-low, is-high, first-four, firstFour-rises, fresh-positions}
+use Rattle.mesh.proofs.Fresh.{first-four, firstFour-rises, fresh-positions}
 use Rattle.mesh.proofs.Few.{few, square-of-sum, mem-map}
 use Rattle.mesh.proofs.SoundMaps.{live-left, live-proper, live-distinct, own-anchors}
 

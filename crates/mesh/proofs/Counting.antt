@@ -3,10 +3,10 @@ use Prim.Native.Nat.{ℕ, _+_, _*_, _-_, _≤_, _<_, min, max}
 use native.Mathlib.Omega.{arith}
 use mathlib.Core.Path.{_≡_, refl, ap, _∙_}
 use mathlib.Core.Logic.{_⊎_, inl, inr, ⊎-elim}
-use mathlib.Core.Bool.{Bool, true, false, cond, _&&_}
+use mathlib.Core.Bool.{Bool, true, false, cond}
 use mathlib.Core.List.{List, [], _∷_}
-use borrow.Author.Tests.{ltb-true, leb-true, eqb-true, eqb-false, lt-ltb, le-leb}
-use lib.Dec.{ltb, leb, eqb}
+use borrow.Author.Tests.{eqb-true, eqb-false}
+use lib.Dec.{eqb}
 use lib.ListN.{length, getD, set, replicate, length-set}
 use lib.Seq.{getD-set-same, getD-set-other}
 use Rattle.mesh.specs.Range.{every, only}
@@ -15,18 +15,8 @@ use Rattle.mesh.specs.Blends.{blend}
 use Rattle.mesh.specs.Sound.{overSquare, fourEverywhere}
 use Rattle.mesh.specs.Bytes.{at, Square, RunAdded, RunFull, Added, Crowded, Counted}
 use Rattle.mesh.specs.declared.Blend.{Blend}
-use Rattle.mesh.proofs.Tests.{either, true-not-false, and-both, and-of, same-test, false-of, every-at, every-same}
+use Rattle.mesh.proofs.Tests.{within, within-of, within-at, either, true-not-false, and-both, and-of, same-test, false-of, every-at, every-same}
 use Rattle.mesh.proofs.Bytes.{zeros}
-
--- k is one of the places `from` to `to`
-abbrev within : ℕ → ℕ → ℕ → Bool
-within from to k = leb from k && ltb k to
-
-within-of : (from to k : ℕ) → from ≤ k → k < to → within from to k ≡ true
-within-of from to k lo hi = and-of _ _ (le-leb from k lo) (lt-ltb k to hi)
-
-within-at : (from to k : ℕ) → within from to k ≡ true → (from ≤ k) × (k < to)
-within-at from to k e = let b = and-both (leb from k) (ltb k to) e in (leb-true from k (b .0), ltb-true k to (b .1))
 
 within-past : (from to k : ℕ) → to ≤ k → within from to k ≡ false
 within-past from to k past = false-of _ (λ e. let h : k < to = within-at from to k e .1 in omega arith)

@@ -1,5 +1,5 @@
 -- Cutting a blend: the search for the line that cuts first, the halves, and what is kept.
-use Prim.Native.Nat.{ℕ, zero, suc, _+_, _-_, _≤_, _<_}
+use Prim.Native.Nat.{ℕ, zero, suc, _+_, _≤_, _<_}
 use native.Mathlib.Omega.{arith}
 use borrow.Author.Tests.{eq-eqb, ne-eqb}
 use mathlib.Core.Path.{_≡_, refl, sym, ap, _∙_}
@@ -10,7 +10,7 @@ use Rattle.mesh.specs.Range.{every, all}
 use Rattle.mesh.specs.Triple.{Side, lower, upper, half}
 use Rattle.mesh.specs.Lines.{Direction, upright, level, other, Mesh}
 use Rattle.mesh.specs.Bytes.{stepOn, Proper, place, packed, keep, keepAll}
-use Rattle.mesh.specs.Blends.{crossed, below, above, nearest, cutter, halve, leaves, leavesOf, size}
+use Rattle.mesh.specs.Blends.{crossed, cutter, halve, leaves, leavesOf, size}
 use Rattle.mesh.specs.Sound.{proper, none, blendsOf}
 use Rattle.mesh.specs.declared.Table.{Table}
 use Rattle.mesh.specs.declared.Triple.{Triple}
@@ -22,48 +22,6 @@ use Rattle.mesh.proofs.Cuts.{put, halve-own, cut-fact, cutter-cuts, ris
 -- whether the line at a knot covers the n steps from knot b on
 abbrev pub over : List ℕ → ℕ → ℕ → ℕ → Bool
 over steps b n z = every b n (stepOn steps z)
-
--- the searches by a knot that walks away from the middle, as a loop takes them
-module _ (line : ℕ → Bool) where
-  pub below-turn : (l z : ℕ) → l < z → below line l (z - l) ≡ cond (line z) z (below line l (z - 1 - l))
-  unfolding below
-  below-turn l z h =
-      let e : z - l ≡ suc (z - 1 - l) = omega arith in
-      let f : l + suc (z - 1 - l) ≡ z = omega arith in
-      rw (e, f)
-
-  pub above-turn : (r z : ℕ) → z < r → above line r (r - z) ≡ cond (line z) z (above line r (r - (z + 1)))
-  unfolding above
-  above-turn r z h =
-      let e : r - z ≡ suc (r - (z + 1)) = omega arith in
-      let f : r - suc (r - (z + 1)) ≡ z = omega arith in
-      rw (e, f)
-
-  pub below-none : (l n : ℕ) → n ≤ 0 → below line l n ≡ 0
-  unfolding below
-  below-none l zero h = refl
-  below-none l (suc n) h = absurd (omega arith)
-
-  pub above-none : (r n : ℕ) → n ≤ 0 → above line r n ≡ 0
-  unfolding above
-  above-none r zero h = refl
-  above-none r (suc n) h = absurd (omega arith)
-
--- the line that cuts first is the one below, if there is one
-module _ (line : ℕ → Bool) (t : Triple) where
-  abbrev pub under : ℕ
-  under = below line (t .l) (t .m - t .l - 1)
-
-  abbrev pub beyond : ℕ
-  beyond = above line (t .r) (t .r - t .m - 1)
-
-  pub nearest-under : (under ≡ 0 → ⊥) → nearest line t ≡ under
-  unfolding nearest
-  nearest-under ne = rw (ne-eqb _ _ ne)
-
-  pub nearest-beyond : under ≡ 0 → nearest line t ≡ beyond
-  unfolding nearest
-  nearest-beyond e = rw (eq-eqb _ _ e)
 
 -- what is left of a blend that lines of a direction cut: also where the other direction is tried first, and none of its lines cuts
 leaves-cut : (f : ℕ) (M : Mesh) (d : Direction) (x : Blend) (tried : Bool) → (cutter M d x ≡ 0 → ⊥) → (tried ≡ true → cutter M (other d) x ≡ 0) →

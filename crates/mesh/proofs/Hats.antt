@@ -1,17 +1,17 @@
 -- The hat of one triple, as it stands and multiplied out. Nothing here knows how many axes there are.
-use Prim.Native.Nat.{ℕ, _+_, _*_, _-_, _<_, _≤_, min, max}
+use Prim.Native.Nat.{ℕ, _+_, _*_, _-_, _<_, _≤_, min}
 use native.Mathlib.Omega.{arith}
 use native.Mathlib.Nat.{mul-pos, mul-le-mul-left, mul-le-mul-right}
 use mathlib.Core.Path.{_≡_, ap, _∙_}
 use mathlib.Core.Logic.{_⊎_, _↔_, inl, inr, ⊎-elim}
 use mathlib.Core.Bool.{true, false}
-use borrow.Author.Tests.{ltb-true, ltb-false, leb-true, leb-false, lt-ltb, le-leb}
+use borrow.Author.Tests.{ltb-true, ltb-false, leb-true, leb-false}
 use lib.Dec.{ltb, leb}
 use Rattle.mesh.specs.Triple.{Fraction, triple, hat, lower, upper, half, low, high, spans, between}
 use Rattle.mesh.specs.declared.Triple.{Triple}
-use Rattle.mesh.proofs.Tests.{either, and-both, and-of, cond-true, cond-false}
+use Rattle.mesh.proofs.Tests.{either, within-of, within-at, cond-true, cond-false}
 pub use Rattle.mesh.proofs.Triples.{Rise}
-use Rattle.mesh.proofs.Triples.{Inside, not-between, rise-of, low-rises, high-rises}
+use Rattle.mesh.proofs.Triples.{Inside, not-between, rise-of, low-rises, high-rises, half-below, half-above}
 use Rattle.mesh.proofs.Scale.{Multiple, Scaled}
 
 -- the hat's two sides
@@ -67,31 +67,14 @@ hat-between t rise p d d-pos pos = (
 -- strictly inside a unit step the hat is above 0 exactly when the step lies in l to r
 pub step-positive : (t : Triple) → Rise t → (x p d : ℕ) → x * d < p → p < (x + 1) * d → spans x t ≡ true ↔ 0 < hat t p d .num
 step-positive t rise x p d lo hi = (
-  λ e. let s = and-both (leb (t .l) x) (ltb x (t .r)) e in
-      let a : t .l ≤ x = leb-true _ _ (s .0) in
-      let b : x < t .r = ltb-true _ _ (s .1) in
-      hat-positive t p d (omega (arith, mul-le-mul-right d a)) (omega (arith, mul-le-mul-right d b)),
+  λ e. let s = within-at (t .l) (t .r) x e in
+      hat-positive t p d (omega (arith, mul-le-mul-right d (s .0))) (omega (arith, mul-le-mul-right d (s .1))),
   λ pos. let h = hat-between t rise p d (omega arith) pos in
-      and-of _ _ (le-leb (t .l) x (omega (arith, later (t .l) (x + 1) d (omega arith)))) (lt-ltb _ _ (later x (t .r) d (omega arith))),
+      within-of (t .l) (t .r) x (omega (arith, later (t .l) (x + 1) d (omega arith))) (later x (t .r) d (omega arith)),
 )
   where
     later : (a b d : ℕ) → a * d < b * d → a < b
     later a b d lt = ⊎-elim (λ e. ltb-true _ _ e) (λ e. let le : b ≤ a = ltb-false _ _ e in absurd (omega (arith, mul-le-mul-right d le))) (either (ltb a b))
-
--- the halves on either side of the middle, without `min` and `max`
-pub half-below : (t : Triple) (z : ℕ) → z < t .m → (half lower z t ≡ triple (t .l) z (t .m)) × (half upper z t ≡ triple z (t .m) (t .r))
-unfolding half
-half-below t z h =
-    let e : min z (t .m) ≡ z = omega arith in
-    let f : max z (t .m) ≡ t .m = omega arith in
-    (rw (e, f), rw (e, f))
-
-pub half-above : (t : Triple) (z : ℕ) → t .m < z → (half lower z t ≡ triple (t .l) (t .m) z) × (half upper z t ≡ triple (t .m) z (t .r))
-unfolding half
-half-above t z h =
-    let e : min z (t .m) ≡ t .m = omega arith in
-    let f : max z (t .m) ≡ z = omega arith in
-    (rw (e, f), rw (e, f))
 
 -- Multiplied by the common multiple and by d, the hat at p / d is the lesser of two slopes, both cut off at 0.
 abbrev pub scaledHat : {n : ℕ} → Multiple n → Triple → ℕ → ℕ → ℕ

@@ -13,7 +13,7 @@ use lib.Seq.{take-append-seam, set-at}
 use Rattle.mesh.specs.Range.{every, each, all}
 use Rattle.mesh.specs.Triple.{between}
 use Rattle.mesh.specs.Blends.{anchored, same}
-use Rattle.mesh.specs.Sound.{proper, nested, fourEverywhere, noneNested, sound, none, table, blendsOf, answer}
+use Rattle.mesh.specs.Sound.{nested, fourEverywhere, noneNested, sound, none, table, blendsOf, answer}
 use Rattle.mesh.specs.Bytes.{at, ProperIn, AllProper, Holding, lone, clear, kept, unpacked, walk, listed, refused}
 use Rattle.mesh.specs.declared.Blend.{Blend}
 use Rattle.mesh.specs.declared.Refined.{Refined}

@@ -3,6 +3,7 @@ pub mod Bytes
 pub mod Entries
 pub mod Distinct
 pub mod Triples
+pub mod Nearest
 pub mod Cuts
 pub mod Order
 pub mod Tables

@@ -1,25 +1,20 @@
 -- What is left of proper blends, as a table: its members, and that a finer mesh may start from the table in hand.
-use Prim.Native.Nat.{ℕ, zero, suc, _+_, _-_, _*_, _≤_, _<_}
-use native.Mathlib.Omega.{arith}
-use mathlib.Core.Path.{_≡_, refl, sym, ap, subst, _∙_}
-use mathlib.Core.Logic.{_⊎_, inl, inr, ⊎-elim}
-use mathlib.Core.Bool.{Bool, true, false, cond, _&&_, not}
-use mathlib.Core.List.{List, [], _∷_, _++_, List·Memᴰ}
-use lib.Dec.{leb}
-use lib.ListN.{length}
-use borrow.Author.Tests.{not-true, lt-ltb}
-use Rattle.mesh.specs.Range.{all}
-use Rattle.mesh.specs.Lines.{Mesh, Direction}
-use Rattle.mesh.specs.Blends.{same, once, inTableOrder, leavesOf, refine, live, firstFour, cuts}
-use Rattle.mesh.specs.Order.{Comes, Left, Uncut, Cutting, Coarser}
-use Rattle.mesh.specs.Sound.{proper, nested, noneNested, fourEverywhere, sound, answer, table}
+use Prim.Native.Nat.{ℕ, _≤_}
+use mathlib.Core.Path.{_≡_, sym, ap, _∙_}
+use mathlib.Core.Logic.{⊎-elim}
+use mathlib.Core.Bool.{true, false}
+use mathlib.Core.List.{List, [], List·Memᴰ}
+use Rattle.mesh.specs.Lines.{Mesh}
+use Rattle.mesh.specs.Blends.{once, inTableOrder, leavesOf, refine}
+use Rattle.mesh.specs.Order.{Left, Coarser}
+use Rattle.mesh.specs.Sound.{proper, sound, answer, table}
 use Rattle.mesh.specs.Bytes.{place}
 use Rattle.mesh.specs.declared.Blend.{Blend}
-use Rattle.mesh.proofs.Tests.{either, true-not-false, and-both, and-of, false-of, all-at, cond-false, cond-true}
+use Rattle.mesh.proofs.Tests.{either}
 use Rattle.mesh.proofs.Distinct.{Distinct}
 pub use Rattle.mesh.proofs.Cuts.{proper-rises}
 use Rattle.mesh.proofs.Cuts.{proper-facts, proper-of, proper-within}
-use Rattle.mesh.proofs.Order.{cut-or-not, comes-rises, comes-within, Rising, LeftOf, SameMembers, leavesOf-left, left-leavesOf, finer-leaves}
+use Rattle.mesh.proofs.Order.{comes-rises, comes-within, Rising, LeftOf, SameMembers, leavesOf-left, left-leavesOf, finer-leaves}
 use Rattle.mesh.proofs.Tables.{once-mem, mem-once, once-distinct, order-mem, mem-order, order-distinct}
 use Rattle.mesh.proofs.Places.{proper-anchored, sound-own}
 use Rattle.mesh.proofs.Ascending.{OwnAnchors, order-ascending, ascending-unique}

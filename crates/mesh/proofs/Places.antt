@@ -1,26 +1,23 @@
 -- Blends kept by their anchors: what the places hold after some blends were kept, and that walking them gives the table.
-use Prim.Native.Nat.{ℕ, zero, suc, _+_, _-_, _*_, _/_, _%_, _≤_, _<_}
+use Prim.Native.Nat.{ℕ, _+_, _*_, _/_, _%_, _≤_, _<_}
 use native.Mathlib.Omega.{arith}
 use mathlib.Core.Path.{_≡_, refl, sym, ap, subst, _∙_}
 use mathlib.Core.Logic.{_⊎_, inl, inr, ⊎-elim}
-use mathlib.Core.Bool.{Bool, true, false, cond, _&&_, not}
-use mathlib.Core.List.{List, [], _∷_, _++_, List·Memᴰ, List·Memᴰ·cases-cons, List·Memᴰ·not-nil}
+use mathlib.Core.Bool.{true, false, not}
+use mathlib.Core.List.{List, [], _∷_, List·Memᴰ, List·Memᴰ·cases-cons, List·Memᴰ·not-nil}
 use mathlib.Core.List.List·Memᴰ.{List·Memᴰ·head, List·Memᴰ·tail}
-use borrow.Author.Tests.{not-true, eqb-true, eqb-false, eq-eqb, ne-eqb, lt-ltb}
+use borrow.Author.Tests.{not-true, eqb-true, eqb-false, eq-eqb, lt-ltb}
 use lib.Dec.{eqb}
 use lib.ListN.{length, getD, set, length-set, length-replicate}
 use lib.Seq.{getD-set-same, getD-set-other}
-use Rattle.mesh.specs.Range.{each, only, all}
-use Rattle.mesh.specs.Triple.{triple, between}
-use Rattle.mesh.specs.Blends.{blend, same, once, anchored, inTableOrder}
+use Rattle.mesh.specs.Range.{only, all}
+use Rattle.mesh.specs.Blends.{same, once, anchored, inTableOrder}
 use Rattle.mesh.specs.Sound.{proper, nested, noneNested, sound, fourEverywhere}
 use Rattle.mesh.specs.Bytes.{at, Square, place, packed, unpacked, keep, keepAll, empty, kept, walk, Holding}
 pub use Rattle.mesh.specs.Bytes.{ProperIn, RisesIn as Rises}
-use Rattle.mesh.specs.declared.Triple.{Triple}
 use Rattle.mesh.specs.declared.Blend.{Blend}
 use Rattle.mesh.proofs.Tests.{either, true-not-false, and-both, and-of, false-of, all-at, only-mem, mem-only, cond-false, each-same}
 use Rattle.mesh.proofs.Bytes.{zeros}
-use Rattle.mesh.proofs.Distinct.{Distinct}
 pub use Rattle.mesh.proofs.Cuts.{proper-facts, proper-of}
 use Rattle.mesh.proofs.Cuts.{same-blend}
 use Rattle.mesh.proofs.Tables.{Anchored, anchored-at, once-mem, mem-once, once-distinct, only-distinct, singleton, nothing, order-mem, mem-order}

@@ -1,12 +1,12 @@
 -- What the tests of `specs/` say: from a test's value to the fact, and back.
 use Prim.Native.Nat.{ℕ, zero, suc, _+_, _-_, _≤_, _<_}
 use native.Mathlib.Omega.{arith}
-use native.Mathlib.Numerals.{add-one}
 use mathlib.Core.Path.{_≡_, refl, sym, ap, subst, _∙_}
 use mathlib.Core.Logic.{_⊎_, inl, inr, ⊎-elim}
 use mathlib.Core.Bool.{Bool, true, false, cond, _&&_, _||_, not}
 use mathlib.Core.List.{List, [], _∷_, _++_, List·Memᴰ, List·Memᴰ·cases-cons, List·Memᴰ·append-cases, Memᴰ·append-left, Memᴰ·append-right, List·Memᴰ·not-nil}
-use borrow.Author.Tests.{ltb-true, ltb-false, leb-true, leb-false, eqb-true, eqb-false, not-true, not-false, lt-ltb, le-ltb, le-leb, lt-leb, eq-eqb, ne-eqb}
+use lib.Dec.{leb, ltb}
+use borrow.Author.Tests.{ltb-true, leb-true, eqb-true, eqb-false, not-true, not-false, lt-ltb, le-leb}
 use Rattle.mesh.specs.Range.{every, some, each, all, any, only, joined}
 
 -- a test is true or false, with the equation
@@ -55,10 +55,23 @@ cond-true b u v e = rw e
 pub cond-false {ℓ} : {A : Type ℓ} (b : Bool) (u v : A) → b ≡ false → cond b u v ≡ v
 cond-false b u v e = rw e
 
+-- k is one of the numbers from `from` up to `to`, that one left out
+abbrev pub within : ℕ → ℕ → ℕ → Bool
+within from to k = leb from k && ltb k to
+
+pub within-of : (from to k : ℕ) → from ≤ k → k < to → within from to k ≡ true
+within-of from to k lo hi = and-of _ _ (le-leb from k lo) (lt-ltb k to hi)
+
+pub within-at : (from to k : ℕ) → within from to k ≡ true → (from ≤ k) × (k < to)
+within-at from to k e = let b = and-both (leb from k) (ltb k to) e in (leb-true from k (b .0), ltb-true k to (b .1))
+
 -- A test behind another, as the code makes them: no where the first fails, else the second.
 module _ {t a : Bool} (e : t ≡ a) where
+  pub failed : not t ≡ true → a ≡ false
+  failed n = sym e ∙ not-true t n
+
   pub refused : (b : Bool) → not t ≡ true → false ≡ (a && b)
-  refused b n = rw (sym e ∙ not-true t n)
+  refused b n = rw (failed n)
 
   pub passed : not t ≡ false → a ≡ true
   passed n = sym e ∙ not-false t n

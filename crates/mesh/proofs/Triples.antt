@@ -6,10 +6,10 @@ use mathlib.Core.Logic.{_⊎_, inl, inr, ⊎-elim}
 use mathlib.Core.Bool.{true, false, _&&_, not}
 use borrow.Author.Tests.{ltb-true, ltb-false, leb-true, leb-false, eqb-true, eqb-false, not-true, lt-ltb, le-leb, eq-eqb, ne-eqb}
 use lib.Dec.{leb, ltb, eqb}
-use Rattle.mesh.specs.Triple.{Side, lower, upper, half, inside, between, rising, low, high, sameTriple}
+use Rattle.mesh.specs.Triple.{triple, Side, lower, upper, half, inside, between, spans, rising, low, high, sameTriple}
 use Rattle.mesh.specs.Bytes.{RisesIn}
 use Rattle.mesh.specs.declared.Triple.{Triple}
-use Rattle.mesh.proofs.Tests.{either, and-both, and-of, and-fails}
+use Rattle.mesh.proofs.Tests.{either, and-both, and-of, and-fails, within-of}
 
 -- the numbers rise
 pub record Rise (t : Triple) : Type 0 where
@@ -38,6 +38,41 @@ low-rises side h = omega arith
 
 pub high-rises : (side : ℕ) → 1 ≤ side → RisesIn side (high side)
 high-rises side h = omega arith
+
+-- a first triple of the side
+pub data First (s : ℕ) : Triple → Type 0 where
+  is-low : First s (low s)
+  is-high : First s (high s)
+
+pub first-rises : (s : ℕ) → 1 ≤ s → (t : Triple) → First s t → RisesIn s t
+first-rises s h t is-low = low-rises s h
+first-rises s h t is-high = high-rises s h
+
+-- it has each unit step of the domain
+pub first-spans : (s : ℕ) (t : Triple) (x : ℕ) → First s t → 1 ≤ x → x < 1 + s → spans x t ≡ true
+first-spans s t x is-low lo hi = within-of 0 (s + 1) x (omega arith) (omega arith)
+first-spans s t x is-high lo hi = within-of 1 (s + 2) x (omega arith) (omega arith)
+
+-- its ends and its middle are the fresh map's positions, none of which lies strictly inside but the middle
+abbrev pub AtFresh : ℕ → ℕ → Type 0
+AtFresh s z = (z ≡ 0) ⊎ ((z ≡ 1) ⊎ ((z ≡ s + 1) ⊎ (z ≡ s + 2)))
+
+pub first-uncut : (s z : ℕ) (t : Triple) → First s t → AtFresh s z → t .l < z → z < t .r → (z ≡ t .m → ⊥) → ⊥
+first-uncut s z t is-low (inl e) lo hi off = omega arith
+first-uncut s z t is-low (inr (inl e)) lo hi off = off e
+first-uncut s z t is-low (inr (inr (inl e))) lo hi off = omega arith
+first-uncut s z t is-low (inr (inr (inr e))) lo hi off = omega arith
+first-uncut s z t is-high (inl e) lo hi off = omega arith
+first-uncut s z t is-high (inr (inl e)) lo hi off = omega arith
+first-uncut s z t is-high (inr (inr (inl e))) lo hi off = off e
+first-uncut s z t is-high (inr (inr (inr e))) lo hi off = omega arith
+
+-- one's middle lies strictly inside another only if they are the same
+pub first-apart : (s : ℕ) (t u : Triple) → First s t → First s u → u .l < t .m → t .m < u .r → t ≡ u
+first-apart s t u is-low is-low lo hi = refl
+first-apart s t u is-low is-high lo hi = absurd (omega arith)
+first-apart s t u is-high is-low lo hi = absurd (omega arith)
+first-apart s t u is-high is-high lo hi = refl
 
 -- strictly between the ends
 pub between-fact : (z : ℕ) (t : Triple) → between z t ≡ true → (t .l < z) × (z < t .r)
@@ -103,6 +138,21 @@ pub half-narrower : (s : Side) (z : ℕ) (t : Triple) → Rise t → Inside z t 
 unfolding half
 half-narrower lower z t h i = let off = i .off in omega arith
 half-narrower upper z t h i = let off = i .off in omega arith
+
+-- the halves on either side of the middle, without `min` and `max`
+pub half-below : (t : Triple) (z : ℕ) → z < t .m → (half lower z t ≡ triple (t .l) z (t .m)) × (half upper z t ≡ triple z (t .m) (t .r))
+unfolding half
+half-below t z h =
+    let e : min z (t .m) ≡ z = omega arith in
+    let f : max z (t .m) ≡ t .m = omega arith in
+    (rw (e, f), rw (e, f))
+
+pub half-above : (t : Triple) (z : ℕ) → t .m < z → (half lower z t ≡ triple (t .l) (t .m) z) × (half upper z t ≡ triple (t .m) z (t .r))
+unfolding half
+half-above t z h =
+    let e : min z (t .m) ≡ t .m = omega arith in
+    let f : max z (t .m) ≡ z = omega arith in
+    (rw (e, f), rw (e, f))
 
 -- two positions, one way round or the other
 either-way : (a b : ℕ) → (a ≤ b) ⊎ (b ≤ a)

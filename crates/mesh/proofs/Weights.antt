@@ -10,7 +10,7 @@ use borrow.Author.Tests.{not-false}
 use Rattle.mesh.specs.Triple.{Fraction, hat, Side, lower, upper, spans, between}
 use Rattle.mesh.specs.Lines.{Direction, upright, level, Mesh}
 use Rattle.mesh.specs.Blends.{crossed, cuts, halve, size, same, firstFour}
-use Rattle.mesh.specs.Order.{here, cut, Left, Uncut}
+use Rattle.mesh.specs.Order.{Left, Uncut}
 use Rattle.mesh.specs.Sound.{proper, overSquare, noneNested}
 use Rattle.mesh.specs.Weight.{times, whole, total, Equal, weight, Term, value, interpolated}
 use Rattle.mesh.specs.declared.Blend.{Blend}
@@ -20,6 +20,7 @@ use Rattle.mesh.proofs.Scale.{Multiple, common, Scaled, scaled-times, s
 use Rattle.mesh.proofs.Hats.{hat-den, hat-middle, hat-off, step-positive, scaledHat, scaled-hat, two-scale, scaled-middle, scaled-off, first-two}
 use Rattle.mesh.proofs.Triples.{Inside}
 use Rattle.mesh.proofs.Cuts.{RiseB, proper-facts, proper-of, proper-rises, halve-proper, halve-smaller, cut-fact, same-blend}
+use Rattle.mesh.proofs.Order.{left-front, left-itself}
 use Rattle.mesh.proofs.Places.{unnested}
 use Rattle.mesh.proofs.Fresh.{first-proper}
 
@@ -210,7 +211,7 @@ Covered M L B = (C : Blend) → Left M B C → List·Memᴰ C L
 
 half-covered : (M : Mesh) (L : List Blend) (B : Blend) (d : Direction) (s : Side) (z : ℕ) → cuts M d z B ≡ true →
     Covered M L B → Covered M L (halve d s z B)
-half-covered M L B d s z e cov C left = cov C (record { comes = cut d z s e (left .comes); uncut = left .uncut })
+half-covered M L B d s z e cov C left = cov C (left-front d z s e left)
 
 -- terms whose blends are proper and covered
 abbrev pub CoveredTerms : Mesh → ℕ → ℕ → List Blend → List Term → Type 0
@@ -224,7 +225,7 @@ module _ (M : Mesh) (w h : ℕ) (L : List Blend)
     covered-within : (f : ℕ) (B : Blend) → size B ≤ f → proper w h B ≡ true → Covered M L B → Reproduced K L (scaledWeight K B)
     covered-within zero B le ok cov = absurd (omega (arith, proper-rises w h B ok .across))
     covered-within (suc f) B le ok cov =
-        ⊎-elim (λ u. member-reproduced w h L distinct apart rise K wide tall B (cov B (record { comes = here; uncut = u })))
+        ⊎-elim (λ u. member-reproduced w h L distinct apart rise K wide tall B (cov B (left-itself u)))
         (λ c. let i = cut-fact M (c .0) (c .1) B (c .2) .inside in
         cut-reproduced K w h wide tall L B ok (c .0) (c .1) i
         (λ s. covered-within f (halve (c .0) s (c .1) B) (omega (arith, halve-smaller (c .0) s (c .1) B (proper-rises w h B ok) i))
