@@ -1,4 +1,4 @@
--- One blend: its cuts as facts, its halves, and the search for the line that cuts first.
+-- One blend: when it is proper, its cuts as facts, its halves, and the line that cuts first.
 use Prim.Native.Nat.{ℕ, _-_, _≤_, _<_}
 use native.Mathlib.Omega.{arith}
 use mathlib.Core.Path.{_≡_, refl, sym, ap, subst, _∙_}
@@ -14,7 +14,7 @@ use Rattle.mesh.specs.declared.Triple.{Triple}
 use Rattle.mesh.specs.declared.Blend.{Blend}
 use Rattle.mesh.proofs.Tests.{either, true-not-false, false-of, and-both, and-of, every-at, every-of}
 use Rattle.mesh.proofs.Nearest.{nearest-first}
-use Rattle.mesh.proofs.Triples.{Rise, rising-facts, rising-of, rise-of, rises-wider, Inside, inside-fact, inside-test, Within, within-refl, within-trans, rises-within, same-triple, triple-same, half-rises, half-within, half-narrower, Knots, half-knots, keeps-middle, From, whole, part, cut-again, cut-once}
+use Rattle.mesh.proofs.Triples.{Rise, rising-facts, rising-of, rise-of, rises-wider, rises-within, Inside, inside-fact, inside-test, Within, within-refl, within-trans, same-triple, triple-same, half-rises, half-within, half-narrower, Knots, half-knots, keeps-middle, From, whole, part, cut-again, cut-once}
 
 -- both triples rise
 pub record RiseB (B : Blend) : Type 0 where
@@ -52,7 +52,7 @@ same-blend A B e =
 pub blend-same : (A B : Blend) → A ≡ B → same A B ≡ true
 blend-same A B p = rw (← p) (and-of _ _ (triple-same (A .across)) (triple-same (A .up)))
 
--- what it says that an anchor is strictly inside another's support
+-- what it says that the anchor of B is strictly inside the support of C
 pub nested-facts : (B C : Blend) → nested B C ≡ true →
     (same B C ≡ false) × (between (B .across .m) (C .across) ≡ true) × (between (B .up .m) (C .up) ≡ true)
 nested-facts B C e =

@@ -1,4 +1,4 @@
--- Cutting a blend: the search for the line that cuts first, the halves, and what is kept.
+-- Cutting a blend: its halves as the code makes them, what is kept, and the blends of a table one by one.
 use Prim.Native.Nat.{ℕ, zero, suc, _+_, _≤_, _<_}
 use native.Mathlib.Omega.{arith}
 use borrow.Author.Tests.{eq-eqb, ne-eqb}

@@ -72,7 +72,7 @@ module _ (w h : ℕ) (hw : 1 ≤ w) (hh : 1 ≤ h) where
       let f = first-four w h B m in
       let r = first-rises (side (other d) w h) (side-positive (other d)) (along d B) (first-crossed w h (other d) B f) in
       let on = c .covered (along d B .l) (omega arith) (omega arith) in
-      first-uncut (side d w h) z (crossed d B) (first-crossed w h d B f) (fresh-positions w h d z (along d B .l) on) (c .inside .lo) (c .inside .hi) (c .inside .off))
+      first-uncut (side d w h) z (crossed d B) (first-crossed w h d B f) (fresh-positions w h d z (along d B .l) on) (c .inside))
     where
       side-positive : (d : Direction) → 1 ≤ side d w h
       side-positive upright = hw

@@ -11,7 +11,7 @@ use Rattle.mesh.specs.Triple.{Fraction, triple, hat, lower, upper, half,
 use Rattle.mesh.specs.declared.Triple.{Triple}
 use Rattle.mesh.proofs.Tests.{either, within-of, within-at, cond-true, cond-false}
 pub use Rattle.mesh.proofs.Triples.{Rise}
-use Rattle.mesh.proofs.Triples.{Inside, not-between, rise-of, low-rises, high-rises, half-below, half-above}
+use Rattle.mesh.proofs.Triples.{Inside, not-between, rise-of, is-low, is-high, first-rises, half-below, half-above}
 use Rattle.mesh.proofs.Scale.{Multiple, Scaled}
 
 -- the hat's two sides
@@ -249,8 +249,8 @@ module _ {n : ℕ} (K : Multiple n) where
   pub first-two : (w : ℕ) → 1 ≤ w → w + 2 ≤ n → (p d : ℕ) → d ≤ p → p ≤ (w + 1) * d →
       scaledHat K (low w) p d + scaledHat K (high w) p d ≡ K .all * d
   first-two w side within p d le ge =
-      let f = hat-falls (low w) (rise-of (low-rises w side)) (omega arith) p d (omega arith) in
-      let r = hat-rises (high w) (rise-of (high-rises w side)) within p d ge in
+      let f = hat-falls (low w) (rise-of (first-rises w side (low w) is-low)) (omega arith) p d (omega arith) in
+      let r = hat-rises (high w) (rise-of (first-rises w side (high w) is-high)) within p d ge in
       rw (f, r) (both (K .part (w + 1 - 1)) (w + 1 - 1) (K .all) ((w + 1) * d - p) (p - 1 * d) d (K .parts _ (omega arith) (omega arith)) (run (w + 1 - 1) (omega arith)))
     where
       run : (g : ℕ) → g ≡ w → ((w + 1) * d - p) + (p - 1 * d) ≡ g * d

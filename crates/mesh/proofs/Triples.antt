@@ -1,4 +1,5 @@
--- One triple and positions on its axis: what a cut does, and that the order of two cuts does not matter. Nothing here knows how many axes there are.
+-- One triple and positions on its axis: when it rises, what a cut does, that the order of two cuts does not matter, and the first triples
+-- of a side. Nothing here knows how many axes there are.
 use Prim.Native.Nat.{ℕ, _+_, _-_, _≤_, _<_, min, max}
 use native.Mathlib.Omega.{arith}
 use mathlib.Core.Path.{_≡_, refl, sym, subst}
@@ -16,7 +17,7 @@ pub record Rise (t : Triple) : Type 0 where
   pub low : t .l < t .m
   pub high : t .m < t .r
 
--- rising within the knots of a side: what the test says, what it leaves out, and what has it too
+-- it rises within the knots of a side: what the test says; and so within those of a longer side
 pub rising-facts : (side : ℕ) (t : Triple) → rising side t ≡ true → RisesIn side t
 rising-facts side t e =
     let a = and-both (ltb (t .l) (t .m) && ltb (t .m) (t .r)) (leb (t .r) (side + 2)) e in
@@ -32,54 +33,13 @@ rise-of r = omega arith
 pub rises-wider : {side more : ℕ} {t : Triple} → side ≤ more → RisesIn side t → RisesIn more t
 rises-wider le r = omega arith
 
--- the first two triples of a side
-pub low-rises : (side : ℕ) → 1 ≤ side → RisesIn side (low side)
-low-rises side h = omega arith
-
-pub high-rises : (side : ℕ) → 1 ≤ side → RisesIn side (high side)
-high-rises side h = omega arith
-
--- a first triple of the side
-pub data First (s : ℕ) : Triple → Type 0 where
-  is-low : First s (low s)
-  is-high : First s (high s)
-
-pub first-rises : (s : ℕ) → 1 ≤ s → (t : Triple) → First s t → RisesIn s t
-first-rises s h t is-low = low-rises s h
-first-rises s h t is-high = high-rises s h
-
--- it has each unit step of the domain
-pub first-spans : (s : ℕ) (t : Triple) (x : ℕ) → First s t → 1 ≤ x → x < 1 + s → spans x t ≡ true
-first-spans s t x is-low lo hi = within-of 0 (s + 1) x (omega arith) (omega arith)
-first-spans s t x is-high lo hi = within-of 1 (s + 2) x (omega arith) (omega arith)
-
--- its ends and its middle are the fresh map's positions, none of which lies strictly inside but the middle
-abbrev pub AtFresh : ℕ → ℕ → Type 0
-AtFresh s z = (z ≡ 0) ⊎ ((z ≡ 1) ⊎ ((z ≡ s + 1) ⊎ (z ≡ s + 2)))
-
-pub first-uncut : (s z : ℕ) (t : Triple) → First s t → AtFresh s z → t .l < z → z < t .r → (z ≡ t .m → ⊥) → ⊥
-first-uncut s z t is-low (inl e) lo hi off = omega arith
-first-uncut s z t is-low (inr (inl e)) lo hi off = off e
-first-uncut s z t is-low (inr (inr (inl e))) lo hi off = omega arith
-first-uncut s z t is-low (inr (inr (inr e))) lo hi off = omega arith
-first-uncut s z t is-high (inl e) lo hi off = omega arith
-first-uncut s z t is-high (inr (inl e)) lo hi off = omega arith
-first-uncut s z t is-high (inr (inr (inl e))) lo hi off = off e
-first-uncut s z t is-high (inr (inr (inr e))) lo hi off = omega arith
-
--- one's middle lies strictly inside another only if they are the same
-pub first-apart : (s : ℕ) (t u : Triple) → First s t → First s u → u .l < t .m → t .m < u .r → t ≡ u
-first-apart s t u is-low is-low lo hi = refl
-first-apart s t u is-low is-high lo hi = absurd (omega arith)
-first-apart s t u is-high is-low lo hi = absurd (omega arith)
-first-apart s t u is-high is-high lo hi = refl
-
 -- strictly between the ends
 pub between-fact : (z : ℕ) (t : Triple) → between z t ≡ true → (t .l < z) × (z < t .r)
 between-fact z t e = let b = and-both (ltb (t .l) z) (ltb z (t .r)) e in (ltb-true _ _ (b .0), ltb-true _ _ (b .1))
 
 pub not-between : (z : ℕ) (t : Triple) → between z t ≡ false → (z ≤ t .l) ⊎ (t .r ≤ z)
-not-between z t e = ⊎-elim (λ s. inl (ltb-false _ _ s)) (λ s. inr (ltb-false _ _ s)) (and-fails (ltb (t .l) z) (ltb z (t .r)) e)
+not-between z t e =
+    ⊎-elim (λ s. inl (ltb-false _ _ s)) (λ s. inr (ltb-false _ _ s)) (and-fails (ltb (t .l) z) (ltb z (t .r)) e)
 
 -- a line at z can cut
 pub record Inside (z : ℕ) (t : Triple) : Type 0 where
@@ -260,3 +220,38 @@ module _ (y z : ℕ) (t : Triple) (i : Inside y t) (j : Inside z t) (apart : y �
       ⊎-elim (λ q. absurd (k (in-upper z y t j (λ e. apart (sym e)) q)))
       (λ q. (upper, part upper (in-upper y z t i apart (omega arith)) (clear-below y z t q)))
       (either-way (min y (t .m)) z)
+
+-- One of the first two triples of a side.
+pub data First (s : ℕ) : Triple → Type 0 where
+  is-low : First s (low s)
+  is-high : First s (high s)
+
+pub first-rises : (s : ℕ) → 1 ≤ s → (t : Triple) → First s t → RisesIn s t
+first-rises s h t is-low = omega arith
+first-rises s h t is-high = omega arith
+
+-- it has each unit step of the domain
+pub first-spans : (s : ℕ) (t : Triple) (x : ℕ) → First s t → 1 ≤ x → x < 1 + s → spans x t ≡ true
+first-spans s t x is-low lo hi = within-of 0 (s + 1) x (omega arith) (omega arith)
+first-spans s t x is-high lo hi = within-of 1 (s + 2) x (omega arith) (omega arith)
+
+-- its ends and its middle are the fresh map's positions, none of which lies strictly inside but the middle
+abbrev pub AtFresh : ℕ → ℕ → Type 0
+AtFresh s z = (z ≡ 0) ⊎ ((z ≡ 1) ⊎ ((z ≡ s + 1) ⊎ (z ≡ s + 2)))
+
+pub first-uncut : (s z : ℕ) (t : Triple) → First s t → AtFresh s z → Inside z t → ⊥
+first-uncut s z t is-low (inl e) i = omega arith
+first-uncut s z t is-low (inr (inl e)) i = i .off e
+first-uncut s z t is-low (inr (inr (inl e))) i = omega arith
+first-uncut s z t is-low (inr (inr (inr e))) i = omega arith
+first-uncut s z t is-high (inl e) i = omega arith
+first-uncut s z t is-high (inr (inl e)) i = omega arith
+first-uncut s z t is-high (inr (inr (inl e))) i = i .off e
+first-uncut s z t is-high (inr (inr (inr e))) i = omega arith
+
+-- one's middle lies strictly inside another only if they are the same
+pub first-apart : (s : ℕ) (t u : Triple) → First s t → First s u → u .l < t .m → t .m < u .r → t ≡ u
+first-apart s t u is-low is-low lo hi = refl
+first-apart s t u is-low is-high lo hi = absurd (omega arith)
+first-apart s t u is-high is-low lo hi = absurd (omega arith)
+first-apart s t u is-high is-high lo hi = refl
