@@ -26,9 +26,9 @@ use Rattle.mesh.proofs.Few.{few, square-of-sum, mem-map}
 use Rattle.mesh.proofs.SoundMaps.{live-left, live-proper, live-distinct, own-anchors}
 
 -- the fresh map's lines are lines of every map of its sides
-on-fresh : (w h : ℕ) (splits : List Split) (d : Direction) {z : ℕ} → AtFresh (side d w h) z → OnLine (mesh w h splits) d z
+on-fresh : (w h : ℕ) (splits : List Split) (d : Direction) (z : ℕ) → AtFresh (side d w h) z → OnLine (mesh w h splits) d z
 unfolding mesh freshMesh
-on-fresh w h splits d {z} e =
+on-fresh w h splits d z e =
     (0, or-left (freshMesh w h d z 0) _ (and-of _ _ (position (side d w h) e) (lt-ltb 0 (side (other d) w h + 2) (omega arith))))
   where
     position : (s : ℕ) → AtFresh s z → (eqb z 0 || eqb z 1 || eqb z (s + 1) || eqb z (s + 2)) ≡ true
@@ -39,9 +39,11 @@ on-fresh w h splits d {z} e =
 
 first-on-lines : (w h : ℕ) (splits : List Split) (d : Direction) (t : Triple) → First (side d w h) t → Knots (OnLine (mesh w h splits) d) t
 first-on-lines w h splits d t is-low =
-    record { l = on-fresh w h splits d (inl refl); m = on-fresh w h splits d (inr (inl refl)); r = on-fresh w h splits d (inr (inr (inl refl))) }
+    let on = on-fresh w h splits d in
+    record { l = on _ (inl refl); m = on _ (inr (inl refl)); r = on _ (inr (inr (inl refl))) }
 first-on-lines w h splits d t is-high =
-    record { l = on-fresh w h splits d (inr (inl refl)); m = on-fresh w h splits d (inr (inr (inl refl))); r = on-fresh w h splits d (inr (inr (inr refl))) }
+    let on = on-fresh w h splits d in
+    record { l = on _ (inr (inl refl)); m = on _ (inr (inr (inl refl))); r = on _ (inr (inr (inr refl))) }
 
 -- the splits of a direction, and the line positions within the domain
 of-direction : Direction → List Split → List Split

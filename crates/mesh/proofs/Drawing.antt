@@ -203,9 +203,8 @@ blank = record { direction = 0; position = 0; from = 0; to = 0 }
 pub record Drawing (L : Lines) (direction i : ℕ) (steps : List ℕ) : Type 0 where
   pub square : Square steps
   pub within : i ≤ L .count
-  pub held : L .count ≤ 60
+  pub ok : Allowed L
   pub room : length (L .splits) ≡ 60
-  pub ranges : all (inRange (L .w) (L .h)) (splitsOf L) ≡ true
   pub on : (d : Direction) → number d ≡ direction → (z k : ℕ) →
       (stepOn steps z k || any (draws (L .w) (L .h) d z k) (drop i (splitsOf L))) ≡ meshOf L d z k
 
@@ -219,9 +218,8 @@ module _ (L : Lines) (direction : ℕ) where
       record {
         square = square;
         within = omega arith;
-        held = a .held;
+        ok = a;
         room = room;
-        ranges = a .ranges;
         on = λ d same z k. rw (fresh d same z k);
       }
 
@@ -232,7 +230,7 @@ module _ (L : Lines) (direction : ℕ) where
     -- the next split keeps to its ranges
     pub drawing-ranges : i < L .count → inRange (L .w) (L .h) (getD (L .splits) i blank) ≡ true
     drawing-ranges lt =
-        all-at (inRange (L .w) (L .h)) (splitsOf L) (drawing .ranges) _ (left-mem (L .splits) (L .count) i (omega arith) blank lt)
+        all-at (inRange (L .w) (L .h)) (splitsOf L) (drawing .ok .ranges) _ (left-mem (L .splits) (L .count) i (omega arith) blank lt)
 
     pub drawing-more : (after : List ℕ) → i < L .count → Square after →
         ((d : Direction) → number d ≡ direction → (z k : ℕ) →
@@ -242,9 +240,8 @@ module _ (L : Lines) (direction : ℕ) where
         record {
           square = square;
           within = omega arith;
-          held = drawing .held;
+          ok = drawing .ok;
           room = drawing .room;
-          ranges = drawing .ranges;
           on = λ d same z k. rw (drawn d same z k, or-assoc) (rw (turn lt) at (drawing .on d same z k));
         }
 

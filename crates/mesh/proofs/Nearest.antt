@@ -1,4 +1,5 @@
--- The search for the line nearest to the middle of one triple: what it answers, and how a loop takes it. Nothing here knows how many axes there are.
+-- The search for the line nearest to the middle of one triple: what it answers, and how a loop takes it.
+-- Nothing here knows how many axes there are.
 use Prim.Native.Nat.{ℕ, zero, suc, _+_, _-_, _≤_, _<_}
 use native.Mathlib.Omega.{arith}
 use mathlib.Core.Path.{_≡_, refl, ap, _∙_}

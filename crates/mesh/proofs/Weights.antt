@@ -18,7 +18,7 @@ use Rattle.mesh.proofs.Tests.{and-both, and-of, and-fails}
 use Rattle.mesh.proofs.Distinct.{Distinct}
 use Rattle.mesh.proofs.Scale.{Multiple, common, Scaled, scaled-times, scaled-total, scaled-more, scaled-multiple, scaled-equal, scaled-one, total-positive, sum, sum-same, sum-zero, sum-multiple, sum-linear, sum-single}
 use Rattle.mesh.proofs.Hats.{hat-den, hat-middle, hat-off, step-positive, scaledHat, scaled-hat, two-scale, scaled-middle, scaled-off, first-two}
-use Rattle.mesh.proofs.Triples.{Inside}
+use Rattle.mesh.proofs.Triples.{Inside, rise-of}
 use Rattle.mesh.proofs.Cuts.{RiseB, proper-facts, proper-of, proper-rises, halve-proper, halve-smaller, cut-fact, same-blend}
 use Rattle.mesh.proofs.Order.{left-front, left-itself}
 use Rattle.mesh.proofs.Places.{unnested}
@@ -26,17 +26,17 @@ use Rattle.mesh.proofs.Fresh.{first-proper}
 
 -- a proper blend
 module _ (w h : ℕ) (B : Blend) (ok : proper w h B ≡ true) where
-  rise : RiseB B
-  rise = proper-rises w h B ok
-
   pub weight-den : (p q d : ℕ) → 0 < d → 0 < weight B p q d .den
-  weight-den p q d pos = mul-pos (hat-den (B .across) (rise .across) p d pos) (hat-den (B .up) (rise .up) q d pos)
+  weight-den p q d pos =
+      let r = proper-rises w h B ok in
+      mul-pos (hat-den (B .across) (r .across) p d pos) (hat-den (B .up) (r .up) q d pos)
 
   -- strictly inside a unit square the weight is above 0 exactly when the square lies in the support
   pub square-positive : (x y p q d : ℕ) → x * d < p → p < (x + 1) * d → y * d < q → q < (y + 1) * d → overSquare x y B ≡ true ↔ 0 < weight B p q d .num
   square-positive x y p q d x-low x-high y-low y-high =
-      let a = step-positive (B .across) (rise .across) x p d x-low x-high in
-      let b = step-positive (B .up) (rise .up) y q d y-low y-high in (
+      let r = proper-rises w h B ok in
+      let a = step-positive (B .across) (r .across) x p d x-low x-high in
+      let b = step-positive (B .up) (r .up) y q d y-low y-high in (
         λ e. let s = and-both (spans x (B .across)) (spans y (B .up)) e in mul-pos (a .0 (s .0)) (b .0 (s .1)),
         λ pos. let f = factors (hat (B .across) p d .num) (hat (B .up) q d .num) pos in and-of _ _ (a .1 (f .0)) (b .1 (f .1)),
       )
@@ -135,7 +135,7 @@ module _ {n : ℕ} (K : Multiple n) (w h : ℕ) (wide : w + 2 ≤ n) (tall : h +
       let a = proper-facts w h B ok .across in
       let b = proper-facts w h B ok .up in
       scaled-times (K .all * d) (K .all * d) (hat (B .across) p d) (hat (B .up) q d) (scaledHat K (B .across) p d) (scaledHat K (B .up) q d)
-      (scaled-hat K (B .across) (proper-rises w h B ok .across) (omega arith) p d) (scaled-hat K (B .up) (proper-rises w h B ok .up) (omega arith) q d)
+      (scaled-hat K (B .across) (rise-of a) (omega arith) p d) (scaled-hat K (B .up) (rise-of b) (omega arith) q d)
 
   pub scaled-value : (ts : List Term) → ((t : Term) → List·Memᴰ t ts → proper w h (t .of) ≡ true) → (p q d : ℕ) →
       Scaled (K .all * d * (K .all * d)) (value ts p q d) (scaledValue K ts p q d)
@@ -161,11 +161,11 @@ module _ {n : ℕ} (K : Multiple n) (w h : ℕ) (wide : w + 2 ≤ n) (tall : h +
   unfolding halve
   cut-law B ok upright z i =
       let a = proper-facts w h B ok .across in
-      let t = two-scale K (B .across) z (proper-rises w h B ok .across) (omega arith) i in
+      let t = two-scale K (B .across) z (rise-of a) (omega arith) i in
       (t .0, t .1, t .2, t .3, λ p q e. times-right _ _ _ _ _ _ (scaledHat K (B .up) q e) (t .4 p e))
   cut-law B ok level z i =
       let b = proper-facts w h B ok .up in
-      let t = two-scale K (B .up) z (proper-rises w h B ok .up) (omega arith) i in
+      let t = two-scale K (B .up) z (rise-of b) (omega arith) i in
       (t .0, t .1, t .2, t .3, λ p q e. times-left _ _ _ _ _ _ (scaledHat K (B .across) p e) (t .4 q e))
 
   -- a blend whose halves are reproduced is
@@ -191,7 +191,7 @@ module _ (w h : ℕ) (L : List Blend) (distinct : Distinct L) (apart : noneNeste
   scaled-own C m =
       let a = proper-facts w h C (rise C m) .across in
       let b = proper-facts w h C (rise C m) .up in
-      rw (scaled-middle K (C .across) (proper-rises w h C (rise C m) .across) (omega arith), scaled-middle K (C .up) (proper-rises w h C (rise C m) .up) (omega arith))
+      rw (scaled-middle K (C .across) (rise-of a) (omega arith), scaled-middle K (C .up) (rise-of b) (omega arith))
 
   scaled-other : (B C : Blend) → List·Memᴰ B L → List·Memᴰ C L → (B ≡ C → ⊥) → scaledWeight K C (B .across .m) (B .up .m) 1 ≡ 0
   scaled-other B C mB mC differ =
@@ -278,10 +278,8 @@ module _ (M : Mesh) (w h : ℕ) (L : List Blend)
 
         at-anchor : (C : Blend) → List·Memᴰ C L → four (C .across .m) (C .up .m) 1 ≡ K .all * K .all
         at-anchor C m =
-            let a = proper-rises w h C (rise C m) .across in
-            let b = proper-rises w h C (rise C m) .up in
-            let a′ = proper-facts w h C (rise C m) .across in
-            let b′ = proper-facts w h C (rise C m) .up in
+            let a = proper-facts w h C (rise C m) .across in
+            let b = proper-facts w h C (rise C m) .up in
             four-one (C .across .m) (C .up .m) 1 (omega arith) (omega arith) (omega arith) (omega arith) ∙ at-one (K .all)
 
   -- what is reproduced, in fractions: at every point, inside the domain or not
