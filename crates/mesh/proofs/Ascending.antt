@@ -1,18 +1,17 @@
 -- Lists in table order: the places of their anchors rise strictly, so equal members make equal lists.
-use Prim.Native.Nat.{ℕ, zero, suc, _+_, _-_, _*_, _≤_, _<_}
+use Prim.Native.Nat.{ℕ, zero, suc, _+_, _*_, _≤_, _<_}
 use native.Mathlib.Omega.{arith}
-use mathlib.Core.Path.{_≡_, refl, sym, ap, ap₂, subst, _∙_}
-use mathlib.Core.Logic.{_⊎_, inl, inr, ⊎-elim}
-use mathlib.Core.List.{List, [], _∷_, _++_, List·Memᴰ, List·Memᴰ·cases-cons, List·Memᴰ·append-cases, List·Memᴰ·not-nil, Memᴰ·append-left, Memᴰ·append-right}
+use mathlib.Core.Path.{_≡_, refl, sym, ap, ap₂, _∙_}
+use mathlib.Core.Logic.{⊎-elim}
+use mathlib.Core.List.{List, [], _∷_, _++_, List·Memᴰ, List·Memᴰ·cases-cons, List·Memᴰ·append-cases, List·Memᴰ·not-nil}
 use mathlib.Core.List.List·Memᴰ.{List·Memᴰ·head, List·Memᴰ·tail}
 use Rattle.mesh.specs.Range.{each, only}
 use Rattle.mesh.specs.Blends.{anchored, inTableOrder}
-use Rattle.mesh.specs.Bytes.{at, place}
+use Rattle.mesh.specs.Bytes.{place}
 use Rattle.mesh.specs.declared.Blend.{Blend}
 use Rattle.mesh.proofs.Tests.{each-mem, only-mem}
 use Rattle.mesh.proofs.Distinct.{Distinct}
-use Rattle.mesh.proofs.Order.{SameMembers}
-use Rattle.mesh.proofs.Tables.{anchored-at, order-mem, mem-order, only-distinct}
+use Rattle.mesh.proofs.Tables.{anchored-at, only-distinct}
 
 module _ {ℓ} {A : Type ℓ} (key : A → ℕ) where
   abbrev pub Ascending : List A → Type ℓ

@@ -1,57 +1,49 @@
 -- "A sound map so has at most 32 × 32 = 1,024 live blends": their anchors lie on line positions.
-use Prim.Native.Nat.{ℕ, zero, suc, _+_, _-_, _*_, _≤_, _<_}
+use Prim.Native.Nat.{ℕ, _+_, _≤_, _<_}
 use native.Mathlib.Omega.{arith}
 use native.Mathlib.Nat.{le-trans}
-use mathlib.Core.Path.{_≡_, refl, sym, ap, subst, _∙_}
-use mathlib.Core.Logic.{_⊎_, inl, inr, ⊎-elim}
-use mathlib.Core.Bool.{Bool, true, false, cond, _&&_, _||_}
+use mathlib.Core.Path.{_≡_, refl, sym, subst}
+use mathlib.Core.Logic.{inl, inr, ⊎-elim}
+use mathlib.Core.Bool.{true, false, _&&_, _||_, or-true}
 use mathlib.Core.List.{List, [], _∷_, map, List·Memᴰ}
 use mathlib.Core.List.List·Memᴰ.{List·Memᴰ·head, List·Memᴰ·tail}
 use lib.Dec.{leb, ltb, eqb}
 use lib.ListN.{length, length-map}
-use borrow.Author.Tests.{eqb-true, eqb-false, eq-eqb, ne-eqb, lt-ltb}
+use borrow.Author.Tests.{eqb-true, eq-eqb, ne-eqb, lt-ltb}
 use Rattle.mesh.specs.Range.{any, only}
-use Rattle.mesh.specs.Lines.{Mesh, Direction, upright, level, mesh, freshMesh, draws, start, end, number, other, side}
-use Rattle.mesh.specs.Blends.{live, firstFour, crossed}
+use Rattle.mesh.specs.Lines.{Direction, upright, level, mesh, freshMesh, draws, start, end, number, other, side}
+use Rattle.mesh.specs.Blends.{live}
 use Rattle.mesh.specs.Sound.{sound}
 use Rattle.mesh.specs.declared.Split.{Split}
 use Rattle.mesh.specs.declared.Triple.{Triple}
 use Rattle.mesh.specs.declared.Blend.{Blend}
-use Rattle.mesh.proofs.Tests.{either, true-not-false, and-both, and-of, or-either, or-left, or-right, any-at, mem-only}
-use Rattle.mesh.proofs.Triples.{Knots}
-use Rattle.mesh.proofs.Order.{OnLine, comes-on-lines, firstFour-rises}
-use Rattle.mesh.proofs.Places.{Rises, proper-facts}
-use Rattle.mesh.proofs.Fresh.{First, is-low, is-high, first-four, first-crossed, fresh-positions}
+use Rattle.mesh.proofs.Tests.{either, and-both, and-of, or-either, or-left, any-at, mem-only}
+use Rattle.mesh.proofs.Triples.{Knots, First, is-low, is-high, AtFresh}
+use Rattle.mesh.proofs.Order.{OnLine, comes-on-lines}
+use Rattle.mesh.proofs.Cuts.{proper-facts}
+use Rattle.mesh.proofs.Fresh.{first-four, firstFour-rises, fresh-positions}
 use Rattle.mesh.proofs.Few.{few, square-of-sum, mem-map}
 use Rattle.mesh.proofs.SoundMaps.{live-left, live-proper, live-distinct, own-anchors}
 
-or-third : (a b c e : Bool) → c ≡ true → (a || b || c || e) ≡ true
-or-third true b c e p = refl
-or-third false true c e p = refl
-or-third false false c e p = or-left c e p
-
-or-fourth : (a b c e : Bool) → e ≡ true → (a || b || c || e) ≡ true
-or-fourth a b c e p = or-right (a || b || c) e p
-
 -- the fresh map's lines are lines of every map of its sides
-on-fresh : (w h : ℕ) (splits : List Split) (d : Direction) (z : ℕ) → (eqb z 0 || eqb z 1 || eqb z (side d w h + 1) || eqb z (side d w h + 2)) ≡ true →
-    OnLine (mesh w h splits) d z
+on-fresh : (w h : ℕ) (splits : List Split) (d : Direction) (z : ℕ) → AtFresh (side d w h) z → OnLine (mesh w h splits) d z
 unfolding mesh freshMesh
-on-fresh w h splits d z e = (0, or-left (freshMesh w h d z 0) _ (and-of _ _ e (lt-ltb 0 (side (other d) w h + 2) (omega arith))))
+on-fresh w h splits d z e =
+    (0, or-left (freshMesh w h d z 0) _ (and-of _ _ (position (side d w h) e) (lt-ltb 0 (side (other d) w h + 2) (omega arith))))
+  where
+    position : (s : ℕ) → AtFresh s z → (eqb z 0 || eqb z 1 || eqb z (s + 1) || eqb z (s + 2)) ≡ true
+    position s (inl e) = rw (eq-eqb z 0 e)
+    position s (inr (inl e)) = simp (eq-eqb z 1 e, or-true)
+    position s (inr (inr (inl e))) = simp (eq-eqb z (s + 1) e, or-true)
+    position s (inr (inr (inr e))) = simp (eq-eqb z (s + 2) e, or-true)
 
 first-on-lines : (w h : ℕ) (splits : List Split) (d : Direction) (t : Triple) → First (side d w h) t → Knots (OnLine (mesh w h splits) d) t
 first-on-lines w h splits d t is-low =
-    record {
-      l = on-fresh w h splits d 0 refl;
-      m = on-fresh w h splits d 1 refl;
-      r = on-fresh w h splits d (side d w h + 1) (or-third (eqb (side d w h + 1) 0) (eqb (side d w h + 1) 1) (eqb (side d w h + 1) (side d w h + 1)) (eqb (side d w h + 1) (side d w h + 2)) (eq-eqb (side d w h + 1) (side d w h + 1) refl));
-    }
+    let on = on-fresh w h splits d in
+    record { l = on _ (inl refl); m = on _ (inr (inl refl)); r = on _ (inr (inr (inl refl))) }
 first-on-lines w h splits d t is-high =
-    record {
-      l = on-fresh w h splits d 1 refl;
-      m = on-fresh w h splits d (side d w h + 1) (or-third (eqb (side d w h + 1) 0) (eqb (side d w h + 1) 1) (eqb (side d w h + 1) (side d w h + 1)) (eqb (side d w h + 1) (side d w h + 2)) (eq-eqb (side d w h + 1) (side d w h + 1) refl));
-      r = on-fresh w h splits d (side d w h + 2) (or-fourth (eqb (side d w h + 2) 0) (eqb (side d w h + 2) 1) (eqb (side d w h + 2) (side d w h + 1)) (eqb (side d w h + 2) (side d w h + 2)) (eq-eqb (side d w h + 2) (side d w h + 2) refl));
-    }
+    let on = on-fresh w h splits d in
+    record { l = on _ (inr (inl refl)); m = on _ (inr (inr (inl refl))); r = on _ (inr (inr (inr refl))) }
 
 -- the splits of a direction, and the line positions within the domain
 of-direction : Direction → List Split → List Split

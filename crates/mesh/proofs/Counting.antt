@@ -1,12 +1,12 @@
 -- How many blends lie over each unit square, counted a blend and a run of places at a time.
-use Prim.Native.Nat.{ℕ, zero, suc, _+_, _*_, _-_, _≤_, _<_, min, max}
+use Prim.Native.Nat.{ℕ, _+_, _*_, _-_, _≤_, _<_, min, max}
 use native.Mathlib.Omega.{arith}
 use mathlib.Core.Path.{_≡_, refl, ap, _∙_}
 use mathlib.Core.Logic.{_⊎_, inl, inr, ⊎-elim}
-use mathlib.Core.Bool.{Bool, true, false, cond, _&&_}
+use mathlib.Core.Bool.{Bool, true, false, cond}
 use mathlib.Core.List.{List, [], _∷_}
-use borrow.Author.Tests.{ltb-true, leb-true, eqb-true, eqb-false, lt-ltb, le-leb}
-use lib.Dec.{ltb, leb, eqb}
+use borrow.Author.Tests.{eqb-true, eqb-false}
+use lib.Dec.{eqb}
 use lib.ListN.{length, getD, set, replicate, length-set}
 use lib.Seq.{getD-set-same, getD-set-other}
 use Rattle.mesh.specs.Range.{every, only}
@@ -15,17 +15,8 @@ use Rattle.mesh.specs.Blends.{blend}
 use Rattle.mesh.specs.Sound.{overSquare, fourEverywhere}
 use Rattle.mesh.specs.Bytes.{at, Square, RunAdded, RunFull, Added, Crowded, Counted}
 use Rattle.mesh.specs.declared.Blend.{Blend}
-use Rattle.mesh.proofs.Tests.{either, true-not-false, and-both, and-of, same-test, false-of, every-at}
-
--- k is one of the places `from` to `to`
-abbrev within : ℕ → ℕ → ℕ → Bool
-within from to k = leb from k && ltb k to
-
-within-of : (from to k : ℕ) → from ≤ k → k < to → within from to k ≡ true
-within-of from to k lo hi = and-of _ _ (le-leb from k lo) (lt-ltb k to hi)
-
-within-at : (from to k : ℕ) → within from to k ≡ true → (from ≤ k) × (k < to)
-within-at from to k e = let b = and-both (leb from k) (ltb k to) e in (leb-true from k (b .0), ltb-true k to (b .1))
+use Rattle.mesh.proofs.Tests.{within, within-of, within-at, either, true-not-false, and-both, and-of, same-test, false-of, every-at, every-same}
+use Rattle.mesh.proofs.Bytes.{zeros}
 
 within-past : (from to k : ℕ) → to ≤ k → within from to k ≡ false
 within-past from to k past = false-of _ (λ e. let h : k < to = within-at from to k e .1 in omega arith)
@@ -177,11 +168,6 @@ module _ (w h l r b t : ℕ) (B : Blend) (clip : Clipped w h B l r b t) where
             four = omega arith;
           }
 
-every-same : (from n : ℕ) (f g : ℕ → Bool) → ((k : ℕ) → from ≤ k → k < from + n → f k ≡ g k) → every from n f ≡ every from n g
-every-same from zero f g e = refl
-every-same from (suc n) f g e =
-    rw (e from (omega arith) (omega arith), every-same (from + 1) n f g (λ k lo hi. e k (omega arith) (omega arith)))
-
 -- The blends counted so far, with those that are left, are all the blends.
 abbrev pub CountedBut : ℕ → ℕ → List Blend → List Blend → List ℕ → Type 0
 CountedBut w h left bs counts =
@@ -191,11 +177,6 @@ CountedBut w h left bs counts =
 only-first : (test : Blend → Bool) (B : Blend) (bs : List Blend) → length (only test (B ∷ bs)) ≡ cond (test B) 1 0 + length (only test bs)
 only-first test B bs =
     ⊎-elim (λ (e : test B ≡ true). rw e (omega arith)) (λ (e : test B ≡ false). rw e (omega arith)) (either (test B))
-
-zeros : (n i : ℕ) → _≡_ {A = ℕ} (getD (replicate n 0) i 0) 0
-zeros zero i = refl
-zeros (suc n) zero = refl
-zeros (suc n) (suc i) = zeros n i
 
 pub counted-none : (w h n : ℕ) (bs : List Blend) → CountedBut w h bs bs (replicate n 0)
 counted-none w h n bs x y _ _ _ _ = rw (zeros n (at x y)) (omega arith)

@@ -1,27 +1,64 @@
--- One blend: its cuts as facts, its halves, and the search for the line that cuts first.
-use Prim.Native.Nat.{ℕ, zero, suc, _+_, _-_, _≤_, _<_}
+-- One blend: when it is proper, its cuts as facts, its halves, and the line that cuts first.
+use Prim.Native.Nat.{ℕ, _-_, _≤_, _<_}
 use native.Mathlib.Omega.{arith}
 use mathlib.Core.Path.{_≡_, refl, sym, ap, subst, _∙_}
 use mathlib.Core.Logic.{_⊎_, inl, inr, ⊎-elim}
-use mathlib.Core.Bool.{Bool, true, false, cond}
-use borrow.Author.Tests.{eqb-true, eqb-false, ltb-true, ltb-false}
-use lib.Dec.{eqb, ltb}
-use Rattle.mesh.specs.Triple.{Side, half, inside}
+use mathlib.Core.Bool.{true, false, _&&_, not}
+use borrow.Author.Tests.{not-true}
+use Rattle.mesh.specs.Triple.{Side, half, inside, between, rising, sameTriple}
 use Rattle.mesh.specs.Lines.{Direction, upright, level, other, Mesh}
-use Rattle.mesh.specs.Blends.{blend, crossed, along, coversBlend, cuts, halve, below, above, nearest, cutter, size}
+use Rattle.mesh.specs.Blends.{blend, crossed, along, coversBlend, cuts, halve, cutter, size, same}
+use Rattle.mesh.specs.Sound.{proper, nested}
+use Rattle.mesh.specs.Bytes.{ProperIn}
 use Rattle.mesh.specs.declared.Triple.{Triple}
 use Rattle.mesh.specs.declared.Blend.{Blend}
 use Rattle.mesh.proofs.Tests.{either, true-not-false, false-of, and-both, and-of, every-at, every-of}
-use Rattle.mesh.proofs.Triples.{Rise, Inside, inside-fact, inside-test, Within, within-refl, within-trans, half-rises, half-within, half-narrower, Knots, half-knots, keeps-middle, From, whole, part, cut-again, cut-once}
+use Rattle.mesh.proofs.Nearest.{nearest-first}
+use Rattle.mesh.proofs.Triples.{Rise, rising-facts, rising-of, rise-of, rises-wider, rises-within, Inside, inside-fact, inside-test, Within, within-refl, within-trans, same-triple, triple-same, half-rises, half-within, half-narrower, Knots, half-knots, keeps-middle, From, whole, part, cut-again, cut-once}
 
 -- both triples rise
 pub record RiseB (B : Blend) : Type 0 where
   pub across : Rise (B .across)
   pub up : Rise (B .up)
 
+-- so do those of a proper blend, within the knots of its sides
+pub proper-facts : (w h : ℕ) (B : Blend) → proper w h B ≡ true → ProperIn w h B
+proper-facts w h B e =
+    let b = and-both (rising w (B .across)) (rising h (B .up)) e in
+    record { across = rising-facts w (B .across) (b .0); up = rising-facts h (B .up) (b .1) }
+
+pub proper-of : (w h : ℕ) (B : Blend) → ProperIn w h B → proper w h B ≡ true
+proper-of w h B p = and-of _ _ (rising-of w (B .across) (p .across)) (rising-of h (B .up) (p .up))
+
+pub riseB-of : {w h : ℕ} {B : Blend} → ProperIn w h B → RiseB B
+riseB-of p = record { across = rise-of (p .across); up = rise-of (p .up) }
+
+pub proper-rises : (w h : ℕ) (B : Blend) → proper w h B ≡ true → RiseB B
+proper-rises w h B e = riseB-of (proper-facts w h B e)
+
+pub proper-wider : {w h wide high : ℕ} {B : Blend} → w ≤ wide → h ≤ high → ProperIn w h B → ProperIn wide high B
+proper-wider lw lh p = record { across = rises-wider lw (p .across); up = rises-wider lh (p .up) }
+
 pub crossed-rises : (d : Direction) (B : Blend) → RiseB B → Rise (crossed d B)
 crossed-rises upright B h = h .across
 crossed-rises level B h = h .up
+
+-- the test of equal blends is equality
+pub same-blend : (A B : Blend) → same A B ≡ true → A ≡ B
+same-blend A B e =
+    let b = and-both (sameTriple (A .across) (B .across)) (sameTriple (A .up) (B .up)) e in
+    λ i. record { across = same-triple (A .across) (B .across) (b .0) i; up = same-triple (A .up) (B .up) (b .1) i }
+
+pub blend-same : (A B : Blend) → A ≡ B → same A B ≡ true
+blend-same A B p = rw (← p) (and-of _ _ (triple-same (A .across)) (triple-same (A .up)))
+
+-- what it says that the anchor of B is strictly inside the support of C
+pub nested-facts : (B C : Blend) → nested B C ≡ true →
+    (same B C ≡ false) × (between (B .across .m) (C .across) ≡ true) × (between (B .up .m) (C .up) ≡ true)
+nested-facts B C e =
+    let a = and-both (not (same B C) && between (B .across .m) (C .across)) (between (B .up .m) (C .up)) e in
+    let b = and-both (not (same B C)) (between (B .across .m) (C .across)) (a .0) in
+    (not-true _ (b .0), b .1, a .1)
 
 -- a rising blend's support is not empty
 pub size-positive : (B : Blend) → RiseB B → 0 < size B
@@ -37,6 +74,10 @@ withinB-refl B = record { across = within-refl (B .across); up = within-refl (B 
 
 pub withinB-trans : {B C D : Blend} → WithinB B C → WithinB C D → WithinB B D
 withinB-trans p q = record { across = within-trans (p .across) (q .across); up = within-trans (p .up) (q .up) }
+
+pub proper-within : {w h : ℕ} {B C : Blend} → ProperIn w h B → RiseB C → WithinB B C → ProperIn w h C
+proper-within p r s =
+    record { across = rises-within (p .across) (r .across) (s .across); up = rises-within (p .up) (r .up) (s .up) }
 
 pub crossed-within : (d : Direction) {B C : Blend} → WithinB B C → Within (crossed d B) (crossed d C)
 crossed-within upright w = w .across
@@ -77,6 +118,10 @@ pub halve-within : (d : Direction) (s : Side) (z : ℕ) (B : Blend) → RiseB B 
 unfolding halve
 halve-within upright s z B h i = record { across = half-within s z (B .across) (h .across) i; up = within-refl (B .up) }
 halve-within level s z B h i = record { across = within-refl (B .across); up = half-within s z (B .up) (h .up) i }
+
+pub halve-proper : {w h : ℕ} (d : Direction) (s : Side) (z : ℕ) (B : Blend) → ProperIn w h B → Inside z (crossed d B) →
+    ProperIn w h (halve d s z B)
+halve-proper d s z B p i = proper-within p (halve-rises d s z B (riseB-of p) i) (halve-within d s z B (riseB-of p) i)
 
 pub halve-smaller : (d : Direction) (s : Side) (z : ℕ) (B : Blend) → RiseB B → Inside z (crossed d B) → size (halve d s z B) < size B
 unfolding halve
@@ -119,7 +164,7 @@ halves-commute upright-level s u y z B = refl
 halves-commute level-upright s u y z B = refl
 
 -- B with another triple for its crossed one, as a cut of the direction makes it
-abbrev put : Direction → Blend → Triple → Blend
+abbrev pub put : Direction → Blend → Triple → Blend
 put upright B t = blend t (B .up)
 put level B t = blend (B .across) t
 
@@ -145,7 +190,7 @@ from-put : (M : Mesh) (d : Direction) (y : ℕ) (B : Blend) (t X : Triple) → C
 from-put M d y B t X f (whole e) = wholeB (ap (put d B) e)
 from-put M d y B t X f (part v i e) = partB v (cut-put M d B y t i f) (ap (put d B) e ∙ sym (halve-put d B v y t))
 
-halve-own : (d : Direction) (B : Blend) (s : Side) (z : ℕ) → put d B (half s z (crossed d B)) ≡ halve d s z B
+pub halve-own : (d : Direction) (B : Blend) (s : Side) (z : ℕ) → put d B (half s z (crossed d B)) ≡ halve d s z B
 halve-own d B s z = sym (halve-put d B s z (crossed d B)) ∙ ap (halve d s z) (put-own d B)
 
 -- Two lines of one direction cut a blend, at y and at z. What the one at z leaves of a half by y, its halves or that half itself,
@@ -165,77 +210,6 @@ swap M d s y z B p q apart =
     let r = cut-once y z (crossed d B) (p .inside) (q .inside) apart s k in
     inr (r .0, rw (← halve-own d B (r .0) z, ← halve-own d B s y) (from-put M d y B _ _ (p .covered) (r .1))))
     (either (inside z (half s y (crossed d B))))
-
--- What a search over the places 1 to n for a line answers: one of them that has a line, or 0 where none has.
-record Search (line : ℕ → Bool) (place : ℕ → ℕ) (n v : ℕ) : Type 0 where
-  none : v ≡ 0 → (k : ℕ) → 0 < k → k ≤ n → line (place k) ≡ false
-  some : (v ≡ 0 → ⊥) → (k : ℕ) × (0 < k) × (k ≤ n) × (v ≡ place k) × (line (place k) ≡ true)
-
-module _ (line : ℕ → Bool) (place : ℕ → ℕ) where
-  search-nowhere : Search line place 0 0
-  search-nowhere = record { none = λ e k lo hi. absurd (omega arith); some = λ f. absurd (f refl) }
-
-  search-on : (n v : ℕ) → Search line place n v → 0 < place (suc n) → Search line place (suc n) (cond (line (place (suc n))) (place (suc n)) v)
-  search-on n v h pos = ⊎-elim here further (either (line (place (suc n))))
-    where
-      here : line (place (suc n)) ≡ true → Search line place (suc n) (cond (line (place (suc n))) (place (suc n)) v)
-      here e = rw e (record { none = λ z. absurd (omega arith); some = λ f. (suc n, omega arith, omega arith, refl, e) })
-
-      further : line (place (suc n)) ≡ false → Search line place (suc n) (cond (line (place (suc n))) (place (suc n)) v)
-      further e =
-          rw e
-          (record {
-            none = λ z k lo hi.
-                ⊎-elim (λ q. rw (eqb-true k (suc n) q) e) (λ q. let ne = eqb-false k (suc n) q in h .none z k lo (omega arith))
-                (either (eqb k (suc n)));
-            some = λ f. let r = h .some f in (r .0, r .1, omega (arith, r .2), r .3, r .4);
-          })
-
-below-search : (line : ℕ → Bool) (l n : ℕ) → Search line (λ k. l + k) n (below line l n)
-unfolding below
-below-search line l zero = search-nowhere line (λ k. l + k)
-below-search line l (suc n) = search-on line (λ k. l + k) n (below line l n) (below-search line l n) (omega arith)
-
-above-search : (line : ℕ → Bool) (r n : ℕ) → n < r → Search line (λ k. r - k) n (above line r n)
-unfolding above
-above-search line r zero h = search-nowhere line (λ k. r - k)
-above-search line r (suc n) h = search-on line (λ k. r - k) n (above line r n) (above-search line r n (omega arith)) (omega arith)
-
--- What the search on both sides of the middle answers: a line that can cut, or 0 where there is none.
-pub record First (line : ℕ → Bool) (t : Triple) (v : ℕ) : Type 0 where
-  pub none : v ≡ 0 → (z : ℕ) → Inside z t → line z ≡ false
-  pub some : (v ≡ 0 → ⊥) → Inside v t × (line v ≡ true)
-
-pub nearest-first : (line : ℕ → Bool) (t : Triple) → Rise t → First line t (nearest line t)
-unfolding nearest
-nearest-first line t h =
-    both (below line (t .l) (t .m - t .l - 1)) (above line (t .r) (t .r - t .m - 1)) (below-search line (t .l) (t .m - t .l - 1))
-    (above-search line (t .r) (t .r - t .m - 1) (omega arith))
-  where
-    both : (a b : ℕ) → Search line (λ k. t .l + k) (t .m - t .l - 1) a → Search line (λ k. t .r - k) (t .r - t .m - 1) b →
-        First line t (cond (eqb a 0) b a)
-    both a b p q = ⊎-elim (λ e. rw e (high (eqb-true a 0 e))) (λ e. rw e (low (eqb-false a 0 e))) (either (eqb a 0))
-      where
-        low : (a ≡ 0 → ⊥) → First line t a
-        low ne =
-            let r = p .some ne in
-            record { none = λ e. absurd (ne e); some = λ f. (omega arith, ap line (r .3) ∙ r .4) }
-
-        high : a ≡ 0 → First line t b
-        high z =
-            record {
-              none = λ e y i.
-                  ⊎-elim
-                  (λ c. let lt = ltb-true y (t .m) c in
-                  let k : t .l + (y - t .l) ≡ y = omega arith in
-                  rw k at (p .none z (y - t .l) (omega arith) (omega arith)))
-                  (λ c. let le = ltb-false y (t .m) c in
-                  let k : t .r - (t .r - y) ≡ y = omega arith in
-                  let off = i .off in
-                  rw k at (q .none e (t .r - y) (omega arith) (omega arith)))
-                  (either (ltb y (t .m)));
-              some = λ f. let r = q .some f in (omega arith, ap line (r .3) ∙ r .4);
-            }
 
 -- 0 says that no line of the direction cuts the blend; any other answer is a line that does.
 pub cutter-none : (M : Mesh) (d : Direction) (B : Blend) → RiseB B → cutter M d B ≡ 0 → (z : ℕ) → cuts M d z B ≡ false

@@ -1,22 +1,23 @@
 -- What a store, a line and a split do to the steps of a mesh in bytes.
 use Prim.Native.Nat.{ℕ, zero, suc, _+_, _≤_, _<_, max}
 use native.Mathlib.Omega.{arith}
-use native.Mathlib.Numerals.{add-one}
 use mathlib.Core.Path.{_≡_, refl, sym, ap, _∙_}
 use mathlib.Core.Logic.{⊎-elim}
 use mathlib.Core.Bool.{Bool, true, false, _&&_, _||_, or-false, or-assoc, and-true, and-false, and-or-distrib-right}
-use mathlib.Core.List.{List, [], _∷_}
-use borrow.Author.Tests.{ltb-true, ltb-false, leb-true, eqb-true, eqb-false, lt-ltb, le-ltb, le-leb, eq-eqb, ne-eqb}
+use mathlib.Core.List.{List, _∷_}
+use borrow.Author.Tests.{ltb-true, leb-true, eqb-true, eqb-false, lt-ltb, le-ltb, le-leb, eq-eqb, ne-eqb}
 use lib.Dec.{eqb, ltb, leb, leb·zero}
-use lib.ListN.{length, getD, set, take, drop, replicate, length-set, length-replicate, getD-replicate, drop-of-length-le, List·getD-eq-default}
-use lib.Seq.{getD-set-same, getD-set-other, getD-take, length-take-le, drop-cons}
+use lib.ListN.{length, getD, set, drop, replicate, length-set, length-replicate}
+use lib.Seq.{getD-set-same, getD-set-other}
 use Rattle.mesh.specs.Range.{all, any}
 use Rattle.mesh.specs.Lines.{Direction, upright, level, number, other, side, start, end, draws, allowedSide, fits, inRange, allowed, splitsOf, freshMesh, mesh, meshOf}
 use Rattle.mesh.specs.Bytes.{Square, stepOn, at, Drawn, empty}
 use Rattle.mesh.specs.declared.Split.{Split}
 use Rattle.mesh.specs.declared.Lines.{Lines}
-use Rattle.mesh.proofs.Tests.{either, same-test, and-both, and-of, or-either, or-left, or-right, true-not-false}
-use Rattle.mesh.proofs.Bytes.{step-on}
+use Rattle.mesh.proofs.Tests.{either, same-test, and-both, and-of, or-either, or-left, or-right, true-not-false, all-at}
+use Rattle.mesh.proofs.Bytes.{step-on, zeros}
+pub use Rattle.mesh.proofs.Entries.{left-turn, left-none}
+use Rattle.mesh.proofs.Entries.{left-mem}
 
 -- two tests after the same two, equal where those hold
 guarded : (a b c d : Bool) → (a ≡ true → b ≡ true → c ≡ d) → (a && b && c) ≡ (a && b && d)
@@ -115,14 +116,7 @@ drawn-until {before} {after} {z} {from} {k} {to} d lo hi =
 -- bytes that are all 0 have no step on
 off : (n y k : ℕ) → stepOn (replicate n 0) y k ≡ false
 unfolding stepOn
-off n y k = rw (all-zero (at y k)) (and-false (ltb y 131 && ltb k 131))
-  where
-    all-zero : (i : ℕ) → _≡_ {A = ℕ} (getD (replicate n 0) i 0) 0
-    all-zero i =
-        ⊎-elim
-        (λ e. getD-replicate n i 0 0 (ltb-true i n e))
-        (λ e. List·getD-eq-default (replicate n 0) 0 (rw length-replicate (ltb-false i n e)))
-        (either (ltb i n))
+off n y k = rw (zeros n (at y k)) (and-false (ltb y 131 && ltb k 131))
 
 pub empty-square : {bytes : List ℕ} → bytes ≡ empty → Square bytes
 empty-square e = ap length e ∙ length-replicate {A = ℕ} 17161 0
@@ -201,18 +195,6 @@ unfolding inRange
 in-range-says w h upright s e q = fits-says w h s (rw q at e)
 in-range-says w h level s e q = fits-says h w s (rw q at e)
 
--- the first n entries of a list, one by one, as a loop takes them
-module _ {ℓ} {A : Type ℓ} (xs : List A) (n i : ℕ) (le : n ≤ length xs) where
-  pub left-turn : (d : A) → i < n → drop i (take n xs) ≡ getD xs i d ∷ drop (i + 1) (take n xs)
-  left-turn d lt =
-      let h : i < length (take n xs) = rw (length-take-le n xs le) lt in
-      rw (drop-cons (take n xs) i d h, getD-take n xs i d lt, add-one)
-
-  pub left-none : n ≤ i → drop i (take n xs) ≡ []
-  left-none done =
-      let h : length (take n xs) ≤ i = rw (length-take-le n xs le) done in
-      drop-of-length-le (take n xs) h
-
 -- what an array of splits reads as past its end
 abbrev pub blank : Split
 blank = record { direction = 0; position = 0; from = 0; to = 0 }
@@ -221,9 +203,8 @@ blank = record { direction = 0; position = 0; from = 0; to = 0 }
 pub record Drawing (L : Lines) (direction i : ℕ) (steps : List ℕ) : Type 0 where
   pub square : Square steps
   pub within : i ≤ L .count
-  pub held : L .count ≤ 60
+  pub ok : Allowed L
   pub room : length (L .splits) ≡ 60
-  pub ranges : all (inRange (L .w) (L .h)) (drop i (splitsOf L)) ≡ true
   pub on : (d : Direction) → number d ≡ direction → (z k : ℕ) →
       (stepOn steps z k || any (draws (L .w) (L .h) d z k) (drop i (splitsOf L))) ≡ meshOf L d z k
 
@@ -237,9 +218,8 @@ module _ (L : Lines) (direction : ℕ) where
       record {
         square = square;
         within = omega arith;
-        held = a .held;
+        ok = a;
         room = room;
-        ranges = a .ranges;
         on = λ d same z k. rw (fresh d same z k);
       }
 
@@ -247,11 +227,10 @@ module _ (L : Lines) (direction : ℕ) where
     turn : i < L .count → drop i (splitsOf L) ≡ getD (L .splits) i blank ∷ drop (i + 1) (splitsOf L)
     turn lt = left-turn (L .splits) (L .count) i (omega arith) blank lt
 
-    -- the next split keeps to its ranges, and so do those after it
-    pub drawing-ranges : i < L .count →
-        (inRange (L .w) (L .h) (getD (L .splits) i blank) ≡ true) ×
-        (all (inRange (L .w) (L .h)) (drop (i + 1) (splitsOf L)) ≡ true)
-    drawing-ranges lt = and-both (inRange (L .w) (L .h) (getD (L .splits) i blank)) _ (rw (turn lt) at (drawing .ranges))
+    -- the next split keeps to its ranges
+    pub drawing-ranges : i < L .count → inRange (L .w) (L .h) (getD (L .splits) i blank) ≡ true
+    drawing-ranges lt =
+        all-at (inRange (L .w) (L .h)) (splitsOf L) (drawing .ok .ranges) _ (left-mem (L .splits) (L .count) i (omega arith) blank lt)
 
     pub drawing-more : (after : List ℕ) → i < L .count → Square after →
         ((d : Direction) → number d ≡ direction → (z k : ℕ) →
@@ -261,9 +240,8 @@ module _ (L : Lines) (direction : ℕ) where
         record {
           square = square;
           within = omega arith;
-          held = drawing .held;
+          ok = drawing .ok;
           room = drawing .room;
-          ranges = drawing-ranges lt .1;
           on = λ d same z k. rw (drawn d same z k, or-assoc) (rw (turn lt) at (drawing .on d same z k));
         }
 

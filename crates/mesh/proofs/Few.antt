@@ -1,10 +1,10 @@
 -- How many blends there can be: their anchors differ and lie on line positions.
-use Prim.Native.Nat.{ℕ, zero, suc, _+_, _-_, _*_, _≤_, _<_, zero-le, suc-le-suc}
+use Prim.Native.Nat.{ℕ, suc, _+_, _-_, _*_, _≤_, _<_, zero-le, suc-le-suc}
 use native.Mathlib.Omega.{arith}
 use native.Mathlib.Nat.{mul-le-mul-left, le-trans}
 use mathlib.Core.Path.{_≡_, refl, sym, ap, subst, _∙_}
-use mathlib.Core.Logic.{_⊎_, inl, inr, ⊎-elim}
-use mathlib.Core.List.{List, [], _∷_, _++_, map, List·Memᴰ, List·Memᴰ·cases-cons, List·Memᴰ·not-nil}
+use mathlib.Core.Logic.{⊎-elim}
+use mathlib.Core.List.{List, [], _∷_, map, List·Memᴰ, List·Memᴰ·cases-cons, List·Memᴰ·not-nil}
 use mathlib.Core.List.List·Memᴰ.{List·Memᴰ·head, List·Memᴰ·tail}
 use lib.ListN.{length, length-append, length-map}
 use borrow.Author.Tests.{leb-true, leb-false}
@@ -15,6 +15,7 @@ use Rattle.mesh.specs.Bytes.{at, place}
 use Rattle.mesh.proofs.Tests.{either, mem-joined}
 use Rattle.mesh.proofs.Places.{at-inj}
 use Rattle.mesh.proofs.Distinct.{Distinct}
+use Rattle.mesh.proofs.Ascending.{OwnAnchors}
 
 module _ {ℓ} {A : Type ℓ} where
   -- a list without one of its members
@@ -73,8 +74,7 @@ places-length (m ∷ P) Q =
     (let e = length-map Q (at m) in let r = places-length P Q in omega (arith, e, r))
 
 -- blends whose anchors differ and lie on the positions P across and Q up
-pub few : (P Q : List ℕ) (bs : List Blend) → Distinct bs →
-    ((B C : Blend) → List·Memᴰ B bs → List·Memᴰ C bs → B .across .m ≡ C .across .m → B .up .m ≡ C .up .m → B ≡ C) →
+pub few : (P Q : List ℕ) (bs : List Blend) → Distinct bs → OwnAnchors bs →
     ((B : Blend) → List·Memᴰ B bs → List·Memᴰ (B .across .m) P × List·Memᴰ (B .up .m) Q × (B .up .m < 131)) →
     length bs ≤ length P * length Q
 unfolding places

@@ -1,57 +1,28 @@
 -- The first four blends, and a fresh map: no line cuts them, and it is sound.
-use Prim.Native.Nat.{ℕ, zero, suc, _+_, _-_, _*_, _≤_, _<_}
+use Prim.Native.Nat.{ℕ, _+_, _≤_, _<_}
 use native.Mathlib.Omega.{arith}
-use mathlib.Core.Path.{_≡_, refl, sym, ap, ap₂, subst, _∙_}
-use mathlib.Core.Logic.{_⊎_, inl, inr, ⊎-elim}
-use mathlib.Core.Bool.{Bool, true, false, cond, _&&_, _||_, not}
-use mathlib.Core.List.{List, [], _∷_, _++_, List·Memᴰ, List·Memᴰ·cases-cons, List·Memᴰ·not-nil}
-use mathlib.Core.List.List·Memᴰ.{List·Memᴰ·head, List·Memᴰ·tail}
-use lib.Dec.{leb, ltb, eqb}
+use mathlib.Core.Path.{_≡_, refl, sym, ap, subst}
+use mathlib.Core.Logic.{inl, inr, ⊎-elim}
+use mathlib.Core.Bool.{true, false, _||_, not}
+use mathlib.Core.List.{List, [], _∷_, List·Memᴰ, List·Memᴰ·cases-cons, List·Memᴰ·not-nil}
+use lib.Dec.{ltb, eqb}
 use lib.ListN.{length}
-use borrow.Author.Tests.{not-true, eqb-true, eq-eqb, ltb-true, le-leb, lt-ltb}
-use Rattle.mesh.specs.Range.{every, only, all}
-use Rattle.mesh.specs.Triple.{low, high, between, spans}
-use Rattle.mesh.specs.Lines.{Mesh, Direction, upright, level, mesh, freshMesh, side, other}
-use Rattle.mesh.specs.Blends.{blend, same, once, leavesOf, inTableOrder, refine, live, firstFour, cuts, crossed, along}
-use Rattle.mesh.specs.Order.{Comes, Left, Uncut, here}
-use Rattle.mesh.specs.Sound.{proper, overSquare, fourEverywhere, noneNested, nested, sound}
-use Rattle.mesh.specs.Bytes.{at, place}
+use borrow.Author.Tests.{eqb-true}
+use Rattle.mesh.specs.Triple.{low, high}
+use Rattle.mesh.specs.Lines.{Direction, upright, level, mesh, freshMesh, side, other}
+use Rattle.mesh.specs.Blends.{blend, same, once, leavesOf, refine, live, firstFour, crossed, along}
+use Rattle.mesh.specs.Order.{Uncut}
+use Rattle.mesh.specs.Sound.{overSquare, fourEverywhere, noneNested, nested, sound}
+use Rattle.mesh.specs.Bytes.{place}
 use Rattle.mesh.specs.declared.Triple.{Triple}
 use Rattle.mesh.specs.declared.Blend.{Blend}
-use Rattle.mesh.proofs.Tests.{either, true-not-false, and-both, and-of, or-either, false-of, every-of, all-of, only-all}
-use Rattle.mesh.proofs.Cuts.{Cut, cut-fact, RiseB}
-use Rattle.mesh.proofs.Order.{left-uncut, left-itself}
-use Rattle.mesh.proofs.Tables.{blend-same, once-mem, mem-once, once-distinct, order-mem, mem-order}
-use Rattle.mesh.proofs.Places.{ProperIn, Rises, rising-of}
+use Rattle.mesh.proofs.Tests.{true-not-false, and-both, and-of, or-either, false-of, every-of, all-of, only-all}
+use Rattle.mesh.proofs.Triples.{between-fact, First, is-low, is-high, AtFresh, first-rises, first-spans, first-uncut, first-apart}
+use Rattle.mesh.proofs.Cuts.{cut-fact, proper-of, proper-rises, blend-same, nested-facts}
+use Rattle.mesh.proofs.Order.{left-uncut, left-itself, Rising}
+use Rattle.mesh.proofs.Tables.{once-mem, once-distinct}
 use Rattle.mesh.proofs.Ascending.{Ascending, OwnAnchors, order-ascending, ascending-unique}
 use Rattle.mesh.proofs.Live.{AllProper, refine-left, left-refine, refine-leaves}
-
--- one axis: a first triple of the side
-pub data First (s : ℕ) : Triple → Type 0 where
-  is-low : First s (low s)
-  is-high : First s (high s)
-
-first-rises : (s : ℕ) → 1 ≤ s → (t : Triple) → First s t → Rises s t
-first-rises s h t is-low = record { low = omega arith; high = omega arith; most = omega arith }
-first-rises s h t is-high = record { low = omega arith; high = omega arith; most = omega arith }
-
--- its ends and its middle are the fresh map's positions, none of which lies strictly inside but the middle
-first-uncut : (s z : ℕ) (t : Triple) → First s t → (z ≡ 0) ⊎ ((z ≡ 1) ⊎ ((z ≡ s + 1) ⊎ (z ≡ s + 2))) → t .l < z → z < t .r → (z ≡ t .m → ⊥) → ⊥
-first-uncut s z t is-low (inl e) lo hi off = omega arith
-first-uncut s z t is-low (inr (inl e)) lo hi off = off e
-first-uncut s z t is-low (inr (inr (inl e))) lo hi off = omega arith
-first-uncut s z t is-low (inr (inr (inr e))) lo hi off = omega arith
-first-uncut s z t is-high (inl e) lo hi off = omega arith
-first-uncut s z t is-high (inr (inl e)) lo hi off = omega arith
-first-uncut s z t is-high (inr (inr (inl e))) lo hi off = off e
-first-uncut s z t is-high (inr (inr (inr e))) lo hi off = omega arith
-
--- one's middle lies strictly inside another only if they are the same
-first-apart : (s : ℕ) (t u : Triple) → First s t → First s u → u .l < t .m → t .m < u .r → t ≡ u
-first-apart s t u is-low is-low lo hi = refl
-first-apart s t u is-low is-high lo hi = absurd (omega arith)
-first-apart s t u is-high is-low lo hi = absurd (omega arith)
-first-apart s t u is-high is-high lo hi = refl
 
 -- both triples of a first blend are first triples
 pub record FirstBlend (w h : ℕ) (B : Blend) : Type 0 where
@@ -71,11 +42,13 @@ first-four w h B m =
 pub first-proper : (w h : ℕ) → 1 ≤ w → 1 ≤ h → AllProper w h (firstFour w h)
 first-proper w h hw hh B m =
     let f = first-four w h B m in
-    and-of _ _ (rising-of w (B .across) (first-rises w hw (B .across) (f .across))) (rising-of h (B .up) (first-rises h hh (B .up) (f .up)))
+    proper-of w h B (record { across = first-rises w hw (B .across) (f .across); up = first-rises h hh (B .up) (f .up) })
+
+pub firstFour-rises : (w h : ℕ) → 1 ≤ w → 1 ≤ h → Rising (firstFour w h)
+firstFour-rises w h hw hh B m = proper-rises w h B (first-proper w h hw hh B m)
 
 -- a fresh map's lines stand at four positions
-pub fresh-positions : (w h : ℕ) (d : Direction) (z k : ℕ) → mesh w h [] d z k ≡ true →
-    (z ≡ 0) ⊎ ((z ≡ 1) ⊎ ((z ≡ side d w h + 1) ⊎ (z ≡ side d w h + 2)))
+pub fresh-positions : (w h : ℕ) (d : Direction) (z k : ℕ) → mesh w h [] d z k ≡ true → AtFresh (side d w h) z
 unfolding mesh freshMesh
 fresh-positions w h d z k e =
     let f = ⊎-elim (λ q. q) (λ q. absurd (true-not-false false q refl)) (or-either (freshMesh w h d z k) false e) in
@@ -99,7 +72,7 @@ module _ (w h : ℕ) (hw : 1 ≤ w) (hh : 1 ≤ h) where
       let f = first-four w h B m in
       let r = first-rises (side (other d) w h) (side-positive (other d)) (along d B) (first-crossed w h (other d) B f) in
       let on = c .covered (along d B .l) (omega arith) (omega arith) in
-      first-uncut (side d w h) z (crossed d B) (first-crossed w h d B f) (fresh-positions w h d z (along d B .l) on) (c .inside .lo) (c .inside .hi) (c .inside .off))
+      first-uncut (side d w h) z (crossed d B) (first-crossed w h d B f) (fresh-positions w h d z (along d B .l) on) (c .inside))
     where
       side-positive : (d : Direction) → 1 ≤ side d w h
       side-positive upright = hw
@@ -163,23 +136,18 @@ module _ (w h : ℕ) (hw : 1 ≤ w) (hh : 1 ≤ h) where
       (every-of 1 w _ (λ x lx hx. every-of 1 h _ (λ y ly hy. ap (λ (bs : List Blend). eqb (length bs) 4) (only-all (overSquare x y) (firstFour w h) (λ B m. over B m x y lx hx ly hy)))))
       (all-of _ (firstFour w h) (λ B mB. all-of _ (firstFour w h) (λ C mC. ap not (false-of (nested B C) (λ e. nest B C mB mC e)))))
     where
-      spanned : (s : ℕ) (t : Triple) (x : ℕ) → First s t → 1 ≤ x → x < 1 + s → spans x t ≡ true
-      spanned s t x is-low lo hi = and-of _ _ (le-leb 0 x (omega arith)) (lt-ltb x (s + 1) (omega arith))
-      spanned s t x is-high lo hi = and-of _ _ (le-leb 1 x (omega arith)) (lt-ltb x (s + 2) (omega arith))
-
       over : (B : Blend) → List·Memᴰ B (firstFour w h) → (x y : ℕ) → 1 ≤ x → x < 1 + w → 1 ≤ y → y < 1 + h → overSquare x y B ≡ true
       over B m x y lx hx ly hy =
           let f = first-four w h B m in
-          and-of _ _ (spanned w (B .across) x (f .across) lx hx) (spanned h (B .up) y (f .up) ly hy)
+          and-of _ _ (first-spans w (B .across) x (f .across) lx hx) (first-spans h (B .up) y (f .up) ly hy)
 
       nest : (B C : Blend) → List·Memᴰ B (firstFour w h) → List·Memᴰ C (firstFour w h) → nested B C ≡ true → ⊥
       nest B C mB mC e =
           let f = first-four w h B mB in
           let g = first-four w h C mC in
-          let n = and-both (not (same B C) && between (B .across .m) (C .across)) (between (B .up .m) (C .up)) e in
-          let m = and-both (not (same B C)) (between (B .across .m) (C .across)) (n .0) in
-          let a = and-both (ltb (C .across .l) (B .across .m)) (ltb (B .across .m) (C .across .r)) (m .1) in
-          let u = and-both (ltb (C .up .l) (B .up .m)) (ltb (B .up .m) (C .up .r)) (n .1) in
-          let p = first-apart w (B .across) (C .across) (f .across) (g .across) (ltb-true _ _ (a .0)) (ltb-true _ _ (a .1)) in
-          let q = first-apart h (B .up) (C .up) (f .up) (g .up) (ltb-true _ _ (u .0)) (ltb-true _ _ (u .1)) in
-          true-not-false (same B C) (blend-same B C (λ i. record { across = p i; up = q i })) (not-true _ (m .0))
+          let n = nested-facts B C e in
+          let a = between-fact (B .across .m) (C .across) (n .1) in
+          let u = between-fact (B .up .m) (C .up) (n .2) in
+          let p = first-apart w (B .across) (C .across) (f .across) (g .across) (a .0) (a .1) in
+          let q = first-apart h (B .up) (C .up) (f .up) (g .up) (u .0) (u .1) in
+          true-not-false (same B C) (blend-same B C (λ i. record { across = p i; up = q i })) (n .0)

@@ -1,78 +1,18 @@
 -- The hat of one triple, as it stands and multiplied out. Nothing here knows how many axes there are.
-use Prim.Native.Nat.{ℕ, _+_, _*_, _-_, _<_, _≤_, min, max}
+use Prim.Native.Nat.{ℕ, _+_, _*_, _-_, _<_, _≤_, min}
 use native.Mathlib.Omega.{arith}
 use native.Mathlib.Nat.{mul-pos, mul-le-mul-left, mul-le-mul-right}
 use mathlib.Core.Path.{_≡_, ap, _∙_}
 use mathlib.Core.Logic.{_⊎_, _↔_, inl, inr, ⊎-elim}
-use mathlib.Core.Bool.{true, false, _&&_, not}
-use borrow.Author.Tests.{ltb-true, ltb-false, leb-true, leb-false, eqb-true, eqb-false, lt-ltb, le-leb, not-true}
-use lib.Dec.{ltb, leb, eqb}
-use Rattle.mesh.specs.Triple.{Fraction, triple, hat, Side, lower, upper, half, inside, low, high, rising, spans, between, sameTriple}
+use mathlib.Core.Bool.{true, false}
+use borrow.Author.Tests.{ltb-true, ltb-false, leb-true, leb-false}
+use lib.Dec.{ltb, leb}
+use Rattle.mesh.specs.Triple.{Fraction, triple, hat, lower, upper, half, low, high, spans, between}
 use Rattle.mesh.specs.declared.Triple.{Triple}
-use Rattle.mesh.proofs.Tests.{either, and-both, and-of, and-fails, cond-true, cond-false}
+use Rattle.mesh.proofs.Tests.{either, within-of, within-at, cond-true, cond-false}
+pub use Rattle.mesh.proofs.Triples.{Rise}
+use Rattle.mesh.proofs.Triples.{Inside, not-between, rise-of, is-low, is-high, first-rises, half-below, half-above}
 use Rattle.mesh.proofs.Scale.{Multiple, Scaled}
-
-pub record Rise (t : Triple) : Type 0 where
-  pub low : t .l < t .m
-  pub high : t .m < t .r
-
--- knot z lies strictly inside, off the middle
-pub record Inside (z : ℕ) (t : Triple) : Type 0 where
-  pub low : t .l < z
-  pub high : z < t .r
-  pub off : z ≡ t .m → ⊥
-
--- what the tests say
-pub rising-rise : (side : ℕ) (t : Triple) → rising side t ≡ true → Rise t
-rising-rise side t e =
-    let a = and-both (ltb (t .l) (t .m) && ltb (t .m) (t .r)) (leb (t .r) (side + 2)) e in
-    let b = and-both (ltb (t .l) (t .m)) (ltb (t .m) (t .r)) (a .0) in
-    record { low = ltb-true _ _ (b .0); high = ltb-true _ _ (b .1) }
-
-pub rising-within : (side : ℕ) (t : Triple) → rising side t ≡ true → t .r ≤ side + 2
-rising-within side t e = leb-true _ _ (and-both (ltb (t .l) (t .m) && ltb (t .m) (t .r)) (leb (t .r) (side + 2)) e .1)
-
-pub rising-of : (side : ℕ) (t : Triple) → Rise t → t .r ≤ side + 2 → rising side t ≡ true
-rising-of side t rise within =
-    and-of _ _ (and-of _ _ (lt-ltb _ _ (rise .low)) (lt-ltb _ _ (rise .high))) (le-leb _ _ within)
-
-pub inside-of : (z : ℕ) (t : Triple) → inside z t ≡ true → Inside z t
-inside-of z t e =
-    let a = and-both (ltb (t .l) z && ltb z (t .r)) (not (eqb z (t .m))) e in
-    let b = and-both (ltb (t .l) z) (ltb z (t .r)) (a .0) in
-    record { low = ltb-true _ _ (b .0); high = ltb-true _ _ (b .1); off = eqb-false _ _ (not-true _ (a .1)) }
-
-pub not-between : (z : ℕ) (t : Triple) → between z t ≡ false → (z ≤ t .l) ⊎ (t .r ≤ z)
-not-between z t e = ⊎-elim (λ s. inl (ltb-false _ _ s)) (λ s. inr (ltb-false _ _ s)) (and-fails (ltb (t .l) z) (ltb z (t .r)) e)
-
-pub same-triple : (s t : Triple) → sameTriple s t ≡ true → s ≡ t
-same-triple s t e =
-    let a = and-both (eqb (s .l) (t .l) && eqb (s .m) (t .m)) (eqb (s .r) (t .r)) e in
-    let b = and-both (eqb (s .l) (t .l)) (eqb (s .m) (t .m)) (a .0) in
-    λ i. record { l = eqb-true (s .l) (t .l) (b .0) i; m = eqb-true (s .m) (t .m) (b .1) i; r = eqb-true (s .r) (t .r) (a .1) i }
-
--- the first two triples rise
-pub low-rise : (w : ℕ) → 1 ≤ w → Rise (low w)
-low-rise w side = record { low = omega arith; high = omega arith }
-
-pub high-rise : (w : ℕ) → 1 ≤ w → Rise (high w)
-high-rise w side = record { low = omega arith; high = omega arith }
-
--- a half rises too, within its triple, and is narrower
-pub half-rise : (t : Triple) (z : ℕ) → Rise t → Inside z t → (s : Side) → Rise (half s z t)
-unfolding half
-half-rise t z rise ins lower = record { low = omega arith; high = omega arith }
-half-rise t z rise ins upper = record { low = omega arith; high = omega arith }
-
-pub half-within : (t : Triple) (z : ℕ) → Rise t → Inside z t → (s : Side) → half s z t .r ≤ t .r
-unfolding half
-half-within t z rise ins lower = omega arith
-half-within t z rise ins upper = omega arith
-
-pub half-narrower : (t : Triple) (z : ℕ) → Rise t → Inside z t → (s : Side) → half s z t .r - half s z t .l < t .r - t .l
-unfolding half
-half-narrower t z rise ins lower = omega arith
-half-narrower t z rise ins upper = omega arith
 
 -- the hat's two sides
 hat-left : (t : Triple) (p d : ℕ) → leb p (t .m * d) ≡ true → hat t p d ≡ record { num = p - t .l * d; den = (t .m - t .l) * d }
@@ -127,31 +67,14 @@ hat-between t rise p d d-pos pos = (
 -- strictly inside a unit step the hat is above 0 exactly when the step lies in l to r
 pub step-positive : (t : Triple) → Rise t → (x p d : ℕ) → x * d < p → p < (x + 1) * d → spans x t ≡ true ↔ 0 < hat t p d .num
 step-positive t rise x p d lo hi = (
-  λ e. let s = and-both (leb (t .l) x) (ltb x (t .r)) e in
-      let a : t .l ≤ x = leb-true _ _ (s .0) in
-      let b : x < t .r = ltb-true _ _ (s .1) in
-      hat-positive t p d (omega (arith, mul-le-mul-right d a)) (omega (arith, mul-le-mul-right d b)),
+  λ e. let s = within-at (t .l) (t .r) x e in
+      hat-positive t p d (omega (arith, mul-le-mul-right d (s .0))) (omega (arith, mul-le-mul-right d (s .1))),
   λ pos. let h = hat-between t rise p d (omega arith) pos in
-      and-of _ _ (le-leb (t .l) x (omega (arith, later (t .l) (x + 1) d (omega arith)))) (lt-ltb _ _ (later x (t .r) d (omega arith))),
+      within-of (t .l) (t .r) x (omega (arith, later (t .l) (x + 1) d (omega arith))) (later x (t .r) d (omega arith)),
 )
   where
     later : (a b d : ℕ) → a * d < b * d → a < b
     later a b d lt = ⊎-elim (λ e. ltb-true _ _ e) (λ e. let le : b ≤ a = ltb-false _ _ e in absurd (omega (arith, mul-le-mul-right d le))) (either (ltb a b))
-
--- the halves on either side of the middle, without `min` and `max`
-pub half-below : (t : Triple) (z : ℕ) → z < t .m → (half lower z t ≡ triple (t .l) z (t .m)) × (half upper z t ≡ triple z (t .m) (t .r))
-unfolding half
-half-below t z h =
-    let e : min z (t .m) ≡ z = omega arith in
-    let f : max z (t .m) ≡ t .m = omega arith in
-    (rw (e, f), rw (e, f))
-
-pub half-above : (t : Triple) (z : ℕ) → t .m < z → (half lower z t ≡ triple (t .l) (t .m) z) × (half upper z t ≡ triple (t .m) z (t .r))
-unfolding half
-half-above t z h =
-    let e : min z (t .m) ≡ t .m = omega arith in
-    let f : max z (t .m) ≡ z = omega arith in
-    (rw (e, f), rw (e, f))
 
 -- Multiplied by the common multiple and by d, the hat at p / d is the lesser of two slopes, both cut off at 0.
 abbrev pub scaledHat : {n : ℕ} → Multiple n → Triple → ℕ → ℕ → ℕ
@@ -301,10 +224,10 @@ module _ {n : ℕ} (K : Multiple n) where
   two-scale t z rise within ins =
       ⊎-elim
       (λ e. let h : z < t .m = ltb-true _ _ e in
-      (t .m - t .l, z - t .l, t .m - t .l, omega arith, two-scale-below t z rise within (ins .low) h))
+      (t .m - t .l, z - t .l, t .m - t .l, omega arith, two-scale-below t z rise within (ins .lo) h))
       (λ e. let h : t .m ≤ z = ltb-false _ _ e in
       let off : z ≡ t .m → ⊥ = ins .off in
-      (t .r - t .m, t .r - t .m, t .r - z, omega arith, two-scale-above t z rise within (omega arith) (ins .high)))
+      (t .r - t .m, t .r - t .m, t .r - z, omega arith, two-scale-above t z rise within (omega arith) (ins .hi)))
       (either (ltb z (t .m)))
 
   -- all at the middle, 0 from the ends on
@@ -326,8 +249,8 @@ module _ {n : ℕ} (K : Multiple n) where
   pub first-two : (w : ℕ) → 1 ≤ w → w + 2 ≤ n → (p d : ℕ) → d ≤ p → p ≤ (w + 1) * d →
       scaledHat K (low w) p d + scaledHat K (high w) p d ≡ K .all * d
   first-two w side within p d le ge =
-      let f = hat-falls (low w) (low-rise w side) (omega arith) p d (omega arith) in
-      let r = hat-rises (high w) (high-rise w side) within p d ge in
+      let f = hat-falls (low w) (rise-of (first-rises w side (low w) is-low)) (omega arith) p d (omega arith) in
+      let r = hat-rises (high w) (rise-of (first-rises w side (high w) is-high)) within p d ge in
       rw (f, r) (both (K .part (w + 1 - 1)) (w + 1 - 1) (K .all) ((w + 1) * d - p) (p - 1 * d) d (K .parts _ (omega arith) (omega arith)) (run (w + 1 - 1) (omega arith)))
     where
       run : (g : ℕ) → g ≡ w → ((w + 1) * d - p) + (p - 1 * d) ≡ g * d

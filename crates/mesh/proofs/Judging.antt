@@ -1,25 +1,27 @@
 -- Walks over the places of a table, and what they tell of the blends that are kept there.
 use Prim.Native.Nat.{ℕ, suc, _+_, _-_, _≤_, _<_}
 use native.Mathlib.Omega.{arith}
-use native.Mathlib.Numerals.{add-one}
 use mathlib.Core.Path.{_≡_, refl, sym, ap, _∙_}
 use mathlib.Core.Logic.{_⊎_, inl, inr, ⊎-elim}
-use mathlib.Core.Bool.{Bool, true, false, _&&_, not}
-use mathlib.Core.List.{List, [], _∷_, _++_, append-assoc, append-nil, List·Memᴰ, Memᴰ·append-right, List·Memᴰ·not-nil, List·Memᴰ·eq-of-singleton}
+use mathlib.Core.Bool.{Bool, true, false, _&&_, not, and-assoc, and-false}
+use mathlib.Core.List.{List, [], _∷_, _++_, append-assoc, append-nil, List·Memᴰ, List·Memᴰ·not-nil, List·Memᴰ·eq-of-singleton}
 use mathlib.Core.List.List·Memᴰ.{List·Memᴰ·head}
-use borrow.Author.Tests.{lt-ltb, not-true, ltb-true, leb-true, eqb-true, eqb-false, eq-eqb, ne-eqb, lt-leb, le-leb}
-use lib.Dec.{ltb, leb, eqb}
-use lib.ListN.{length, getD, set, take, drop, replicate, length-append, take-append-drop, drop-of-length-le}
-use lib.Seq.{take-append-seam, set-at, drop-cons, getD-take, length-take-le}
+use borrow.Author.Tests.{lt-ltb, not-true, leb-true, eqb-true, eqb-false, eq-eqb, ne-eqb, lt-leb, le-leb}
+use lib.Dec.{leb, eqb}
+use lib.ListN.{length, getD, set, replicate, length-append}
+use lib.Seq.{take-append-seam, set-at}
 use Rattle.mesh.specs.Range.{every, each, all}
-use Rattle.mesh.specs.Triple.{rising, between, sameTriple}
+use Rattle.mesh.specs.Triple.{between}
 use Rattle.mesh.specs.Blends.{anchored, same}
-use Rattle.mesh.specs.Sound.{proper, nested, fourEverywhere, noneNested, sound, none, table, blendsOf, answer}
-use Rattle.mesh.specs.Bytes.{at, AllProper, Holding, lone, clear, kept, unpacked, walk, listed, refused}
-use Rattle.mesh.specs.declared.Triple.{Triple}
+use Rattle.mesh.specs.Sound.{nested, fourEverywhere, noneNested, sound, none, table, blendsOf, answer}
+use Rattle.mesh.specs.Bytes.{at, ProperIn, AllProper, Holding, lone, clear, kept, unpacked, walk, listed, refused}
 use Rattle.mesh.specs.declared.Blend.{Blend}
 use Rattle.mesh.specs.declared.Refined.{Refined}
 use Rattle.mesh.proofs.Tests.{either, true-not-false, same-test, all-at, all-of, every-at, every-of, cond-true, each-mem, mem-each, and-both, and-of, or-either, or-right, false-of, every-turn, every-none, each-turn, each-none}
+pub use Rattle.mesh.proofs.Entries.{left-turn, left-none, left-mem}
+use Rattle.mesh.proofs.Triples.{between-fact}
+use Rattle.mesh.proofs.Cuts.{proper-facts, proper-wider, same-blend, blend-same, nested-facts}
+use Rattle.mesh.proofs.Tables.{Anchored}
 
 -- runs that a loop takes up to an end
 every-run : (k e : ℕ) (test : ℕ → Bool) → k < e → every k (e - k) test ≡ (test k && every (k + 1) (e - (k + 1)) test)
@@ -27,24 +29,6 @@ every-run k e test h = let less : e - k - 1 ≡ e - (k + 1) = omega arith in eve
 
 each-run {ℓ} : {A : Type ℓ} (k e : ℕ) (f : ℕ → List A) → k < e → each k (e - k) f ≡ f k ++ each (k + 1) (e - (k + 1)) f
 each-run k e f h = let less : e - k - 1 ≡ e - (k + 1) = omega arith in each-turn k (e - k) f (omega arith) ∙ rw less
-
-and-regroup : (a b c : Bool) → ((a && b) && c) ≡ (a && (b && c))
-and-regroup true b c = refl
-and-regroup false b c = refl
-
--- the first n entries of a list, one by one, as a loop takes them
-module _ {ℓ} {A : Type ℓ} (xs : List A) (n i : ℕ) (all : n ≤ length xs) where
-  pub left-turn : (d : A) → i < n → drop i (take n xs) ≡ getD xs i d ∷ drop (i + 1) (take n xs)
-  left-turn d h =
-      let l = length-take-le n xs all in
-      drop-cons (take n xs) i d (omega arith) ∙ rw (add-one, getD-take n xs i d h)
-
-  pub left-none : n ≤ i → drop i (take n xs) ≡ []
-  left-none h = let l = length-take-le n xs all in drop-of-length-le (take n xs) {i = i} (omega arith)
-
-  pub left-mem : (d : A) → i < n → List·Memᴰ (getD xs i d) (take n xs)
-  left-mem d h =
-      rw (← take-append-drop i (take n xs)) (Memᴰ·append-right (take i (take n xs)) (rw (left-turn d h) (List·Memᴰ·head refl)))
 
 -- A test of each place from l to r and from b to t, as two loops take it: `rowsPass` is what is left where a row begins, `placesPass` within
 -- row i. Each lemma carries what is left, which is the whole answer, to the next turn.
@@ -56,7 +40,7 @@ module _ (r b t : ℕ) (test : ℕ → ℕ → Bool) where
   placesPass i j = every j (t - j) (test i) && rowsPass (i + 1)
 
   places-turn : (i j : ℕ) → j < t → placesPass i j ≡ (test i j && placesPass i (j + 1))
-  places-turn i j h = rw (every-run j t (test i) h) (and-regroup (test i j) _ _)
+  places-turn i j h = rw (every-run j t (test i) h) (and-assoc (test i j) _ _)
 
   pub rows-turn : {whole : Bool} (i : ℕ) → i < r → rowsPass i ≡ whole → placesPass i b ≡ whole
   rows-turn i h e = sym (every-run i r (λ x. every b (t - b) (test x)) h) ∙ e
@@ -164,10 +148,7 @@ read-all {whole} {blends} {count} r =
 
 -- the blends of the walk: each is the one that its own anchor's place holds
 pub record Held (w h : ℕ) (places : List ℕ) (B : Blend) : Type 0 where
-  pub left : 1 ≤ B .across .m
-  pub right : B .across .m ≤ w + 1
-  pub bottom : 1 ≤ B .up .m
-  pub top : B .up .m ≤ h + 1
+  pub anchor : Anchored w h B
   pub there : getD places (at (B .across .m) (B .up .m)) 0 ≡ 0 → ⊥
   pub is : B ≡ unpacked (B .across .m) (B .up .m) (getD places (at (B .across .m) (B .up .m)) 0)
 
@@ -184,7 +165,8 @@ mem-kept places m n ne = rw (ne-eqb _ _ ne) (List·Memᴰ·head refl)
 held-of : (w h : ℕ) (places : List ℕ) (m n : ℕ) → 1 ≤ m → m < 1 + (w + 1) → 1 ≤ n → n < 1 + (h + 1) → (getD places (at m n) 0 ≡ 0 → ⊥) →
     Held w h places (unpacked m n (getD places (at m n) 0))
 unfolding unpacked
-held-of w h places m n m1 mw n1 nh ne = record { left = m1; right = omega arith; bottom = n1; top = omega arith; there = ne; is = refl }
+held-of w h places m n m1 mw n1 nh ne =
+    record { anchor = record { left = m1; right = omega arith; bottom = n1; top = omega arith }; there = ne; is = refl }
 
 pub walk-mem : (w h : ℕ) (places : List ℕ) (B : Blend) → List·Memᴰ B (walk w h places) → Held w h places B
 unfolding walk
@@ -200,28 +182,12 @@ unfolding walk
 mem-walk w h places m n m1 mw n1 nh ne =
     mem-each 1 (w + 1) _ _ m m1 (omega arith) (mem-each 1 (h + 1) _ _ n n1 (omega arith) (mem-kept places m n ne))
 
--- a proper blend's support lies within knots 0 to side + 2, and within 0 to 130
-pub record Inside (side : ℕ) (t : Triple) : Type 0 where
-  pub low : t .l < t .m
-  pub high : t .m < t .r
-  pub most : t .r ≤ side + 2
-
-inside : (side : ℕ) (t : Triple) → rising side t ≡ true → Inside side t
-inside side t e =
-    let a = and-both (ltb (t .l) (t .m) && ltb (t .m) (t .r)) (leb (t .r) (side + 2)) e in
-    let b = and-both (ltb (t .l) (t .m)) (ltb (t .m) (t .r)) (a .0) in
-    record { low = ltb-true _ _ (b .0); high = ltb-true _ _ (b .1); most = leb-true _ _ (a .1) }
-
 -- `clear` is a test of every place strictly inside the support
 clear-at : (places : List ℕ) (B : Blend) (i j : ℕ) → clear places B ≡ true →
     between i (B .across) ≡ true → between j (B .up) ≡ true → lone places B i j ≡ true
 clear-at places B i j e p q =
-    let a = and-both (ltb (B .across .l) i) (ltb i (B .across .r)) p in
-    let b = and-both (ltb (B .up .l) j) (ltb j (B .up .r)) q in
-    let al = ltb-true (B .across .l) i (a .0) in
-    let ar = ltb-true i (B .across .r) (a .1) in
-    let bl = ltb-true (B .up .l) j (b .0) in
-    let br = ltb-true j (B .up .r) (b .1) in
+    let a = between-fact i (B .across) p in
+    let b = between-fact j (B .up) q in
     let row : ℕ → Bool = λ x. every (B .up .l + 1) (B .up .r - (B .up .l + 1)) (lone places B x) in
     every-at (B .up .l + 1) (B .up .r - (B .up .l + 1)) (lone places B i)
     (every-at (B .across .l + 1) (B .across .r - (B .across .l + 1)) row e i (omega arith) (omega arith)) j (omega arith) (omega arith)
@@ -234,40 +200,15 @@ clear-of places B f =
     (λ i il ir. every-of (B .up .l + 1) (B .up .r - (B .up .l + 1)) (lone places B i)
     (λ j jl jr. f i j (omega arith) (omega arith) (omega arith) (omega arith)))
 
-same-of : (A B : Blend) → A ≡ B → same A B ≡ true
-same-of A B e =
-    let t : (t : Triple) → sameTriple t t ≡ true =
-    λ t. rw (eq-eqb (t .l) (t .l) refl, eq-eqb (t .m) (t .m) refl, eq-eqb (t .r) (t .r) refl) in
-    rw (← e) (and-of _ _ (t (A .across)) (t (A .up)))
-
-same-anchor : (A B : Blend) → same A B ≡ true → (A .across .m ≡ B .across .m) × (A .up .m ≡ B .up .m)
-same-anchor A B e =
-    let b = and-both (sameTriple (A .across) (B .across)) (sameTriple (A .up) (B .up)) e in
-    (middle (A .across) (B .across) (b .0), middle (A .up) (B .up) (b .1))
-  where
-    middle : (s t : Triple) → sameTriple s t ≡ true → s .m ≡ t .m
-    middle s t e =
-        let a = and-both (eqb (s .l) (t .l) && eqb (s .m) (t .m)) (eqb (s .r) (t .r)) e in
-        eqb-true _ _ (and-both (eqb (s .l) (t .l)) (eqb (s .m) (t .m)) (a .0) .1)
-
 module _ (w h : ℕ) (places : List ℕ) (holding : Holding w h places) where
-  walk-inside : (B : Blend) → List·Memᴰ B (walk w h places) → Inside w (B .across) × Inside h (B .up)
-  walk-inside B m =
+  walk-facts : (B : Blend) → List·Memᴰ B (walk w h places) → ProperIn w h B
+  walk-facts B m =
       let k = walk-mem w h places B m in
-      let p : proper w h B ≡ true =
-      rw (k .is) (holding .holds (B .across .m) (B .up .m) (k .left) (k .right) (k .bottom) (k .top) (k .there)) in
-      let b = and-both (rising w (B .across)) (rising h (B .up)) p in
-      (inside w (B .across) (b .0), inside h (B .up) (b .1))
+      let a = k .anchor in
+      proper-facts w h B (rw (k .is) (holding .holds (B .across .m) (B .up .m) (a .left) (a .right) (a .bottom) (a .top) (k .there)))
 
   pub walk-proper : w ≤ 128 → h ≤ 128 → AllProper (walk w h places)
-  walk-proper wide high B m =
-      let k = walk-inside B m in
-      let a = k .0 in
-      let u = k .1 in
-      record {
-        across = record { low = a .low; high = a .high; most = omega arith };
-        up = record { low = u .low; high = u .high; most = omega arith };
-      }
+  walk-proper wide high B m = proper-wider wide high (walk-facts B m)
 
   -- blends of the walk with one anchor are one blend
   one-anchor : (B C : Blend) → Held w h places B → Held w h places C → C .across .m ≡ B .across .m → C .up .m ≡ B .up .m → B ≡ C
@@ -278,13 +219,12 @@ module _ (w h : ℕ) (places : List ℕ) (holding : Holding w h places) where
     where
       refute : nested B C ≡ true → ⊥
       refute n =
-          let a = and-both (not (same B C) && between (B .across .m) (C .across)) (between (B .up .m) (C .up)) n in
-          let b = and-both (not (same B C)) (between (B .across .m) (C .across)) (a .0) in
+          let b = nested-facts B C n in
           let inB = walk-mem w h places B mB in
           let inC = walk-mem w h places C mC in
           ⊎-elim (inB .there)
-          (λ at. true-not-false (same B C) (same-of B C (one-anchor B C inB inC (at .0) (at .1))) (not-true (same B C) (b .0)))
-          (lone-cases places C (B .across .m) (B .up .m) (clear-at places C (B .across .m) (B .up .m) e (b .1) (a .1)))
+          (λ at. true-not-false (same B C) (blend-same B C (one-anchor B C inB inC (at .0) (at .1))) (b .0))
+          (lone-cases places C (B .across .m) (B .up .m) (clear-at places C (B .across .m) (B .up .m) e (b .1) (b .2)))
 
   unnested-clear : (C : Blend) → List·Memᴰ C (walk w h places) →
       ((B : Blend) → List·Memᴰ B (walk w h places) → not (nested B C) ≡ true) → clear places C ≡ true
@@ -294,17 +234,17 @@ module _ (w h : ℕ) (places : List ℕ) (holding : Holding w h places) where
       held : (i j : ℕ) → C .across .l < i → i < C .across .r → C .up .l < j → j < C .up .r → (getD places (at i j) 0 ≡ 0 → ⊥) →
           lone places C i j ≡ true
       held i j il ir jl jr ne =
-          let k = walk-inside C mC in
-          let a = k .0 in
-          let u = k .1 in
+          let k = walk-facts C mC in
+          let a = k .across in
+          let u = k .up in
           let B = unpacked i j (getD places (at i j) 0) in
           let n : nested B C ≡ false = not-true (nested B C) (f B (mem-walk w h places i j (omega arith) (omega arith) (omega arith) (omega arith) ne)) in
           let across : between i (C .across) ≡ true = and-of _ _ (lt-ltb _ _ il) (lt-ltb _ _ ir) in
           let up : between j (C .up) ≡ true = and-of _ _ (lt-ltb _ _ jl) (lt-ltb _ _ jr) in
           let s : same B C ≡ true =
           ⊎-elim (λ s. s) (λ (s : same B C ≡ false). absurd (true-not-false (nested B C) (and-of _ _ (and-of (not (same B C)) _ (ap not s) across) up) n)) (either (same B C)) in
-          let at = same-anchor B C s in
-          lone-own places C i j (sym (at .0)) (sym (at .1))
+          let e = same-blend B C s in
+          lone-own places C i j (sym (ap (λ (X : Blend). X .across .m) e)) (sym (ap (λ (X : Blend). X .up .m) e))
 
       place : (i j : ℕ) → C .across .l < i → i < C .across .r → C .up .l < j → j < C .up .r → lone places C i j ≡ true
       place i j il ir jl jr =
@@ -316,10 +256,6 @@ module _ (w h : ℕ) (places : List ℕ) (holding : Holding w h places) where
       same-test _ _
       (λ e. all-of _ _ (λ B mB. all-of _ _ (λ C mC. clear-unnested B C mB mC (all-at _ _ e C mC))))
       (λ e. all-of _ _ (λ C mC. unnested-clear C mC (λ B mB. all-at _ _ (all-at _ _ e B mB) C mC)))
-
-and-false : (a : Bool) → (a && false) ≡ false
-and-false true = refl
-and-false false = refl
 
 -- a table that was read out, and the answer on it
 blends-table : (bs : List Blend) → blendsOf (table bs) ≡ bs

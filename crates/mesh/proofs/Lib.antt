@@ -1,7 +1,9 @@
 pub mod Tests
 pub mod Bytes
+pub mod Entries
 pub mod Distinct
 pub mod Triples
+pub mod Nearest
 pub mod Cuts
 pub mod Order
 pub mod Tables

@@ -1,48 +1,29 @@
 -- What is left of proper blends, as a table: its members, and that a finer mesh may start from the table in hand.
-use Prim.Native.Nat.{ℕ, zero, suc, _+_, _-_, _*_, _≤_, _<_}
-use native.Mathlib.Omega.{arith}
-use mathlib.Core.Path.{_≡_, refl, sym, ap, subst, _∙_}
-use mathlib.Core.Logic.{_⊎_, inl, inr, ⊎-elim}
-use mathlib.Core.Bool.{Bool, true, false, cond, _&&_, not}
-use mathlib.Core.List.{List, [], _∷_, _++_, List·Memᴰ}
-use lib.Dec.{leb}
-use lib.ListN.{length}
-use borrow.Author.Tests.{not-true, lt-ltb}
-use Rattle.mesh.specs.Range.{all}
-use Rattle.mesh.specs.Lines.{Mesh, Direction}
-use Rattle.mesh.specs.Blends.{same, once, inTableOrder, leavesOf, refine, live, firstFour, cuts}
-use Rattle.mesh.specs.Order.{Comes, Left, Uncut, Cutting, Coarser}
-use Rattle.mesh.specs.Sound.{proper, nested, noneNested, fourEverywhere, sound, answer, table}
+use Prim.Native.Nat.{ℕ, _≤_}
+use mathlib.Core.Path.{_≡_, sym, ap, _∙_}
+use mathlib.Core.Logic.{⊎-elim}
+use mathlib.Core.Bool.{true, false}
+use mathlib.Core.List.{List, [], List·Memᴰ}
+use Rattle.mesh.specs.Lines.{Mesh}
+use Rattle.mesh.specs.Blends.{once, inTableOrder, leavesOf, refine}
+use Rattle.mesh.specs.Order.{Left, Coarser}
+use Rattle.mesh.specs.Sound.{proper, sound, answer, table}
 use Rattle.mesh.specs.Bytes.{place}
 use Rattle.mesh.specs.declared.Blend.{Blend}
-use Rattle.mesh.proofs.Tests.{either, true-not-false, and-both, and-of, false-of, all-at, cond-false, cond-true}
+use Rattle.mesh.proofs.Tests.{either}
 use Rattle.mesh.proofs.Distinct.{Distinct}
-use Rattle.mesh.proofs.Cuts.{RiseB}
-use Rattle.mesh.proofs.Order.{cut-or-not, comes-rises, comes-within, Rising, LeftOf, SameMembers, leavesOf-left, left-leavesOf, any-order, finer-leaves, firstFour-rises}
-use Rattle.mesh.proofs.Tables.{same-blend, blend-same, once-mem, mem-once, once-distinct, order-mem, mem-order, order-distinct}
-use Rattle.mesh.proofs.Places.{ProperIn, proper-facts, proper-of, proper-anchored, overlap}
+pub use Rattle.mesh.proofs.Cuts.{proper-rises}
+use Rattle.mesh.proofs.Cuts.{proper-facts, proper-of, proper-within}
+use Rattle.mesh.proofs.Order.{comes-rises, comes-within, Rising, LeftOf, SameMembers, leavesOf-left, left-leavesOf, finer-leaves}
+use Rattle.mesh.proofs.Tables.{once-mem, mem-once, once-distinct, order-mem, mem-order, order-distinct}
+use Rattle.mesh.proofs.Places.{proper-anchored, sound-own}
 use Rattle.mesh.proofs.Ascending.{OwnAnchors, order-ascending, ascending-unique}
-
-pub proper-rises : (w h : ℕ) (B : Blend) → proper w h B ≡ true → RiseB B
-proper-rises w h B e =
-    let p = proper-facts w h B e in
-    record { across = record { low = p .across .low; high = p .across .high }; up = record { low = p .up .low; high = p .up .high } }
 
 -- what is left of a proper blend is proper
 pub left-proper : (w h : ℕ) (M : Mesh) (B C : Blend) → proper w h B ≡ true → Left M B C → proper w h C ≡ true
 left-proper w h M B C e l =
-    let p = proper-facts w h B e in
-    let r = comes-rises (proper-rises w h B e) (l .comes) in
-    let s = comes-within (proper-rises w h B e) (l .comes) in
-    let pa = p .across in
-    let pu = p .up in
-    let sa = s .across in
-    let su = s .up in
-    proper-of w h C
-    (record {
-      across = record { low = r .across .low; high = r .across .high; most = omega arith };
-      up = record { low = r .up .low; high = r .up .high; most = omega arith };
-    })
+    let r = proper-rises w h B e in
+    proper-of w h C (proper-within (proper-facts w h B e) (comes-rises r (l .comes)) (comes-within r (l .comes)))
 
 -- all of a list are proper
 abbrev pub AllProper : ℕ → ℕ → List Blend → Type 0
@@ -75,18 +56,6 @@ module _ (w h : ℕ) (M : Mesh) (bs : List Blend) (ok : AllProper w h bs) where
   unfolding refine
   refine-distinct = order-distinct w h (once (leavesOf M bs)) (once-distinct (leavesOf M bs))
 
--- in a sound map no two blends have one anchor
-pub sound-own : (w h : ℕ) (bs : List Blend) → AllProper w h bs → sound w h bs ≡ true → OwnAnchors bs
-unfolding sound noneNested
-sound-own w h bs ok s B C mB mC q r =
-    ⊎-elim (λ e. same-blend B C e)
-    (λ e.
-    let apart = and-both (fourEverywhere w h bs) (noneNested bs) s .1 in
-    let no = all-at (λ C. not (nested B C)) bs (all-at (λ B. all (λ C. not (nested B C)) bs) bs apart B mB) C mC in
-    let yes = overlap w h B C (λ p. true-not-false (same B C) (blend-same B C p) e) q r (proper-facts w h C (ok C mC)) in
-    absurd (true-not-false (nested B C) yes (not-true _ no)))
-    (either (same B C))
-
 -- tables of the same blends are equal where one is sound, and so are the answers on them in any case
 module _ (w h : ℕ) (hh : h ≤ 128) (xs ys : List Blend) (dx : Distinct xs) (dy : Distinct ys) (ok : AllProper w h xs) (eq : SameMembers xs ys) where
   pub same-table : sound w h (inTableOrder w h xs) ≡ true → inTableOrder w h xs ≡ inTableOrder w h ys
@@ -100,7 +69,8 @@ module _ (w h : ℕ) (hh : h ≤ 128) (xs ys : List Blend) (dx : Distinct xs) (d
       there B m = mem-order w h xs B m (proper-anchored w h B (proper-facts w h B (ok B m)))
 
       own : OwnAnchors xs
-      own B C mB mC = sound-own w h (inTableOrder w h xs) (λ D m. ok D (order-mem w h xs D m .0)) s B C (there B mB) (there C mC)
+      own B C mB mC =
+          sound-own w h (inTableOrder w h xs) (λ D m. proper-facts w h D (ok D (order-mem w h xs D m .0))) s B C (there B mB) (there C mC)
 
 pub unsound-answer : (w h : ℕ) (bs : List Blend) → sound w h bs ≡ false → answer w h bs ≡ record { sound = false; table = table [] }
 unfolding answer

@@ -4,12 +4,12 @@ use native.Mathlib.Omega.{arith}
 use mathlib.Core.Path.{_≡_, refl, sym, ap, subst, _∙_, fun-ext}
 use mathlib.Core.Logic.{_⊎_, inl, inr, ⊎-elim}
 use mathlib.Core.Bool.{Bool, true, false, cond}
-use mathlib.Core.List.{List, [], _∷_, _++_, List·Memᴰ, List·Memᴰ·cases-cons, List·Memᴰ·append-cases, Memᴰ·cast, Memᴰ·append-left, Memᴰ·append-right, List·Memᴰ·eq-of-singleton, List·Memᴰ·not-nil}
+use mathlib.Core.List.{List, [], _∷_, _++_, List·Memᴰ, List·Memᴰ·cases-cons, List·Memᴰ·append-cases, Memᴰ·cast, Memᴰ·append-left, Memᴰ·append-right, List·Memᴰ·eq-of-singleton}
 use borrow.Author.Tests.{eqb-true, eqb-false}
 use lib.Dec.{eqb}
 use Rattle.mesh.specs.Triple.{Side, lower, upper}
 use Rattle.mesh.specs.Lines.{Direction, upright, level, other, Mesh}
-use Rattle.mesh.specs.Blends.{crossed, along, cuts, halve, cutter, leaves, leavesOf, size, firstFour, live}
+use Rattle.mesh.specs.Blends.{crossed, along, cuts, halve, cutter, leaves, leavesOf, size, live}
 use Rattle.mesh.specs.Order.{Uncut, Comes, here, cut, Left, Step, replace, drop, Steps, done, step, Cutting, Coarser}
 use Rattle.mesh.specs.declared.Blend.{Blend}
 use Rattle.mesh.proofs.Tests.{either, true-not-false, joined-mem, mem-joined}
@@ -191,14 +191,6 @@ comes-on-lines {M} {B} d h k (cut e z s p r) =
 abbrev pub Rising : List Blend → Type 0
 Rising bs = (B : Blend) → List·Memᴰ B bs → RiseB B
 
-rising-more : (B : Blend) (bs : List Blend) → RiseB B → Rising bs → Rising (B ∷ bs)
-rising-more B bs h hs A m = ⊎-elim (λ e. subst RiseB (sym e) h) (hs A) (List·Memᴰ·cases-cons m)
-
-pub firstFour-rises : (w h : ℕ) → 0 < w → 0 < h → Rising (firstFour w h)
-firstFour-rises w h hw hh =
-    rising-more _ _ (omega arith)
-    (rising-more _ _ (omega arith) (rising-more _ _ (omega arith) (rising-more _ _ (omega arith) (λ B m. absurd (List·Memᴰ·not-nil m)))))
-
 abbrev pub LeftOf : Mesh → List Blend → Blend → Type 0
 LeftOf M bs C = (B : Blend) × List·Memᴰ B bs × Left M B C
 
@@ -320,9 +312,6 @@ finer-leaves M N g bs ds h same C = (
   where
     rising : Rising ds
     rising D m = leavesOf-rises M bs h D (same D .0 m)
-
-pub finer-again : (M N : Mesh) → Coarser M N → (bs : List Blend) → Rising bs → SameMembers (leavesOf N (leavesOf M bs)) (leavesOf N bs)
-finer-again M N g bs h = finer-leaves M N g bs (leavesOf M bs) h (λ C. (λ m. m, λ m. m))
 
 -- At its own anchor something is left of a blend.
 pub keeps-anchor : (M : Mesh) (B : Blend) → RiseB B → (C : Blend) × Left M B C × (C .across .m ≡ B .across .m) × (C .up .m ≡ B .up .m)

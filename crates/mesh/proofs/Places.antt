@@ -1,53 +1,29 @@
 -- Blends kept by their anchors: what the places hold after some blends were kept, and that walking them gives the table.
-use Prim.Native.Nat.{ℕ, zero, suc, _+_, _-_, _*_, _/_, _%_, _≤_, _<_}
+use Prim.Native.Nat.{ℕ, _+_, _*_, _/_, _%_, _≤_, _<_}
 use native.Mathlib.Omega.{arith}
 use mathlib.Core.Path.{_≡_, refl, sym, ap, subst, _∙_}
 use mathlib.Core.Logic.{_⊎_, inl, inr, ⊎-elim}
-use mathlib.Core.Bool.{Bool, true, false, cond, _&&_, not}
-use mathlib.Core.List.{List, [], _∷_, _++_, List·Memᴰ, List·Memᴰ·cases-cons, List·Memᴰ·not-nil}
+use mathlib.Core.Bool.{true, false, not}
+use mathlib.Core.List.{List, [], _∷_, List·Memᴰ, List·Memᴰ·cases-cons, List·Memᴰ·not-nil}
 use mathlib.Core.List.List·Memᴰ.{List·Memᴰ·head, List·Memᴰ·tail}
-use borrow.Author.Tests.{not-true, eqb-true, eqb-false, eq-eqb, ne-eqb, ltb-true, leb-true, lt-ltb, le-leb}
-use lib.Dec.{eqb, ltb, leb}
-use lib.ListN.{length, getD, set, length-set, length-replicate, getD-replicate}
+use borrow.Author.Tests.{not-true, eqb-true, eqb-false, eq-eqb, lt-ltb}
+use lib.Dec.{eqb}
+use lib.ListN.{length, getD, set, length-set, length-replicate}
 use lib.Seq.{getD-set-same, getD-set-other}
-use Rattle.mesh.specs.Range.{each, only, all}
-use Rattle.mesh.specs.Triple.{triple, rising, between}
-use Rattle.mesh.specs.Blends.{blend, same, once, anchored, inTableOrder}
+use Rattle.mesh.specs.Range.{only, all}
+use Rattle.mesh.specs.Blends.{same, once, anchored, inTableOrder}
 use Rattle.mesh.specs.Sound.{proper, nested, noneNested, sound, fourEverywhere}
 use Rattle.mesh.specs.Bytes.{at, Square, place, packed, unpacked, keep, keepAll, empty, kept, walk, Holding}
-use Rattle.mesh.specs.declared.Triple.{Triple}
+pub use Rattle.mesh.specs.Bytes.{ProperIn, RisesIn as Rises}
 use Rattle.mesh.specs.declared.Blend.{Blend}
-use Rattle.mesh.proofs.Tests.{either, true-not-false, and-both, and-of, false-of, all-at, only-mem, mem-only, cond-true, cond-false}
-use Rattle.mesh.proofs.Distinct.{Distinct}
-use Rattle.mesh.proofs.Tables.{Anchored, anchored-at, same-blend, once-mem, mem-once, once-distinct, only-distinct, singleton, nothing, each-same, mem-order}
+use Rattle.mesh.proofs.Tests.{either, true-not-false, and-both, and-of, false-of, all-at, only-mem, mem-only, cond-false, each-same}
+use Rattle.mesh.proofs.Bytes.{zeros}
+pub use Rattle.mesh.proofs.Cuts.{proper-facts, proper-of}
+use Rattle.mesh.proofs.Cuts.{same-blend}
+use Rattle.mesh.proofs.Tables.{Anchored, anchored-at, once-mem, mem-once, once-distinct, only-distinct, singleton, nothing, order-mem, mem-order}
+use Rattle.mesh.proofs.Ascending.{OwnAnchors}
 
--- the facts of `rising` and `proper`
-pub record Rises (side : ℕ) (t : Triple) : Type 0 where
-  pub low : t .l < t .m
-  pub high : t .m < t .r
-  pub most : t .r ≤ side + 2
-
-pub rising-facts : (side : ℕ) (t : Triple) → rising side t ≡ true → Rises side t
-rising-facts side t e =
-    let a = and-both (ltb (t .l) (t .m) && ltb (t .m) (t .r)) (leb (t .r) (side + 2)) e in
-    let b = and-both (ltb (t .l) (t .m)) (ltb (t .m) (t .r)) (a .0) in
-    record { low = ltb-true _ _ (b .0); high = ltb-true _ _ (b .1); most = leb-true _ _ (a .1) }
-
-pub rising-of : (side : ℕ) (t : Triple) → Rises side t → rising side t ≡ true
-rising-of side t r = rw (lt-ltb (t .l) (t .m) (r .low), lt-ltb (t .m) (t .r) (r .high), le-leb (t .r) (side + 2) (r .most))
-
-pub record ProperIn (w h : ℕ) (B : Blend) : Type 0 where
-  pub across : Rises w (B .across)
-  pub up : Rises h (B .up)
-
-pub proper-facts : (w h : ℕ) (B : Blend) → proper w h B ≡ true → ProperIn w h B
-proper-facts w h B e =
-    let b = and-both (rising w (B .across)) (rising h (B .up)) e in
-    record { across = rising-facts w (B .across) (b .0); up = rising-facts h (B .up) (b .1) }
-
-pub proper-of : (w h : ℕ) (B : Blend) → ProperIn w h B → proper w h B ≡ true
-proper-of w h B p = and-of _ _ (rising-of w (B .across) (p .across)) (rising-of h (B .up) (p .up))
-
+-- a proper blend's anchor lies in the domain
 pub proper-anchored : (w h : ℕ) (B : Blend) → ProperIn w h B → Anchored w h B
 proper-anchored w h B p =
     let a = p .across in
@@ -92,12 +68,9 @@ nothing-kept w h =
       square = length-replicate {A = ℕ} 17161 0;
       good = λ B m. absurd (List·Memᴰ·not-nil m);
       found = λ z B m. absurd (List·Memᴰ·not-nil m);
-      from = λ z m n lo hi ne. absurd (ne (in-empty (at m n)));
-      met = λ ne. absurd (ne (in-empty 0));
+      from = λ z m n lo hi ne. absurd (ne (zeros 17161 (at m n)));
+      met = λ ne. absurd (ne (zeros 17161 0));
     }
-  where
-    in-empty : (i : ℕ) → getD empty i 0 ≡ 0
-    in-empty i = ⊎-elim (λ t. getD-replicate 17161 i 0 0 (ltb-true i 17161 t)) (λ t. lib.ListN.List·getD-eq-default empty 0 (subst (λ (k : ℕ). k ≤ i) (sym (length-replicate {A = ℕ} 17161 0)) (borrow.Author.Tests.ltb-false i 17161 t))) (either (ltb i 17161))
 
 module _ (w h : ℕ) (hw : w ≤ 128) (hh : h ≤ 128) (T : List ℕ) (ds : List Blend) (K : Kept w h T ds) (B : Blend) (p : ProperIn w h B) where
   in-square : place B < length T
@@ -197,12 +170,26 @@ keep-seen w h hw hh T ds [] K p = K
 keep-seen w h hw hh T ds (B ∷ bs) K p =
     keep-seen w h hw hh (keep T B) (B ∷ ds) bs (keep-one w h hw hh T ds K B (p B (List·Memᴰ·head refl))) (λ C m. p C (List·Memᴰ·tail m))
 
--- two blends with one anchor: it lies strictly inside both supports
-pub overlap : (w h : ℕ) (B C : Blend) → (B ≡ C → ⊥) → B .across .m ≡ C .across .m → B .up .m ≡ C .up .m → ProperIn w h C → nested B C ≡ true
-overlap w h B C ne q s pC =
-    let a = pC .across in
-    let u = pC .up in
-    rw (false-of (same B C) (λ e. ne (same-blend B C e)), q, s, lt-ltb _ _ (a .low), lt-ltb _ _ (a .high), lt-ltb _ _ (u .low), lt-ltb _ _ (u .high))
+-- no anchor of the list is strictly inside another's support
+pub unnested : (bs : List Blend) → noneNested bs ≡ true → (B C : Blend) → List·Memᴰ B bs → List·Memᴰ C bs → nested B C ≡ false
+unfolding noneNested
+unnested bs e B C mB mC =
+    not-true _
+    (all-at (λ (Y : Blend). not (nested B Y)) bs (all-at (λ (X : Blend). all (λ (Y : Blend). not (nested X Y)) bs) bs e B mB) C mC)
+
+-- so in a sound map no two blends have one anchor: it would be strictly inside both supports
+pub sound-own : (w h : ℕ) (bs : List Blend) → ((C : Blend) → List·Memᴰ C bs → ProperIn w h C) → sound w h bs ≡ true → OwnAnchors bs
+unfolding sound
+sound-own w h bs ok s B C mB mC q r =
+    ⊎-elim (λ e. same-blend B C e)
+    (λ e. absurd (true-not-false (nested B C) (overlap e) (unnested bs (and-both (fourEverywhere w h bs) (noneNested bs) s .1) B C mB mC)))
+    (either (same B C))
+  where
+    overlap : same B C ≡ false → nested B C ≡ true
+    overlap e =
+        let a = ok C mC .across in
+        let u = ok C mC .up in
+        rw (e, q, r, lt-ltb _ _ (a .low), lt-ltb _ _ (a .high), lt-ltb _ _ (u .low), lt-ltb _ _ (u .high))
 
 module _ (w h : ℕ) (hw : w ≤ 128) (hh : h ≤ 128) (E : List ℕ) (blank : Kept w h E []) (ls : List Blend)
     (p : (C : Blend) → List·Memᴰ C ls → ProperIn w h C) where
@@ -214,18 +201,15 @@ module _ (w h : ℕ) (hw : w ≤ 128) (hh : h ≤ 128) (E : List ℕ) (blank : K
 
   -- two different blends met: the map is not sound
   pub met-unsound : (getD (keepAll E ls) 0 0 ≡ 0 → ⊥) → sound w h (inTableOrder w h (once ls)) ≡ false
-  unfolding sound noneNested
   met-unsound ne =
       let r = kept-all .met ne in
-      let mB = of-list (r .0) (r .2) in
-      let mC = of-list (r .1) (r .3) in
-      let inB = mem-order w h (once ls) (r .0) (mem-once ls (r .0) mB) (proper-anchored w h (r .0) (p (r .0) mB)) in
-      let inC = mem-order w h (once ls) (r .1) (mem-once ls (r .1) mC) (proper-anchored w h (r .1) (p (r .1) mC)) in
       false-of _
-      (λ e.
-      let apart = and-both (fourEverywhere w h (inTableOrder w h (once ls))) (noneNested (inTableOrder w h (once ls))) e .1 in
-      let no = all-at (λ C. not (nested (r .0) C)) (inTableOrder w h (once ls)) (all-at (λ B. all (λ C. not (nested B C)) (inTableOrder w h (once ls))) (inTableOrder w h (once ls)) apart (r .0) inB) (r .1) inC in
-      true-not-false (nested (r .0) (r .1)) (overlap w h (r .0) (r .1) (r .4) (r .5) (r .6) (p (r .1) mC)) (not-true _ no))
+      (λ e. r .4
+      (sound-own w h (inTableOrder w h (once ls)) (λ C m. p C (once-mem ls C (order-mem w h (once ls) C m .0))) e (r .0) (r .1)
+      (there (r .0) (of-list (r .0) (r .2))) (there (r .1) (of-list (r .1) (r .3))) (r .5) (r .6)))
+    where
+      there : (C : Blend) → List·Memᴰ C ls → List·Memᴰ C (inTableOrder w h (once ls))
+      there C m = mem-order w h (once ls) C (mem-once ls C m) (proper-anchored w h C (p C m))
 
   -- while none met, a place that is taken holds a blend of the list, and each blend of the list is at its place
   held : getD (keepAll E ls) 0 0 ≡ 0 → (m n : ℕ) (C : Blend) → List·Memᴰ C ls → C .across .m ≡ m → C .up .m ≡ n → getD (keepAll E ls) (at m n) 0 ≡ packed C

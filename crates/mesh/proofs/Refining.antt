@@ -10,14 +10,15 @@ use Rattle.mesh.specs.Range.{all, any}
 use Rattle.mesh.specs.Lines.{Direction, upright, level, number, Mesh, meshOf, allowed}
 use Rattle.mesh.specs.Blends.{cutter, isCut, refine, leavesOf}
 use Rattle.mesh.specs.Sound.{proper, answer, table, blendsOf, refined, someCut}
-use Rattle.mesh.specs.Bytes.{stepOn, bytesMesh, keepAll, walk, Holding, empty, refused}
+use Rattle.mesh.specs.Bytes.{ProperIn, stepOn, bytesMesh, keepAll, walk, Holding, empty, refused}
 use Rattle.mesh.specs.declared.Lines.{Lines}
 use Rattle.mesh.specs.declared.Table.{Table}
 use Rattle.mesh.specs.declared.Blend.{Blend}
 use Rattle.mesh.proofs.Tests.{cond-true, cond-false, all-at, and-both, or-left, or-right}
 use Rattle.mesh.proofs.Drawing.{Allowed, allowed-says}
+use Rattle.mesh.proofs.Cuts.{proper-facts}
 use Rattle.mesh.proofs.Cutting.{proper-most}
-use Rattle.mesh.proofs.Places.{Kept, ProperIn, nothing-kept, proper-facts, met-unsound, walk-table, walk-holding}
+use Rattle.mesh.proofs.Places.{Kept, nothing-kept, met-unsound, walk-table, walk-holding}
 use Rattle.mesh.proofs.Live.{leaves-proper, unsound-answer}
 
 -- lines, and a table's blends, that keep to their ranges: as a test, and what it says

@@ -1,19 +1,19 @@
 -- The steps of lines, found by a look at each split, and what a split in range keeps to.
 use Prim.Native.Nat.{ℕ, zero, suc, _+_, _-_, _≤_, _<_}
 use native.Mathlib.Omega.{arith}
-use mathlib.Core.Path.{_≡_, refl, sym, _∙_}
+use mathlib.Core.Path.{_≡_, refl}
 use mathlib.Core.Logic.{⊎-elim}
-use mathlib.Core.Bool.{Bool, true, false, _&&_, _||_, not}
-use mathlib.Core.List.{List, [], _∷_}
-use borrow.Author.Tests.{not-true, not-false, eq-eqb, ne-eqb, eqb-true}
+use mathlib.Core.Bool.{Bool, true, _&&_, _||_}
+use borrow.Author.Tests.{eq-eqb, ne-eqb, eqb-true}
 use lib.Dec.{eqb, ltb, leb}
-use lib.ListN.{length, getD, drop}
-use Rattle.mesh.specs.Range.{some, all, any}
+use lib.ListN.{length, getD}
+use Rattle.mesh.specs.Range.{any}
 use Rattle.mesh.specs.Lines.{Mesh, upright, level, other, direction, start, end, inRange, draws, freshMesh, mesh, onLine, ended, splitsOf, meshOf, allowed}
 use Rattle.mesh.specs.declared.Split.{Split}
 use Rattle.mesh.specs.declared.Lines.{Lines}
-use Rattle.mesh.proofs.Tests.{either, and-both}
-use Rattle.mesh.proofs.Drawing.{allowed-says, in-range-says, left-turn, left-none, blank}
+use Rattle.mesh.proofs.Tests.{either, and-both, all-at}
+use Rattle.mesh.proofs.Entries.{left-mem}
+use Rattle.mesh.proofs.Drawing.{allowed-says, in-range-says, blank}
 
 -- whether a fresh map has a step, by the sides that the line crosses and runs along; whether a split of a direction's number has it
 abbrev pub fresh : ℕ → ℕ → ℕ → ℕ → Bool
@@ -60,38 +60,13 @@ both-kept L s e =
     let a = allowed-says L (p .0) in
     (p .0, in-range-small (L .w) (L .h) s (p .1) (a .across .1) (a .up .1))
 
-all-drop {ℓ} : {A : Type ℓ} (test : A → Bool) (n : ℕ) (xs : List A) → all test xs ≡ true → all test (drop n xs) ≡ true
-all-drop test zero xs e = e
-all-drop test (suc n) [] e = refl
-all-drop test (suc n) (x ∷ xs) e = all-drop test n xs (and-both (test x) _ e .1)
-
 -- the splits of allowed lines, one by one
-module _ (L : Lines) (e : allowed L ≡ true) (room : length (L .splits) ≡ 60) (i : ℕ) where
-  turn : i < L .count → drop i (splitsOf L) ≡ getD (L .splits) i blank ∷ drop (i + 1) (splitsOf L)
-  turn lt = let a = allowed-says L e in left-turn (L .splits) (L .count) i (omega arith) blank lt
-
-  pub split-small : i < L .count → Small (getD (L .splits) i blank)
-  split-small lt =
-      let a = allowed-says L e in
-      let left = rw (turn lt) at (all-drop (inRange (L .w) (L .h)) i (splitsOf L) (a .ranges)) in
-      in-range-small (L .w) (L .h) (getD (L .splits) i blank) (and-both _ _ left .0) (a .across .1) (a .up .1)
-
-  pub any-turn : (test : Split → Bool) → i < L .count →
-      any test (drop i (splitsOf L)) ≡ (test (getD (L .splits) i blank) || any test (drop (i + 1) (splitsOf L)))
-  any-turn test lt = rw (turn lt)
-
-  pub any-none : (test : Split → Bool) → L .count ≤ i → any test (drop i (splitsOf L)) ≡ false
-  any-none test done =
-      let a = allowed-says L e in rw (left-none (L .splits) (L .count) i (omega arith) done)
-
--- some number of a run, by a count that falls, as a loop takes them
-pub some-turn : (k n : ℕ) (test : ℕ → Bool) → 0 < n → some k n test ≡ (test k || some (k + 1) (n - 1) test)
-some-turn k zero test h = absurd (omega arith)
-some-turn k (suc n) test h = let e : suc n - 1 ≡ n = omega arith in rw e
-
-pub some-none : (k n : ℕ) (test : ℕ → Bool) → n ≤ 0 → some k n test ≡ false
-some-none k zero test h = refl
-some-none k (suc n) test h = absurd (omega arith)
+pub split-small : (L : Lines) → allowed L ≡ true → length (L .splits) ≡ 60 → (i : ℕ) → i < L .count →
+    Small (getD (L .splits) i blank)
+split-small L e room i lt =
+    let a = allowed-says L e in
+    let there = left-mem (L .splits) (L .count) i (omega arith) blank lt in
+    in-range-small (L .w) (L .h) _ (all-at (inRange (L .w) (L .h)) (splitsOf L) (a .ranges) _ there) (a .across .1) (a .up .1)
 
 -- the direction of the lines that cross a split, by its number
 crossing : (n : ℕ) → n < 2 → direction (1 - n) ≡ other (direction n)
@@ -104,14 +79,3 @@ pub ended-by : (M : Mesh) (s : Split) → s .direction < 2 →
     ended M s ≡ (onLine M across (s .from + 1) (s .position + 1) && onLine M across (s .to + 1) (s .position + 1))
 unfolding ended
 ended-by M s lt = rw (crossing (s .direction) lt)
-
--- A test behind another, as the code makes them: no where the first fails, else the second.
-module _ {t a : Bool} (e : t ≡ a) where
-  pub refused : (b : Bool) → not t ≡ true → false ≡ (a && b)
-  refused b n = rw (sym e ∙ not-true t n)
-
-  pub passed : not t ≡ false → a ≡ true
-  passed n = sym e ∙ not-false t n
-
-  pub second : {r b : Bool} → not t ≡ false → r ≡ b → r ≡ (a && b)
-  second n q = rw (passed n) q

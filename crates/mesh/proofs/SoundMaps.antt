@@ -1,33 +1,28 @@
 -- The theorems on the live blends of a map, over the definitions of `specs/` alone. docs/READING.md sets them beside document 01.
-use Prim.Native.Nat.{ℕ, zero, suc, _+_, _-_, _*_, _≤_, _<_}
+use Prim.Native.Nat.{ℕ, _+_, _*_, _≤_, _<_}
 use native.Mathlib.Omega.{arith}
-use mathlib.Core.Path.{_≡_, refl, sym, ap, subst, _∙_}
-use mathlib.Core.Logic.{_↔_, _⊎_, inl, inr, ⊎-elim}
-use mathlib.Core.Bool.{Bool, true, false, cond, _&&_, _||_, not}
-use mathlib.Core.List.{List, [], _∷_, _++_, map, List·Memᴰ, List·Memᴰ·cases-cons, List·Memᴰ·not-nil}
-use mathlib.Core.List.List·Memᴰ.{List·Memᴰ·head, List·Memᴰ·tail}
-use lib.Dec.{leb, ltb, eqb}
+use mathlib.Core.Path.{_≡_}
+use mathlib.Core.Logic.{_↔_, _⊎_}
+use mathlib.Core.Bool.{true}
+use mathlib.Core.List.{List, map, List·Memᴰ}
 use lib.ListN.{length}
-use borrow.Author.Tests.{eqb-true, eqb-false, eq-eqb, leb-true, le-leb, lt-ltb, ne-eqb, le-ltb}
-use Rattle.mesh.specs.Range.{every, only, all, any}
-use Rattle.mesh.specs.Triple.{Fraction, low, high}
-use Rattle.mesh.specs.Lines.{Mesh, Direction, upright, level, mesh, freshMesh, draws, inRange, fits, number, other, side}
-use Rattle.mesh.specs.Blends.{blend, live, refine, firstFour, cuts, crossed}
-use Rattle.mesh.specs.Order.{Comes, Left, Uncut, Cutting, Coarser, here}
-use Rattle.mesh.specs.Sound.{proper, overSquare, fourEverywhere, noneNested, nested, sound}
+use borrow.Author.Tests.{eqb-true}
+use Rattle.mesh.specs.Range.{only}
+use Rattle.mesh.specs.Lines.{Mesh, Direction}
+use Rattle.mesh.specs.Blends.{live, firstFour, cuts}
+use Rattle.mesh.specs.Order.{Comes, Uncut, Cutting}
+use Rattle.mesh.specs.Sound.{proper, overSquare, fourEverywhere, noneNested, sound}
 use Rattle.mesh.specs.Weight.{Term, weight, total, value, interpolated, Equal}
-use Rattle.mesh.specs.Bytes.{place}
-use Rattle.mesh.specs.declared.Split.{Split}
 use Rattle.mesh.specs.declared.Blend.{Blend}
-use Rattle.mesh.proofs.Tests.{either, true-not-false, and-both, and-of, or-either, false-of, every-at, any-at, only-mem}
+use Rattle.mesh.proofs.Tests.{and-both, every-at}
 use Rattle.mesh.proofs.Distinct.{Distinct}
-use Rattle.mesh.proofs.Order.{cut-or-not, LeftOf, SameMembers, any-order, keeps-anchor, comes-trans, firstFour-rises, OnLine, comes-on-lines}
-use Rattle.mesh.proofs.Places.{ProperIn, Rises, proper-facts, proper-of, rising-of}
+use Rattle.mesh.proofs.Order.{cut-or-not, LeftOf, SameMembers, any-order, comes-trans}
+use Rattle.mesh.proofs.Cuts.{proper-facts}
+use Rattle.mesh.proofs.Places.{sound-own}
 use Rattle.mesh.proofs.Ascending.{OwnAnchors}
-use Rattle.mesh.proofs.Live.{proper-rises, AllProper, refine-left, left-refine, refine-leaves, refine-proper, refine-distinct, sound-own, finer-answer, finer-table}
+use Rattle.mesh.proofs.Live.{proper-rises, AllProper, refine-left, left-refine, refine-leaves, refine-proper, refine-distinct}
 use Rattle.mesh.proofs.Weights.{square-positive, own-anchor, other-anchor, Covered, CoveredTerms, reproduced, adds-up}
-use Rattle.mesh.proofs.Fresh.{first-proper}
-use Rattle.mesh.proofs.Few.{few, square-of-sum}
+use Rattle.mesh.proofs.Fresh.{first-proper, firstFour-rises}
 
 module _ (w h : ℕ) (hw : 1 ≤ w) (hh : 1 ≤ h) (M : Mesh) where
   -- The live blends are what is left of the first four,
@@ -96,7 +91,7 @@ module _ (w h : ℕ) (hw : 1 ≤ w) (hh : 1 ≤ h) (M : Mesh) where
 
     -- no two have one anchor;
     pub own-anchors : OwnAnchors (live w h M)
-    own-anchors = sound-own w h (live w h M) live-proper s
+    own-anchors = sound-own w h (live w h M) (λ C m. proper-facts w h C (live-proper C m)) s
 
     -- and each sum of multiples of blends that come before the live ones equals the sum of its values at the anchors times the live blends.
     pub live-reproduce : (ts : List Term) → CoveredTerms M w h (live w h M) ts → (p q d : ℕ) → 0 < d →

@@ -1,44 +1,19 @@
 -- Blends kept once and in table order: membership, no repeats.
-use Prim.Native.Nat.{ℕ, zero, suc, _+_, _-_, _≤_, _<_}
+use Prim.Native.Nat.{ℕ, zero, suc, _+_, _≤_, _<_}
 use native.Mathlib.Omega.{arith}
 use mathlib.Core.Path.{_≡_, refl, sym, ap, subst, _∙_}
-use mathlib.Core.Logic.{_⊎_, inl, inr, ⊎-elim}
-use mathlib.Core.Bool.{Bool, true, false, cond, _&&_, not}
+use mathlib.Core.Logic.{⊎-elim}
+use mathlib.Core.Bool.{Bool, true}
 use mathlib.Core.List.{List, [], _∷_, _++_, List·Memᴰ, List·Memᴰ·cases-cons, List·Memᴰ·append-cases, List·Memᴰ·not-nil}
 use mathlib.Core.List.List·Memᴰ.{List·Memᴰ·head, List·Memᴰ·tail}
 use borrow.Author.Tests.{eqb-true, eq-eqb}
 use lib.Dec.{eqb}
-use lib.ListN.{length}
 use Rattle.mesh.specs.Range.{each, any, only}
-use Rattle.mesh.specs.Triple.{sameTriple}
 use Rattle.mesh.specs.Blends.{same, once, anchored, inTableOrder}
-use Rattle.mesh.specs.declared.Triple.{Triple}
 use Rattle.mesh.specs.declared.Blend.{Blend}
 use Rattle.mesh.proofs.Tests.{either, true-not-false, and-both, and-of, any-at, any-of, only-mem, mem-only, each-mem, mem-each}
 use Rattle.mesh.proofs.Distinct.{Distinct}
-
--- `same` is equality
-same-triple : (s t : Triple) → sameTriple s t ≡ true → s ≡ t
-same-triple s t e =
-    let lm = and-both (eqb (s .l) (t .l) && eqb (s .m) (t .m)) (eqb (s .r) (t .r)) e in
-    let l = and-both (eqb (s .l) (t .l)) (eqb (s .m) (t .m)) (lm .0) in
-    let p : s .l ≡ t .l = eqb-true _ _ (l .0) in
-    let q : s .m ≡ t .m = eqb-true _ _ (l .1) in
-    let r : s .r ≡ t .r = eqb-true _ _ (lm .1) in
-    λ i. record { l = p i; m = q i; r = r i }
-
-triple-same : (t : Triple) → sameTriple t t ≡ true
-triple-same t = rw (eq-eqb (t .l) (t .l) refl, eq-eqb (t .m) (t .m) refl, eq-eqb (t .r) (t .r) refl)
-
-pub same-blend : (A B : Blend) → same A B ≡ true → A ≡ B
-same-blend A B e =
-    let b = and-both (sameTriple (A .across) (B .across)) (sameTriple (A .up) (B .up)) e in
-    let p : A .across ≡ B .across = same-triple _ _ (b .0) in
-    let q : A .up ≡ B .up = same-triple _ _ (b .1) in
-    λ i. record { across = p i; up = q i }
-
-pub blend-same : (A B : Blend) → A ≡ B → same A B ≡ true
-blend-same A B p = rw (← p) (and-of _ _ (triple-same (A .across)) (triple-same (A .up)))
+use Rattle.mesh.proofs.Cuts.{same-blend, blend-same}
 
 -- `once` keeps the members, each of them once
 pub once-mem : (bs : List Blend) (C : Blend) → List·Memᴰ C (once bs) → List·Memᴰ C bs
@@ -106,11 +81,6 @@ module _ {ℓ} {A : Type ℓ} where
   pub nothing : (xs : List A) → ((y : A) → List·Memᴰ y xs → ⊥) → xs ≡ []
   nothing [] f = refl
   nothing (x ∷ xs) f = absurd (f x (List·Memᴰ·head refl))
-
-  pub each-same : (from n : ℕ) (f g : ℕ → List A) → ((k : ℕ) → from ≤ k → k < from + n → f k ≡ g k) → each from n f ≡ each from n g
-  each-same from zero f g e = refl
-  each-same from (suc n) f g e =
-      rw (e from (omega arith) (omega arith), each-same (from + 1) n f g (λ k lo hi. e k (omega arith) (omega arith)))
 
 -- an anchor in the domain, in knots
 pub record Anchored (w h : ℕ) (B : Blend) : Type 0 where

@@ -1,13 +1,13 @@
 -- What the tests of `specs/` say: from a test's value to the fact, and back.
 use Prim.Native.Nat.{ℕ, zero, suc, _+_, _-_, _≤_, _<_}
 use native.Mathlib.Omega.{arith}
-use native.Mathlib.Numerals.{add-one}
 use mathlib.Core.Path.{_≡_, refl, sym, ap, subst, _∙_}
 use mathlib.Core.Logic.{_⊎_, inl, inr, ⊎-elim}
 use mathlib.Core.Bool.{Bool, true, false, cond, _&&_, _||_, not}
 use mathlib.Core.List.{List, [], _∷_, _++_, List·Memᴰ, List·Memᴰ·cases-cons, List·Memᴰ·append-cases, Memᴰ·append-left, Memᴰ·append-right, List·Memᴰ·not-nil}
-use borrow.Author.Tests.{ltb-true, ltb-false, leb-true, leb-false, eqb-true, eqb-false, not-true, not-false, lt-ltb, le-ltb, le-leb, lt-leb, eq-eqb, ne-eqb}
-use Rattle.mesh.specs.Range.{every, each, all, any, only, joined}
+use lib.Dec.{leb, ltb}
+use borrow.Author.Tests.{ltb-true, leb-true, eqb-true, eqb-false, not-true, not-false, lt-ltb, le-leb}
+use Rattle.mesh.specs.Range.{every, some, each, all, any, only, joined}
 
 -- a test is true or false, with the equation
 pub either : (b : Bool) → (b ≡ true) ⊎ (b ≡ false)
@@ -55,6 +55,30 @@ cond-true b u v e = rw e
 pub cond-false {ℓ} : {A : Type ℓ} (b : Bool) (u v : A) → b ≡ false → cond b u v ≡ v
 cond-false b u v e = rw e
 
+-- k is one of the numbers from `from` up to `to`, that one left out
+abbrev pub within : ℕ → ℕ → ℕ → Bool
+within from to k = leb from k && ltb k to
+
+pub within-of : (from to k : ℕ) → from ≤ k → k < to → within from to k ≡ true
+within-of from to k lo hi = and-of _ _ (le-leb from k lo) (lt-ltb k to hi)
+
+pub within-at : (from to k : ℕ) → within from to k ≡ true → (from ≤ k) × (k < to)
+within-at from to k e = let b = and-both (leb from k) (ltb k to) e in (leb-true from k (b .0), ltb-true k to (b .1))
+
+-- A test behind another, as the code makes them: no where the first fails, else the second.
+module _ {t a : Bool} (e : t ≡ a) where
+  pub failed : not t ≡ true → a ≡ false
+  failed n = sym e ∙ not-true t n
+
+  pub refused : (b : Bool) → not t ≡ true → false ≡ (a && b)
+  refused b n = rw (failed n)
+
+  pub passed : not t ≡ false → a ≡ true
+  passed n = sym e ∙ not-false t n
+
+  pub second : {r b : Bool} → not t ≡ false → r ≡ b → r ≡ (a && b)
+  second n q = rw (passed n) q
+
 -- `every`: the test holds of each number of the run
 pub every-at : (from n : ℕ) (test : ℕ → Bool) → every from n test ≡ true → (k : ℕ) → from ≤ k → k < from + n → test k ≡ true
 every-at from zero test e k lo hi = absurd (omega arith)
@@ -71,6 +95,11 @@ every-of from zero test f = refl
 every-of from (suc n) test f =
     and-of _ _ (f from (omega arith) (omega arith)) (every-of (from + 1) n test (λ k lo hi. f k (omega arith) (omega arith)))
 
+pub every-same : (from n : ℕ) (f g : ℕ → Bool) → ((k : ℕ) → from ≤ k → k < from + n → f k ≡ g k) → every from n f ≡ every from n g
+every-same from zero f g e = refl
+every-same from (suc n) f g e =
+    rw (e from (omega arith) (omega arith), every-same (from + 1) n f g (λ k lo hi. e k (omega arith) (omega arith)))
+
 -- the walks by a count that falls, as a loop takes them
 pub every-turn : (k n : ℕ) (test : ℕ → Bool) → 0 < n → every k n test ≡ (test k && every (k + 1) (n - 1) test)
 every-turn k zero test h = absurd (omega arith)
@@ -79,6 +108,14 @@ every-turn k (suc n) test h = let e : suc n - 1 ≡ n = omega arith in rw e
 pub every-none : (k n : ℕ) (test : ℕ → Bool) → n ≤ 0 → every k n test ≡ true
 every-none k zero test h = refl
 every-none k (suc n) test h = absurd (omega arith)
+
+pub some-turn : (k n : ℕ) (test : ℕ → Bool) → 0 < n → some k n test ≡ (test k || some (k + 1) (n - 1) test)
+some-turn k zero test h = absurd (omega arith)
+some-turn k (suc n) test h = let e : suc n - 1 ≡ n = omega arith in rw e
+
+pub some-none : (k n : ℕ) (test : ℕ → Bool) → n ≤ 0 → some k n test ≡ false
+some-none k zero test h = refl
+some-none k (suc n) test h = absurd (omega arith)
 
 pub each-turn {ℓ} : {A : Type ℓ} (k n : ℕ) (f : ℕ → List A) → 0 < n → each k n f ≡ f k ++ each (k + 1) (n - 1) f
 each-turn k zero f h = absurd (omega arith)
@@ -143,6 +180,11 @@ module _ {ℓ} {A : Type ℓ} where
       let hi : r .0 < from + 1 + n = r .2 in
       (r .0, omega arith, omega arith, r .3))
       (List·Memᴰ·append-cases (f from) h)
+
+  pub each-same : (from n : ℕ) (f g : ℕ → List A) → ((k : ℕ) → from ≤ k → k < from + n → f k ≡ g k) → each from n f ≡ each from n g
+  each-same from zero f g e = refl
+  each-same from (suc n) f g e =
+      rw (e from (omega arith) (omega arith), each-same (from + 1) n f g (λ k lo hi. e k (omega arith) (omega arith)))
 
   pub mem-each : (from n : ℕ) (f : ℕ → List A) (x : A) (k : ℕ) → from ≤ k → k < from + n → List·Memᴰ x (f k) → List·Memᴰ x (each from n f)
   mem-each from zero f x k lo hi m = absurd (omega arith)

@@ -1,19 +1,45 @@
--- One triple and positions on its axis: what a cut does, and that the order of two cuts does not matter. Nothing here knows how many axes there are.
-use Prim.Native.Nat.{ℕ, _-_, _≤_, _<_, min, max}
+-- One triple and positions on its axis: when it rises, what a cut does, that the order of two cuts does not matter, and the first triples
+-- of a side. Nothing here knows how many axes there are.
+use Prim.Native.Nat.{ℕ, _+_, _-_, _≤_, _<_, min, max}
 use native.Mathlib.Omega.{arith}
 use mathlib.Core.Path.{_≡_, refl, sym, subst}
 use mathlib.Core.Logic.{_⊎_, inl, inr, ⊎-elim}
-use mathlib.Core.Bool.{true, _&&_, not}
-use borrow.Author.Tests.{ltb-true, leb-true, leb-false, eqb-false, not-true, lt-ltb, ne-eqb}
+use mathlib.Core.Bool.{true, false, _&&_, not}
+use borrow.Author.Tests.{ltb-true, ltb-false, leb-true, leb-false, eqb-true, eqb-false, not-true, lt-ltb, le-leb, eq-eqb, ne-eqb}
 use lib.Dec.{leb, ltb, eqb}
-use Rattle.mesh.specs.Triple.{Side, lower, upper, half, inside}
+use Rattle.mesh.specs.Triple.{triple, Side, lower, upper, half, inside, between, spans, rising, low, high, sameTriple}
+use Rattle.mesh.specs.Bytes.{RisesIn}
 use Rattle.mesh.specs.declared.Triple.{Triple}
-use Rattle.mesh.proofs.Tests.{either, and-both}
+use Rattle.mesh.proofs.Tests.{either, and-both, and-of, and-fails, within-of}
 
 -- the numbers rise
 pub record Rise (t : Triple) : Type 0 where
   pub low : t .l < t .m
   pub high : t .m < t .r
+
+-- it rises within the knots of a side: what the test says; and so within those of a longer side
+pub rising-facts : (side : ℕ) (t : Triple) → rising side t ≡ true → RisesIn side t
+rising-facts side t e =
+    let a = and-both (ltb (t .l) (t .m) && ltb (t .m) (t .r)) (leb (t .r) (side + 2)) e in
+    let b = and-both (ltb (t .l) (t .m)) (ltb (t .m) (t .r)) (a .0) in
+    record { low = ltb-true _ _ (b .0); high = ltb-true _ _ (b .1); most = leb-true _ _ (a .1) }
+
+pub rising-of : (side : ℕ) (t : Triple) → RisesIn side t → rising side t ≡ true
+rising-of side t r = and-of _ _ (and-of _ _ (lt-ltb _ _ (r .low)) (lt-ltb _ _ (r .high))) (le-leb _ _ (r .most))
+
+pub rise-of : {side : ℕ} {t : Triple} → RisesIn side t → Rise t
+rise-of r = omega arith
+
+pub rises-wider : {side more : ℕ} {t : Triple} → side ≤ more → RisesIn side t → RisesIn more t
+rises-wider le r = omega arith
+
+-- strictly between the ends
+pub between-fact : (z : ℕ) (t : Triple) → between z t ≡ true → (t .l < z) × (z < t .r)
+between-fact z t e = let b = and-both (ltb (t .l) z) (ltb z (t .r)) e in (ltb-true _ _ (b .0), ltb-true _ _ (b .1))
+
+pub not-between : (z : ℕ) (t : Triple) → between z t ≡ false → (z ≤ t .l) ⊎ (t .r ≤ z)
+not-between z t e =
+    ⊎-elim (λ s. inl (ltb-false _ _ s)) (λ s. inr (ltb-false _ _ s)) (and-fails (ltb (t .l) z) (ltb z (t .r)) e)
 
 -- a line at z can cut
 pub record Inside (z : ℕ) (t : Triple) : Type 0 where
@@ -23,9 +49,9 @@ pub record Inside (z : ℕ) (t : Triple) : Type 0 where
 
 pub inside-fact : (z : ℕ) (t : Triple) → inside z t ≡ true → Inside z t
 inside-fact z t e =
-    let p = and-both (ltb (t .l) z && ltb z (t .r)) (not (eqb z (t .m))) e in
-    let q = and-both (ltb (t .l) z) (ltb z (t .r)) (p .0) in
-    record { lo = ltb-true _ _ (q .0); hi = ltb-true _ _ (q .1); off = eqb-false _ _ (not-true _ (p .1)) }
+    let p = and-both (between z t) (not (eqb z (t .m))) e in
+    let q = between-fact z t (p .0) in
+    record { lo = q .0; hi = q .1; off = eqb-false _ _ (not-true _ (p .1)) }
 
 pub inside-test : (z : ℕ) (t : Triple) → Inside z t → inside z t ≡ true
 inside-test z t i = rw (lt-ltb (t .l) z (i .lo), lt-ltb z (t .r) (i .hi), ne-eqb z (t .m) (i .off))
@@ -41,8 +67,21 @@ within-refl t = omega arith
 pub within-trans : {t u v : Triple} → Within t u → Within u v → Within t v
 within-trans p q = omega arith
 
+pub rises-within : {side : ℕ} {t u : Triple} → RisesIn side t → Rise u → Within t u → RisesIn side u
+rises-within r h w = omega arith
+
 pub triple-eq : {t u : Triple} → t .l ≡ u .l → t .m ≡ u .m → t .r ≡ u .r → t ≡ u
 triple-eq p q r = λ i. record { l = p i; m = q i; r = r i }
+
+-- the test of equal triples is equality
+pub same-triple : (s t : Triple) → sameTriple s t ≡ true → s ≡ t
+same-triple s t e =
+    let a = and-both (eqb (s .l) (t .l) && eqb (s .m) (t .m)) (eqb (s .r) (t .r)) e in
+    let b = and-both (eqb (s .l) (t .l)) (eqb (s .m) (t .m)) (a .0) in
+    triple-eq (eqb-true _ _ (b .0)) (eqb-true _ _ (b .1)) (eqb-true _ _ (a .1))
+
+pub triple-same : (t : Triple) → sameTriple t t ≡ true
+triple-same t = rw (eq-eqb (t .l) (t .l) refl, eq-eqb (t .m) (t .m) refl, eq-eqb (t .r) (t .r) refl)
 
 -- A half rises, lies within the triple, and is narrower.
 pub half-rises : (s : Side) (z : ℕ) (t : Triple) → Rise t → Inside z t → Rise (half s z t)
@@ -59,6 +98,21 @@ pub half-narrower : (s : Side) (z : ℕ) (t : Triple) → Rise t → Inside z t 
 unfolding half
 half-narrower lower z t h i = let off = i .off in omega arith
 half-narrower upper z t h i = let off = i .off in omega arith
+
+-- the halves on either side of the middle, without `min` and `max`
+pub half-below : (t : Triple) (z : ℕ) → z < t .m → (half lower z t ≡ triple (t .l) z (t .m)) × (half upper z t ≡ triple z (t .m) (t .r))
+unfolding half
+half-below t z h =
+    let e : min z (t .m) ≡ z = omega arith in
+    let f : max z (t .m) ≡ t .m = omega arith in
+    (rw (e, f), rw (e, f))
+
+pub half-above : (t : Triple) (z : ℕ) → t .m < z → (half lower z t ≡ triple (t .l) (t .m) z) × (half upper z t ≡ triple (t .m) z (t .r))
+unfolding half
+half-above t z h =
+    let e : min z (t .m) ≡ t .m = omega arith in
+    let f : max z (t .m) ≡ z = omega arith in
+    (rw (e, f), rw (e, f))
 
 -- two positions, one way round or the other
 either-way : (a b : ℕ) → (a ≤ b) ⊎ (b ≤ a)
@@ -166,3 +220,38 @@ module _ (y z : ℕ) (t : Triple) (i : Inside y t) (j : Inside z t) (apart : y �
       ⊎-elim (λ q. absurd (k (in-upper z y t j (λ e. apart (sym e)) q)))
       (λ q. (upper, part upper (in-upper y z t i apart (omega arith)) (clear-below y z t q)))
       (either-way (min y (t .m)) z)
+
+-- One of the first two triples of a side.
+pub data First (s : ℕ) : Triple → Type 0 where
+  is-low : First s (low s)
+  is-high : First s (high s)
+
+pub first-rises : (s : ℕ) → 1 ≤ s → (t : Triple) → First s t → RisesIn s t
+first-rises s h t is-low = omega arith
+first-rises s h t is-high = omega arith
+
+-- it has each unit step of the domain
+pub first-spans : (s : ℕ) (t : Triple) (x : ℕ) → First s t → 1 ≤ x → x < 1 + s → spans x t ≡ true
+first-spans s t x is-low lo hi = within-of 0 (s + 1) x (omega arith) (omega arith)
+first-spans s t x is-high lo hi = within-of 1 (s + 2) x (omega arith) (omega arith)
+
+-- its ends and its middle are the fresh map's positions, none of which lies strictly inside but the middle
+abbrev pub AtFresh : ℕ → ℕ → Type 0
+AtFresh s z = (z ≡ 0) ⊎ ((z ≡ 1) ⊎ ((z ≡ s + 1) ⊎ (z ≡ s + 2)))
+
+pub first-uncut : (s z : ℕ) (t : Triple) → First s t → AtFresh s z → Inside z t → ⊥
+first-uncut s z t is-low (inl e) i = omega arith
+first-uncut s z t is-low (inr (inl e)) i = i .off e
+first-uncut s z t is-low (inr (inr (inl e))) i = omega arith
+first-uncut s z t is-low (inr (inr (inr e))) i = omega arith
+first-uncut s z t is-high (inl e) i = omega arith
+first-uncut s z t is-high (inr (inl e)) i = omega arith
+first-uncut s z t is-high (inr (inr (inl e))) i = i .off e
+first-uncut s z t is-high (inr (inr (inr e))) i = omega arith
+
+-- one's middle lies strictly inside another only if they are the same
+pub first-apart : (s : ℕ) (t u : Triple) → First s t → First s u → u .l < t .m → t .m < u .r → t ≡ u
+first-apart s t u is-low is-low lo hi = refl
+first-apart s t u is-low is-high lo hi = absurd (omega arith)
+first-apart s t u is-high is-low lo hi = absurd (omega arith)
+first-apart s t u is-high is-high lo hi = refl

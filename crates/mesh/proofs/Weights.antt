@@ -6,48 +6,37 @@ use mathlib.Core.Path.{_≡_, refl, sym, ap, subst, _∙_}
 use mathlib.Core.Logic.{_⊎_, _↔_, inl, inr, ⊎-elim}
 use mathlib.Core.Bool.{true, false, _&&_, not}
 use mathlib.Core.List.{List, [], _∷_, map, List·Memᴰ}
-use borrow.Author.Tests.{not-true, not-false}
-use Rattle.mesh.specs.Range.{all}
-use Rattle.mesh.specs.Triple.{Fraction, hat, Side, lower, upper, inside, low, high, rising, spans, between, sameTriple}
+use borrow.Author.Tests.{not-false}
+use Rattle.mesh.specs.Triple.{Fraction, hat, Side, lower, upper, spans, between}
 use Rattle.mesh.specs.Lines.{Direction, upright, level, Mesh}
-use Rattle.mesh.specs.Blends.{crossed, coversBlend, cuts, halve, size, same, firstFour}
-use Rattle.mesh.specs.Order.{here, cut, Left, Uncut}
-use Rattle.mesh.specs.Sound.{proper, overSquare, nested, noneNested}
+use Rattle.mesh.specs.Blends.{crossed, cuts, halve, size, same, firstFour}
+use Rattle.mesh.specs.Order.{Left, Uncut}
+use Rattle.mesh.specs.Sound.{proper, overSquare, noneNested}
 use Rattle.mesh.specs.Weight.{times, whole, total, Equal, weight, Term, value, interpolated}
 use Rattle.mesh.specs.declared.Blend.{Blend}
-use Rattle.mesh.proofs.Tests.{and-both, and-of, and-fails, all-at}
+use Rattle.mesh.proofs.Tests.{and-both, and-of, and-fails}
 use Rattle.mesh.proofs.Distinct.{Distinct}
 use Rattle.mesh.proofs.Scale.{Multiple, common, Scaled, scaled-times, scaled-total, scaled-more, scaled-multiple, scaled-equal, scaled-one, total-positive, sum, sum-same, sum-zero, sum-multiple, sum-linear, sum-single}
-use Rattle.mesh.proofs.Hats.{Rise, rising-rise, rising-within, rising-of, inside-of, half-rise, half-within, half-narrower, low-rise, high-rise, same-triple, hat-den, hat-middle, hat-off, step-positive, scaledHat, scaled-hat, two-scale, scaled-middle, scaled-off, first-two}
+use Rattle.mesh.proofs.Hats.{hat-den, hat-middle, hat-off, step-positive, scaledHat, scaled-hat, two-scale, scaled-middle, scaled-off, first-two}
+use Rattle.mesh.proofs.Triples.{Inside, rise-of}
+use Rattle.mesh.proofs.Cuts.{RiseB, proper-facts, proper-of, proper-rises, halve-proper, halve-smaller, cut-fact, same-blend}
+use Rattle.mesh.proofs.Order.{left-front, left-itself}
+use Rattle.mesh.proofs.Places.{unnested}
+use Rattle.mesh.proofs.Fresh.{first-proper}
 
--- a proper blend, axis by axis
+-- a proper blend
 module _ (w h : ℕ) (B : Blend) (ok : proper w h B ≡ true) where
-  across-rises : rising w (B .across) ≡ true
-  across-rises = and-both (rising w (B .across)) (rising h (B .up)) ok .0
-
-  up-rises : rising h (B .up) ≡ true
-  up-rises = and-both (rising w (B .across)) (rising h (B .up)) ok .1
-
-  pub across-rise : Rise (B .across)
-  across-rise = rising-rise w (B .across) across-rises
-
-  pub up-rise : Rise (B .up)
-  up-rise = rising-rise h (B .up) up-rises
-
-  pub across-within : B .across .r ≤ w + 2
-  across-within = rising-within w (B .across) across-rises
-
-  pub up-within : B .up .r ≤ h + 2
-  up-within = rising-within h (B .up) up-rises
-
   pub weight-den : (p q d : ℕ) → 0 < d → 0 < weight B p q d .den
-  weight-den p q d pos = mul-pos (hat-den (B .across) across-rise p d pos) (hat-den (B .up) up-rise q d pos)
+  weight-den p q d pos =
+      let r = proper-rises w h B ok in
+      mul-pos (hat-den (B .across) (r .across) p d pos) (hat-den (B .up) (r .up) q d pos)
 
   -- strictly inside a unit square the weight is above 0 exactly when the square lies in the support
   pub square-positive : (x y p q d : ℕ) → x * d < p → p < (x + 1) * d → y * d < q → q < (y + 1) * d → overSquare x y B ≡ true ↔ 0 < weight B p q d .num
   square-positive x y p q d x-low x-high y-low y-high =
-      let a = step-positive (B .across) across-rise x p d x-low x-high in
-      let b = step-positive (B .up) up-rise y q d y-low y-high in (
+      let r = proper-rises w h B ok in
+      let a = step-positive (B .across) (r .across) x p d x-low x-high in
+      let b = step-positive (B .up) (r .up) y q d y-low y-high in (
         λ e. let s = and-both (spans x (B .across)) (spans y (B .up)) e in mul-pos (a .0 (s .0)) (b .0 (s .1)),
         λ pos. let f = factors (hat (B .across) p d .num) (hat (B .up) q d .num) pos in and-of _ _ (a .1 (f .0)) (b .1 (f .1)),
       )
@@ -57,38 +46,15 @@ module _ (w h : ℕ) (B : Blend) (ok : proper w h B ≡ true) where
       factors (suc i) zero pos = absurd (omega arith)
       factors (suc i) (suc j) pos = omega arith
 
-  -- the halves of a blend
-  pub halve-proper : (d : Direction) (s : Side) (z : ℕ) → inside z (crossed d B) ≡ true → proper w h (halve d s z B) ≡ true
-  unfolding halve
-  halve-proper upright s z e =
-      let i = inside-of z (B .across) e in
-      and-of _ _ (rising-of w _ (half-rise (B .across) z across-rise i s) (omega (arith, across-within, half-within (B .across) z across-rise i s))) up-rises
-  halve-proper level s z e =
-      let i = inside-of z (B .up) e in
-      and-of _ _ across-rises (rising-of h _ (half-rise (B .up) z up-rise i s) (omega (arith, up-within, half-within (B .up) z up-rise i s)))
-
-  pub halve-smaller : (d : Direction) (s : Side) (z : ℕ) → inside z (crossed d B) ≡ true → size (halve d s z B) < size B
-  unfolding halve
-  halve-smaller upright s z e = omega (arith, half-narrower (B .across) z across-rise (inside-of z (B .across) e) s)
-  halve-smaller level s z e = omega (arith, half-narrower (B .up) z up-rise (inside-of z (B .up) e) s)
-
--- blends that the test calls equal are equal
-pub same-blend : (B C : Blend) → same B C ≡ true → B ≡ C
-same-blend B C e =
-    let a = and-both (sameTriple (B .across) (C .across)) (sameTriple (B .up) (C .up)) e in
-    λ i. record { across = same-triple (B .across) (C .across) (a .0) i; up = same-triple (B .up) (C .up) (a .1) i }
-
 -- where no anchor is strictly inside another's support, it is off that support on one axis at least
 clear : (L : List Blend) → noneNested L ≡ true → (B C : Blend) → List·Memᴰ B L → List·Memᴰ C L → (B ≡ C → ⊥) →
     (between (B .across .m) (C .across) ≡ false) ⊎ (between (B .up .m) (C .up) ≡ false)
-unfolding noneNested
 clear L apart B C mB mC differ =
-    let no = not-true _ (all-at (λ (X : Blend). not (nested B X)) L (all-at (λ (X : Blend). all (λ (Y : Blend). not (nested X Y)) L) L apart B mB) C mC) in
     ⊎-elim
     (λ e. ⊎-elim (λ s. absurd (differ (same-blend B C (not-false _ s)))) (λ s. inl s)
     (and-fails (not (same B C)) (between (B .across .m) (C .across)) e))
     (λ e. inr e)
-    (and-fails (not (same B C) && between (B .across .m) (C .across)) (between (B .up .m) (C .up)) no)
+    (and-fails (not (same B C) && between (B .across .m) (C .across)) (between (B .up .m) (C .up)) (unnested L apart B C mB mC))
 
 -- a product is 0 where a factor is
 zero-left : (a b : ℕ) → a ≡ 0 → a * b ≡ 0
@@ -105,8 +71,8 @@ module _ (w h : ℕ) (L : List Blend) (apart : noneNested L ≡ true) (rise : (C
 
   pub other-anchor : (B C : Blend) → List·Memᴰ B L → List·Memᴰ C L → (B ≡ C → ⊥) → weight C (B .across .m) (B .up .m) 1 .num ≡ 0
   other-anchor B C mB mC differ =
-      ⊎-elim (λ o. zero-left _ _ (hat-off (C .across) (across-rise w h C (rise C mC)) (B .across .m) o))
-      (λ o. zero-right _ _ (hat-off (C .up) (up-rise w h C (rise C mC)) (B .up .m) o))
+      ⊎-elim (λ o. zero-left _ _ (hat-off (C .across) (proper-rises w h C (rise C mC) .across) (B .across .m) o))
+      (λ o. zero-right _ _ (hat-off (C .up) (proper-rises w h C (rise C mC) .up) (B .up .m) o))
       (clear L apart B C mB mC differ)
 
 -- a sum of multiples, times one more factor
@@ -115,19 +81,6 @@ times-right a b c f g k v e = omega (arith, ap (λ (x : ℕ). x * v) e)
 
 times-left : (a b c f g k u : ℕ) → a * f ≡ b * g + c * k → a * (u * f) ≡ b * (u * g) + c * (u * k)
 times-left a b c f g k u e = omega (arith, ap (λ (x : ℕ). u * x) e)
-
--- the first four are proper
-pub first-proper : (w h : ℕ) → 1 ≤ w → 1 ≤ h → (B : Blend) → List·Memᴰ B (firstFour w h) → proper w h B ≡ true
-first-proper w h ws hs =
-    all-at (proper w h) (firstFour w h)
-    (and-of _ _ (and-of _ _ (lows w ws) (lows h hs)) (and-of _ _ (and-of _ _ (lows w ws) (highs h hs))
-    (and-of _ _ (and-of _ _ (highs w ws) (lows h hs)) (and-of _ _ (and-of _ _ (highs w ws) (highs h hs)) refl))))
-  where
-    lows : (s : ℕ) → 1 ≤ s → rising s (low s) ≡ true
-    lows s le = rising-of s (low s) (low-rise s le) (omega arith)
-
-    highs : (s : ℕ) → 1 ≤ s → rising s (high s) ≡ true
-    highs s le = rising-of s (high s) (high-rise s le) (omega arith)
 
 -- the scale of a weight: at the anchors, where d is 1, and in general
 at-one : (k : ℕ) → k * 1 * (k * 1) ≡ k * k
@@ -179,10 +132,10 @@ module _ {n : ℕ} (K : Multiple n) (L : List Blend) where
 module _ {n : ℕ} (K : Multiple n) (w h : ℕ) (wide : w + 2 ≤ n) (tall : h + 2 ≤ n) where
   pub scaled-weight : (B : Blend) → proper w h B ≡ true → (p q d : ℕ) → Scaled (K .all * d * (K .all * d)) (weight B p q d) (scaledWeight K B p q d)
   scaled-weight B ok p q d =
-      let a = across-within w h B ok in
-      let b = up-within w h B ok in
+      let a = proper-facts w h B ok .across in
+      let b = proper-facts w h B ok .up in
       scaled-times (K .all * d) (K .all * d) (hat (B .across) p d) (hat (B .up) q d) (scaledHat K (B .across) p d) (scaledHat K (B .up) q d)
-      (scaled-hat K (B .across) (across-rise w h B ok) (omega arith) p d) (scaled-hat K (B .up) (up-rise w h B ok) (omega arith) q d)
+      (scaled-hat K (B .across) (rise-of a) (omega arith) p d) (scaled-hat K (B .up) (rise-of b) (omega arith) q d)
 
   pub scaled-value : (ts : List Term) → ((t : Term) → List·Memᴰ t ts → proper w h (t .of) ≡ true) → (p q d : ℕ) →
       Scaled (K .all * d * (K .all * d)) (value ts p q d) (scaledValue K ts p q d)
@@ -202,21 +155,21 @@ module _ {n : ℕ} (K : Multiple n) (w h : ℕ) (wide : w + 2 ≤ n) (tall : h +
       (rw (at-one (K .all)) at (scaled-value ts ok (C .across .m) (C .up .m) 1)) (scaled-weight C (rise C m) p q d))
 
   -- the two-scale law of a cut: a multiple of the blend is a sum of multiples of its halves
-  pub cut-law : (B : Blend) → proper w h B ≡ true → (d : Direction) (z : ℕ) → inside z (crossed d B) ≡ true →
+  pub cut-law : (B : Blend) → proper w h B ≡ true → (d : Direction) (z : ℕ) → Inside z (crossed d B) →
       (a b c : ℕ) × (0 < a) × ((p q e : ℕ) → a * scaledWeight K B p q e ≡
       b * scaledWeight K (halve d lower z B) p q e + c * scaledWeight K (halve d upper z B) p q e)
   unfolding halve
   cut-law B ok upright z i =
-      let a = across-within w h B ok in
-      let t = two-scale K (B .across) z (across-rise w h B ok) (omega arith) (inside-of z (B .across) i) in
+      let a = proper-facts w h B ok .across in
+      let t = two-scale K (B .across) z (rise-of a) (omega arith) i in
       (t .0, t .1, t .2, t .3, λ p q e. times-right _ _ _ _ _ _ (scaledHat K (B .up) q e) (t .4 p e))
   cut-law B ok level z i =
-      let b = up-within w h B ok in
-      let t = two-scale K (B .up) z (up-rise w h B ok) (omega arith) (inside-of z (B .up) i) in
+      let b = proper-facts w h B ok .up in
+      let t = two-scale K (B .up) z (rise-of b) (omega arith) i in
       (t .0, t .1, t .2, t .3, λ p q e. times-left _ _ _ _ _ _ (scaledHat K (B .across) p e) (t .4 q e))
 
   -- a blend whose halves are reproduced is
-  cut-reproduced : (L : List Blend) (B : Blend) → proper w h B ≡ true → (d : Direction) (z : ℕ) → inside z (crossed d B) ≡ true →
+  cut-reproduced : (L : List Blend) (B : Blend) → proper w h B ≡ true → (d : Direction) (z : ℕ) → Inside z (crossed d B) →
       ((s : Side) → Reproduced K L (scaledWeight K (halve d s z B))) → Reproduced K L (scaledWeight K B)
   cut-reproduced L B ok d z i halves =
       let law = cut-law B ok d z i in
@@ -236,9 +189,9 @@ module _ (w h : ℕ) (L : List Blend) (distinct : Distinct L) (apart : noneNeste
     {n : ℕ} (K : Multiple n) (wide : w + 2 ≤ n) (tall : h + 2 ≤ n) where
   scaled-own : (C : Blend) → List·Memᴰ C L → scaledWeight K C (C .across .m) (C .up .m) 1 ≡ K .all * K .all
   scaled-own C m =
-      let a = across-within w h C (rise C m) in
-      let b = up-within w h C (rise C m) in
-      rw (scaled-middle K (C .across) (across-rise w h C (rise C m)) (omega arith), scaled-middle K (C .up) (up-rise w h C (rise C m)) (omega arith))
+      let a = proper-facts w h C (rise C m) .across in
+      let b = proper-facts w h C (rise C m) .up in
+      rw (scaled-middle K (C .across) (rise-of a) (omega arith), scaled-middle K (C .up) (rise-of b) (omega arith))
 
   scaled-other : (B C : Blend) → List·Memᴰ B L → List·Memᴰ C L → (B ≡ C → ⊥) → scaledWeight K C (B .across .m) (B .up .m) 1 ≡ 0
   scaled-other B C mB mC differ =
@@ -252,17 +205,13 @@ module _ (w h : ℕ) (L : List Blend) (distinct : Distinct L) (apart : noneNeste
       sym (sum-single (λ (C : Blend). scaledWeight K B (C .across .m) (C .up .m) 1 * scaledWeight K C p q d) L distinct B m
       (λ C mC differ. zero-left _ _ (scaled-other C B mC m differ)))
 
-cuts-inside : (M : Mesh) (d : Direction) (z : ℕ) (B : Blend) → cuts M d z B ≡ true → inside z (crossed d B) ≡ true
-unfolding cuts
-cuts-inside M d z B e = and-both (inside z (crossed d B)) (coversBlend M d B z) e .0
-
 -- all that is left of B is in L
 abbrev pub Covered : Mesh → List Blend → Blend → Type 0
 Covered M L B = (C : Blend) → Left M B C → List·Memᴰ C L
 
 half-covered : (M : Mesh) (L : List Blend) (B : Blend) (d : Direction) (s : Side) (z : ℕ) → cuts M d z B ≡ true →
     Covered M L B → Covered M L (halve d s z B)
-half-covered M L B d s z e cov C left = cov C (record { comes = cut d z s e (left .comes); uncut = left .uncut })
+half-covered M L B d s z e cov C left = cov C (left-front d z s e left)
 
 -- terms whose blends are proper and covered
 abbrev pub CoveredTerms : Mesh → ℕ → ℕ → List Blend → List Term → Type 0
@@ -274,13 +223,13 @@ module _ (M : Mesh) (w h : ℕ) (L : List Blend)
   module _ {n : ℕ} (K : Multiple n) (wide : w + 2 ≤ n) (tall : h + 2 ≤ n) where
     -- A covered blend is in L, or is cut, and then its halves are covered too: by induction on its size it is reproduced.
     covered-within : (f : ℕ) (B : Blend) → size B ≤ f → proper w h B ≡ true → Covered M L B → Reproduced K L (scaledWeight K B)
-    covered-within zero B le ok cov = absurd (omega (arith, across-rise w h B ok))
+    covered-within zero B le ok cov = absurd (omega (arith, proper-rises w h B ok .across))
     covered-within (suc f) B le ok cov =
-        ⊎-elim (λ u. member-reproduced w h L distinct apart rise K wide tall B (cov B (record { comes = here; uncut = u })))
-        (λ c. let i = cuts-inside M (c .0) (c .1) B (c .2) in
+        ⊎-elim (λ u. member-reproduced w h L distinct apart rise K wide tall B (cov B (left-itself u)))
+        (λ c. let i = cut-fact M (c .0) (c .1) B (c .2) .inside in
         cut-reproduced K w h wide tall L B ok (c .0) (c .1) i
-        (λ s. covered-within f (halve (c .0) s (c .1) B) (omega (arith, halve-smaller w h B ok (c .0) s (c .1) i))
-        (halve-proper w h B ok (c .0) s (c .1) i) (half-covered M L B (c .0) s (c .1) (c .2) cov)))
+        (λ s. covered-within f (halve (c .0) s (c .1) B) (omega (arith, halve-smaller (c .0) s (c .1) B (proper-rises w h B ok) i))
+        (proper-of w h _ (halve-proper (c .0) s (c .1) B (proper-facts w h B ok) i)) (half-covered M L B (c .0) s (c .1) (c .2) cov)))
         (decide B ok)
 
     pub covered-reproduced : (B : Blend) → proper w h B ≡ true → Covered M L B → Reproduced K L (scaledWeight K B)
@@ -329,10 +278,8 @@ module _ (M : Mesh) (w h : ℕ) (L : List Blend)
 
         at-anchor : (C : Blend) → List·Memᴰ C L → four (C .across .m) (C .up .m) 1 ≡ K .all * K .all
         at-anchor C m =
-            let a = across-rise w h C (rise C m) in
-            let b = up-rise w h C (rise C m) in
-            let a′ = across-within w h C (rise C m) in
-            let b′ = up-within w h C (rise C m) in
+            let a = proper-facts w h C (rise C m) .across in
+            let b = proper-facts w h C (rise C m) .up in
             four-one (C .across .m) (C .up .m) 1 (omega arith) (omega arith) (omega arith) (omega arith) ∙ at-one (K .all)
 
   -- what is reproduced, in fractions: at every point, inside the domain or not

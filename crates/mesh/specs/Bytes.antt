@@ -29,15 +29,22 @@ unfoldable pub bytesMesh : List ℕ → List ℕ → Mesh
 bytesMesh uprights levels upright = stepOn uprights
 bytesMesh uprights levels level = stepOn levels
 
--- a triple rises within knots 0 to 130; so do both of a blend, and those of all of some blends
-pub record Rises (t : Triple) : Type 0 where
+-- a triple rises within the knots of a side, 0 to side + 2; so do both of a blend, each within those of its own side
+pub record RisesIn (side : ℕ) (t : Triple) : Type 0 where
   pub low : t .l < t .m
   pub high : t .m < t .r
-  pub most : t .r ≤ 130
+  pub most : t .r ≤ side + 2
 
-pub record Proper (B : Blend) : Type 0 where
-  pub across : Rises (B .across)
-  pub up : Rises (B .up)
+pub record ProperIn (w h : ℕ) (B : Blend) : Type 0 where
+  pub across : RisesIn w (B .across)
+  pub up : RisesIn h (B .up)
+
+-- the knots of the longest side are 0 to 130: a triple rises within them, both of a blend do, and those of all of some blends
+abbrev pub Rises : Triple → Type 0
+Rises t = RisesIn 128 t
+
+abbrev pub Proper : Blend → Type 0
+Proper B = ProperIn 128 128 B
 
 abbrev pub AllProper : List Blend → Type 0
 AllProper bs = (B : Blend) → List·Memᴰ B bs → Proper B

@@ -1,9 +1,10 @@
 -- `mesh::blends::in_ranges` meets its contract: the three tests, in order.
 use borrow.Author.Needs.{needs}
-use borrow.Author.Tests.{not-true, not-false, le-leb, lt-leb}
-use mathlib.Core.Path.{_≡_, sym, _∙_}
+use borrow.Author.Tests.{le-leb, lt-leb}
+use mathlib.Core.Path.{_≡_}
 use mathlib.Core.Bool.{true}
 use Rattle.mesh.specs.Lines.{allowed}
+use Rattle.mesh.proofs.Tests.{failed, passed}
 use Rattle.mesh.proofs.Drawing.{allowed-says}
 use Rattle.mesh.proofs.blends.in_ranges.Statement.{statement}
 use Rattle.mesh.proofs.blends.in_ranges.Tie as tie
@@ -12,10 +13,10 @@ allowed-lines-requires : tie.Need-allowed-lines-requires
 allowed-lines-requires c κs = search needs
 
 returns : tie.Need-returns
-returns c = rw (sym (c .before .allowed-lines .ensures) ∙ not-true _ (c .if1 .taken))
+returns c = rw (failed (c .before .allowed-lines .ensures) (c .if1 .taken))
 
 lines-ok : (c : tie.Else1) → allowed (c .before .before .args .lines) ≡ true
-lines-ok c = sym (c .before .allowed-lines .ensures) ∙ not-false _ (c .if1 .left)
+lines-ok c = passed (c .before .allowed-lines .ensures) (c .if1 .left)
 
 returns-2 : tie.Need-returns-2
 returns-2 c = rw (lines-ok (c .before), lt-leb _ _ (c .if2 .taken))

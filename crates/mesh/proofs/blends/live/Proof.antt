@@ -1,9 +1,9 @@
 -- `mesh::blends::live` meets its contract: the first four blends, refined.
 use borrow.Author.Needs.{needs}
-use borrow.Author.Tests.{not-true, not-false}
-use mathlib.Core.Path.{sym, ap, _∙_}
+use mathlib.Core.Path.{ap, _∙_}
 use Rattle.mesh.specs.Sound.{table, refined, liveTable}
 use Rattle.mesh.specs.Blends.{firstFour}
+use Rattle.mesh.proofs.Tests.{failed, passed}
 use Rattle.mesh.proofs.Drawing.{allowed-says}
 use Rattle.mesh.proofs.Refining.{lines-refused}
 use Rattle.mesh.proofs.blends.live.Statement.{statement}
@@ -20,11 +20,11 @@ unfolding liveTable
 returns c =
     let L = c .before .before .before .args .lines in
     c .refusal .ensures ∙
-    lines-refused L (table (firstFour (L .w) (L .h))) (sym (c .before .before .allowed-lines .ensures) ∙ not-true _ (c .before .if1 .taken))
+    lines-refused L (table (firstFour (L .w) (L .h))) (failed (c .before .before .allowed-lines .ensures) (c .before .if1 .taken))
 
 first-four-requires : tie.Need-first-four-requires
 first-four-requires c κs =
-    let sides = allowed-says (c .before .before .args .lines) (sym (c .before .allowed-lines .ensures) ∙ not-false _ (c .if1 .left)) in
+    let sides = allowed-says (c .before .before .args .lines) (passed (c .before .allowed-lines .ensures) (c .if1 .left)) in
     (sides .across .1, sides .up .1)
 
 refine-requires : tie.Need-refine-requires

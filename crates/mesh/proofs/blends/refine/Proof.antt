@@ -2,13 +2,13 @@
 use Prim.Native.Nat.{ℕ}
 use native.Mathlib.Omega.{arith}
 use borrow.Author.Needs.{needs}
-use borrow.Author.Tests.{not-true, not-false}
-use mathlib.Core.Path.{_≡_, refl, sym, ap, _∙_}
+use mathlib.Core.Path.{_≡_, refl, ap, _∙_}
 use lib.ListN.{length-replicate}
 use Rattle.mesh.specs.Lines.{Mesh, meshOf}
 use Rattle.mesh.specs.Blends.{leavesOf}
 use Rattle.mesh.specs.Sound.{blendsOf}
 use Rattle.mesh.specs.Bytes.{bytesMesh, keepAll, empty}
+use Rattle.mesh.proofs.Tests.{failed, passed}
 use Rattle.mesh.proofs.Refining.{Ranged, ranged-says, ranged-most, out-refused, sides, drawn-mesh, Cut, met-refused, places-held, judged}
 use Rattle.mesh.proofs.blends.refine.Statement.{statement}
 use Rattle.mesh.proofs.blends.refine.Tie as tie
@@ -20,23 +20,23 @@ refusal-requires : tie.Need-refusal-requires
 refusal-requires c κs = search needs
 
 returns : tie.Need-returns
-returns c = c .refusal .ensures ∙ out-refused _ _ (sym (c .before .before .in-ranges .ensures) ∙ not-true _ (c .before .if1 .taken))
+returns c = c .refusal .ensures ∙ out-refused _ _ (failed (c .before .before .in-ranges .ensures) (c .before .if1 .taken))
 
 -- lines and blends that passed the test
-passed : (c : tie.Else1) → Ranged (c .before .before .args .lines) (c .before .before .args .old)
-passed c = ranged-says _ _ (sym (c .before .in-ranges .ensures) ∙ not-false _ (c .if1 .left))
+ranged-ok : (c : tie.Else1) → Ranged (c .before .before .args .lines) (c .before .before .args .old)
+ranged-ok c = ranged-says _ _ (passed (c .before .in-ranges .ensures) (c .if1 .left))
 
 slice-aggregate-draw-lines : tie.Need-slice-aggregate-draw-lines
 slice-aggregate-draw-lines c = search needs
 
 draw-lines-requires : tie.Need-draw-lines-requires
-draw-lines-requires c κs = (passed (c .before) .ok, omega arith, refl)
+draw-lines-requires c κs = (ranged-ok (c .before) .ok, omega arith, refl)
 
 slice-aggregate-draw-lines-2 : tie.Need-slice-aggregate-draw-lines-2
 slice-aggregate-draw-lines-2 c = search needs
 
 draw-lines-requires-2 : tie.Need-draw-lines-requires-2
-draw-lines-requires-2 c κs = (passed (c .before .before .before .before) .ok, omega arith, refl)
+draw-lines-requires-2 c κs = (ranged-ok (c .before .before .before .before) .ok, omega arith, refl)
 
 -- the bytes are the lines' mesh
 drawn : (c : tie.After-draw-lines2) →
@@ -59,7 +59,7 @@ cut-all-requires : tie.Need-cut-all-requires
 cut-all-requires c κs =
     let two = c .before .before .before .before in
     let one = two .before .before .before in
-    let r = passed (one .before .before) in
+    let r = ranged-ok (one .before .before) in
     (one .draw-lines .ensures .0, two .draw-lines2 .ensures .0, length-replicate {A = ℕ} 17161 0, r .few, ranged-most r)
 
 -- the places hold what is left of the table's blends
@@ -71,7 +71,7 @@ cut c =
     let in-range = two .before .before .before .before .before in
     let bs = blendsOf (in-range .before .before .args .old) in
     record {
-      ranges = passed in-range;
+      ranges = ranged-ok in-range;
       before = empty;
       blank = refl;
       all-kept = c .cut-all .ensures ∙ ap (λ (M : Mesh). keepAll empty (leavesOf M bs)) (drawn two);

@@ -1,13 +1,13 @@
 -- `mesh::blends::some_cut` meets its contract: out of range no line cuts; else the lines' mesh is asked.
 use native.Mathlib.Omega.{arith}
 use borrow.Author.Needs.{needs}
-use borrow.Author.Tests.{not-true, not-false}
-use mathlib.Core.Path.{_≡_, refl, sym, ap, _∙_}
+use mathlib.Core.Path.{_≡_, refl, ap, _∙_}
 use Rattle.mesh.specs.Range.{any}
 use Rattle.mesh.specs.Lines.{Mesh, meshOf}
 use Rattle.mesh.specs.Blends.{isCut}
 use Rattle.mesh.specs.Sound.{blendsOf}
 use Rattle.mesh.specs.Bytes.{bytesMesh}
+use Rattle.mesh.proofs.Tests.{failed, passed}
 use Rattle.mesh.proofs.Refining.{Ranged, ranged-says, ranged-most, out-uncut, is-cut, drawn-mesh}
 use Rattle.mesh.proofs.blends.some_cut.Statement.{statement}
 use Rattle.mesh.proofs.blends.some_cut.Tie as tie
@@ -16,23 +16,23 @@ in-ranges-requires : tie.Need-in-ranges-requires
 in-ranges-requires c κs = search needs
 
 returns : tie.Need-returns
-returns c = out-uncut _ _ (sym (c .before .in-ranges .ensures) ∙ not-true _ (c .if1 .taken))
+returns c = out-uncut _ _ (failed (c .before .in-ranges .ensures) (c .if1 .taken))
 
 -- lines and blends that passed the test
-passed : (c : tie.Else1) → Ranged (c .before .before .args .lines) (c .before .before .args .old)
-passed c = ranged-says _ _ (sym (c .before .in-ranges .ensures) ∙ not-false _ (c .if1 .left))
+ranged-ok : (c : tie.Else1) → Ranged (c .before .before .args .lines) (c .before .before .args .old)
+ranged-ok c = ranged-says _ _ (passed (c .before .in-ranges .ensures) (c .if1 .left))
 
 slice-aggregate-draw-lines : tie.Need-slice-aggregate-draw-lines
 slice-aggregate-draw-lines c = search needs
 
 draw-lines-requires : tie.Need-draw-lines-requires
-draw-lines-requires c κs = (passed (c .before) .ok, omega arith, refl)
+draw-lines-requires c κs = (ranged-ok (c .before) .ok, omega arith, refl)
 
 slice-aggregate-draw-lines-2 : tie.Need-slice-aggregate-draw-lines-2
 slice-aggregate-draw-lines-2 c = search needs
 
 draw-lines-requires-2 : tie.Need-draw-lines-requires-2
-draw-lines-requires-2 c κs = (passed (c .before .before .before .before) .ok, omega arith, refl)
+draw-lines-requires-2 c κs = (ranged-ok (c .before .before .before .before) .ok, omega arith, refl)
 
 -- the bytes are the lines' mesh
 drawn : (c : tie.After-draw-lines2) →
@@ -52,7 +52,7 @@ any-cut-requires : tie.Need-any-cut-requires
 any-cut-requires c κs =
     let two = c .before .before .before in
     let one = two .before .before .before in
-    let r = passed (one .before .before) in
+    let r = ranged-ok (one .before .before) in
     (one .draw-lines .ensures .0, two .draw-lines2 .ensures .0, r .few, ranged-most r)
 
 returns-2 : tie.Need-returns-2
@@ -60,7 +60,7 @@ returns-2 c =
     let two = c .before .before .before .before in
     let in-range = two .before .before .before .before .before in
     let bs = blendsOf (in-range .before .before .args .old) in
-    c .any-cut .ensures ∙ ap (λ (M : Mesh). any (isCut M) bs) (drawn two) ∙ is-cut (passed in-range)
+    c .any-cut .ensures ∙ ap (λ (M : Mesh). any (isCut M) bs) (drawn two) ∙ is-cut (ranged-ok in-range)
 
 pub some-cut-spec : {M : Type 1} → statement M
 some-cut-spec =

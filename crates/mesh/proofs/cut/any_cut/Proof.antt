@@ -5,27 +5,29 @@ use mathlib.Core.Path.{_≡_, refl, sym, ap, _∙_}
 use mathlib.Core.Bool.{true, false, _||_}
 use mathlib.Core.List.{_∷_}
 use lib.ListN.{drop, getD, length, length-map}
-use Rattle.mesh.specs.Range.{all, any}
+use Rattle.mesh.specs.Range.{any}
 use Rattle.mesh.specs.Lines.{upright, level}
 use Rattle.mesh.specs.Blends.{isCut}
-use Rattle.mesh.specs.Sound.{proper, none, blendsOf}
+use Rattle.mesh.specs.Sound.{none, blendsOf}
 use Rattle.mesh.specs.Bytes.{bytesMesh, Proper}
-use Rattle.mesh.proofs.Tests.{and-both}
-use Rattle.mesh.proofs.Cutting.{blends-turn, blends-end, proper-of}
+use Rattle.mesh.proofs.Cutting.{blends-turn, blends-end, blends-proper}
 use Rattle.mesh.proofs.Refining.{some-line, no-line}
 use Rattle.mesh.proofs.cut.any_cut.Statement.{statement}
 use Rattle.mesh.proofs.cut.any_cut.Tie as tie
 
 abbrev Inv-loop : tie.InvT-loop
 Inv-loop uprights levels table count i₀ i =
-    (i ≤ count) × (all (proper 128 128) (drop i (blendsOf table)) ≡ true) ×
+    (i ≤ count) ×
     (any (isCut (bytesMesh uprights levels)) (drop i (blendsOf table)) ≡ any (isCut (bytesMesh uprights levels)) (blendsOf table))
 
 abbrev μ-loop : tie.MeasureT-loop
 μ-loop uprights levels table count i₀ i = count - i
 
 loop-holds : tie.Need-loop-holds Inv-loop μ-loop
-loop-holds c = (omega arith, c .before .before .pre .3, refl)
+loop-holds c = (omega arith, refl)
+
+full : (c : tie.In-loop Inv-loop μ-loop) → length (c .before .before .before .before .args .t3 .blends) ≡ 1024
+full c = simp length-map at (c .before .before .before .before .good .1 .1 .0 .1 .1 .1 .0 .1 .0 .1)
 
 -- the next blend, and those behind it
 turn : (c : tie.In-loop Inv-loop μ-loop) →
@@ -33,24 +35,16 @@ turn : (c : tie.In-loop Inv-loop μ-loop) →
     let a = c .before .before .before .before .args in
     drop (l .i) (blendsOf (a .t3)) ≡ getD (a .t3 .blends) (l .i) none ∷ drop (l .i + 1) (blendsOf (a .t3))
 turn c =
-    let l = c .before .loop in
-    let s = c .before .before .before .before in
-    let full : length (s .args .t3 .blends) ≡ 1024 = simp length-map at (s .good .1 .1 .0 .1 .1 .1 .0 .1 .0 .1) in
-    blends-turn (s .args .t3) (l .i) (omega arith) (omega arith)
-
-proper-turn : (c : tie.In-loop Inv-loop μ-loop) →
-    let l = c .before .loop in
-    let a = c .before .before .before .before .args in
-    (proper 128 128 (getD (a .t3 .blends) (l .i) none) ≡ true) × (all (proper 128 128) (drop (l .i + 1) (blendsOf (a .t3))) ≡ true)
-proper-turn c =
-    let l = c .before .loop in
-    let a = c .before .before .before .before .args in
-    and-both (proper 128 128 (getD (a .t3 .blends) (l .i) none)) (all (proper 128 128) (drop (l .i + 1) (blendsOf (a .t3)))) (rw (turn c) at (l .inv .1))
+    let n = full c in
+    blends-turn (c .before .before .before .before .args .t3) (c .before .loop .i) (omega arith) (omega arith)
 
 -- it rises, as the searches for a line ask
 next-proper : (c : tie.In-loop Inv-loop μ-loop) →
     Proper (getD (c .before .before .before .before .args .t3 .blends) (c .before .loop .i) none)
-next-proper c = proper-of 128 128 _ (omega arith) (omega arith) (proper-turn c .0)
+next-proper c =
+    let s = c .before .before .before .before in
+    let n = full c in
+    blends-proper (s .args .t3) (c .before .loop .i) (s .pre .3) (omega arith) (omega arith)
 
 -- the whole answer, by whether it is cut
 answer-turn : (c : tie.In-loop Inv-loop μ-loop) →
@@ -60,7 +54,7 @@ answer-turn : (c : tie.In-loop Inv-loop μ-loop) →
     any (isCut M) (blendsOf (a .t3)) ≡ (isCut M (getD (a .t3 .blends) (l .i) none) || any (isCut M) (drop (l .i + 1) (blendsOf (a .t3))))
 answer-turn c =
     let a = c .before .before .before .before .args in
-    sym (c .before .loop .inv .2) ∙ ap (any (isCut (bytesMesh (a .uprights .now) (a .levels .now)))) (turn c)
+    sym (c .before .loop .inv .1) ∙ ap (any (isCut (bytesMesh (a .uprights .now) (a .levels .now)))) (turn c)
 
 -- a line that cuts the next blend answers; where none does, those behind it decide
 found : (c : tie.In-loop Inv-loop μ-loop) →
@@ -124,7 +118,6 @@ loop-again c =
     let one = c .before .before .before in
     let t = one .before .before .before .before .before .before in (
       omega arith,
-      proper-turn t .1,
       passed t (no-line _ _ (sym (one .before .first-line .ensures) ∙ one .if1 .left) (sym (c .before .first-line2 .ensures) ∙ c .if2 .left)),
     )
 
@@ -132,7 +125,7 @@ returns-3 : tie.Need-returns-3 Inv-loop μ-loop
 returns-3 c =
     let l = c .before .loop in
     let a = c .before .before .before .before .args in
-    sym (sym (l .inv .2) ∙ ap (any (isCut (bytesMesh (a .uprights .now) (a .levels .now)))) (blends-end (a .t3) (l .i) (omega arith)))
+    sym (sym (l .inv .1) ∙ ap (any (isCut (bytesMesh (a .uprights .now) (a .levels .now)))) (blends-end (a .t3) (l .i) (omega arith)))
 
 pub any-cut-spec : {M : Type 1} → statement M
 any-cut-spec =

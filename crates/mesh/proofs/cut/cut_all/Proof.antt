@@ -2,28 +2,29 @@
 use Prim.Native.Nat.{_+_, _-_, _≤_}
 use native.Mathlib.Omega.{arith}
 use mathlib.Core.Path.{_≡_, refl, _∙_}
-use mathlib.Core.Bool.{true}
 use mathlib.Core.List.{_∷_}
 use lib.ListN.{drop, getD, length, length-map}
-use Rattle.mesh.specs.Range.{all}
 use Rattle.mesh.specs.Blends.{leavesOf}
-use Rattle.mesh.specs.Sound.{proper, none, blendsOf}
+use Rattle.mesh.specs.Sound.{none, blendsOf}
 use Rattle.mesh.specs.Bytes.{bytesMesh, keepAll}
-use Rattle.mesh.proofs.Tests.{and-both, true-not-false}
-use Rattle.mesh.proofs.Cutting.{blends-turn, blends-end, proper-of, cut-first}
+use Rattle.mesh.proofs.Tests.{true-not-false}
+use Rattle.mesh.proofs.Cutting.{blends-turn, blends-end, blends-proper, cut-first}
 use Rattle.mesh.proofs.cut.cut_all.Statement.{statement}
 use Rattle.mesh.proofs.cut.cut_all.Tie as tie
 
 abbrev Inv-loop : tie.InvT-loop
 Inv-loop uprights levels places₀ table count i₀ places i =
-    (i ≤ count) × (length places ≡ length places₀) × (all (proper 128 128) (drop i (blendsOf table)) ≡ true) ×
+    (i ≤ count) × (length places ≡ length places₀) ×
     (keepAll places (leavesOf (bytesMesh uprights levels) (drop i (blendsOf table))) ≡ keepAll places₀ (leavesOf (bytesMesh uprights levels) (blendsOf table)))
 
 abbrev μ-loop : tie.MeasureT-loop
 μ-loop uprights levels places₀ table count i₀ places i = count - i
 
 loop-holds : tie.Need-loop-holds Inv-loop μ-loop
-loop-holds c = (omega arith, refl, c .before .before .before .pre .4, refl)
+loop-holds c = (omega arith, refl, refl)
+
+full : (c : tie.In-loop Inv-loop μ-loop) → length (c .before .before .before .before .before .args .t3 .blends) ≡ 1024
+full c = simp length-map at (c .before .before .before .before .before .good .1 .1 .0 .1 .1 .1 .0 .1 .0 .1)
 
 -- the next blend, and those behind it
 turn : (c : tie.In-loop Inv-loop μ-loop) →
@@ -31,19 +32,8 @@ turn : (c : tie.In-loop Inv-loop μ-loop) →
     let a = c .before .before .before .before .before .args in
     drop (l .i) (blendsOf (a .t3)) ≡ getD (a .t3 .blends) (l .i) none ∷ drop (l .i + 1) (blendsOf (a .t3))
 turn c =
-    let l = c .before .loop in
-    let b = c .before .before .before .before .before in
-    let full : length (b .args .t3 .blends) ≡ 1024 = simp length-map at (b .good .1 .1 .0 .1 .1 .1 .0 .1 .0 .1) in
-    blends-turn (b .args .t3) (l .i) (omega arith) (omega arith)
-
-proper-turn : (c : tie.In-loop Inv-loop μ-loop) →
-    let l = c .before .loop in
-    let a = c .before .before .before .before .before .args in
-    (proper 128 128 (getD (a .t3 .blends) (l .i) none) ≡ true) × (all (proper 128 128) (drop (l .i + 1) (blendsOf (a .t3))) ≡ true)
-proper-turn c =
-    let l = c .before .loop in
-    let a = c .before .before .before .before .before .args in
-    and-both (proper 128 128 (getD (a .t3 .blends) (l .i) none)) (all (proper 128 128) (drop (l .i + 1) (blendsOf (a .t3)))) (rw (turn c) at (l .inv .2))
+    let n = full c in
+    blends-turn (c .before .before .before .before .before .args .t3) (c .before .loop .i) (omega arith) (omega arith)
 
 mul-x : tie.Need-mul-x Inv-loop μ-loop
 mul-x c = omega arith
@@ -55,11 +45,11 @@ cut-across-requires : tie.Need-cut-across-requires Inv-loop μ-loop
 cut-across-requires c κs =
     let l = c .before .before .before .loop in
     let b = c .before .before .before .before .before .before .before in
-    let x = getD (b .args .t3 .blends) (l .i) none in (
+    let n = full (c .before .before) in (
       b .pre .0,
       b .pre .1,
       l .inv .1 ∙ b .pre .2,
-      proper-of 128 128 x (omega arith) (omega arith) (proper-turn (c .before .before) .0),
+      blends-proper (b .args .t3) (l .i) (b .pre .4) (omega arith) (omega arith),
       λ e. absurd (true-not-false _ e refl),
     )
 
@@ -79,8 +69,7 @@ loop-again c =
     (call .ensures) in (
       omega arith,
       call .kept .1 .1 .1 .1 .0 ∙ l .inv .1,
-      proper-turn (c .before .before .before .before .before) .1,
-      first ∙ (rw (turn (c .before .before .before .before .before)) at (l .inv .3)),
+      first ∙ (rw (turn (c .before .before .before .before .before)) at (l .inv .2)),
     )
 
 same-length : tie.Need-same-length Inv-loop μ-loop
@@ -91,7 +80,7 @@ unfolding leavesOf keepAll
 returns c =
     let l = c .before .loop in
     let a = c .before .before .before .before .before .args in
-    rw (blends-end (a .t3) (l .i) (omega arith)) at (l .inv .3)
+    rw (blends-end (a .t3) (l .i) (omega arith)) at (l .inv .2)
 
 pub cut-all-spec : {M : Type 1} → statement M
 cut-all-spec =

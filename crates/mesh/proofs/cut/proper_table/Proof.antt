@@ -1,13 +1,12 @@
 -- `mesh::cut::proper_table` meets its contract. The invariant: the blends that remain decide the whole answer.
 use Prim.Native.Nat.{_≤_, _+_, _-_}
 use native.Mathlib.Omega.{arith}
-use borrow.Author.Tests.{not-true, not-false}
 use mathlib.Core.Path.{_≡_, refl, sym, ap, _∙_}
-use mathlib.Core.Bool.{true, false, _&&_}
+use mathlib.Core.Bool.{_&&_}
 use lib.ListN.{drop, getD, length, length-map}
 use Rattle.mesh.specs.Range.{all}
 use Rattle.mesh.specs.Sound.{proper, blendsOf, none}
-use Rattle.mesh.specs.Triple.{rising}
+use Rattle.mesh.proofs.Tests.{failed, passed}
 use Rattle.mesh.proofs.Cutting.{blends-turn, blends-end}
 use Rattle.mesh.proofs.cut.proper_table.Statement.{statement}
 use Rattle.mesh.proofs.cut.proper_table.Tie as tie
@@ -44,22 +43,16 @@ rises-requires : tie.Need-rises-requires Inv-loop μ-loop
 rises-requires c κs = omega arith
 
 returns : tie.Need-returns Inv-loop μ-loop
-returns c =
-    let l = c .before .before .before .before .loop in
-    let a = c .before .before .before .before .before .args in
-    let low : rising (a .w) (getD (a .t1 .blends) (l .i) none .across) ≡ false = sym (c .before .rises .ensures) ∙ not-true _ (c .if1 .taken) in
-    sym (turn (c .before .before .before) ∙ rw low)
+returns c = sym (turn (c .before .before .before) ∙ rw (failed (c .before .rises .ensures) (c .if1 .taken)))
 
 rises-requires-2 : tie.Need-rises-requires-2 Inv-loop μ-loop
 rises-requires-2 c κs = omega arith
 
 returns-2 : tie.Need-returns-2 Inv-loop μ-loop
 returns-2 c =
-    let l = c .before .before .before .before .before .before .loop in
-    let a = c .before .before .before .before .before .before .before .args in
-    let low : rising (a .w) (getD (a .t1 .blends) (l .i) none .across) ≡ true = sym (c .before .before .before .rises .ensures) ∙ not-false _ (c .before .before .if1 .left) in
-    let high : rising (a .h) (getD (a .t1 .blends) (l .i) none .up) ≡ false = sym (c .before .rises2 .ensures) ∙ not-true _ (c .if2 .taken) in
-    sym (turn (c .before .before .before .before .before) ∙ rw (low, high))
+    let first = c .before .before in
+    sym (turn (first .before .before .before) ∙ rw
+    (passed (first .before .rises .ensures) (first .if1 .left), failed (c .before .rises2 .ensures) (c .if2 .taken)))
 
 add-i : tie.Need-add-i Inv-loop μ-loop
 add-i c = omega arith
@@ -69,11 +62,11 @@ loop-less c = omega arith
 
 loop-again : tie.Need-loop-again Inv-loop μ-loop
 loop-again c =
-    let l = c .before .before .before .before .before .before .loop in
-    let a = c .before .before .before .before .before .before .before .args in
-    let low : rising (a .w) (getD (a .t1 .blends) (l .i) none .across) ≡ true = sym (c .before .before .before .rises .ensures) ∙ not-false _ (c .before .before .if1 .left) in
-    let high : rising (a .h) (getD (a .t1 .blends) (l .i) none .up) ≡ true = sym (c .before .rises2 .ensures) ∙ not-false _ (c .if2 .left) in
-    (omega arith, sym (turn (c .before .before .before .before .before) ∙ rw (low, high)))
+    let first = c .before .before in (
+      omega arith,
+      sym (turn (first .before .before .before) ∙ rw
+          (passed (first .before .rises .ensures) (first .if1 .left), passed (c .before .rises2 .ensures) (c .if2 .left))),
+    )
 
 returns-3 : tie.Need-returns-3 Inv-loop μ-loop
 returns-3 c =

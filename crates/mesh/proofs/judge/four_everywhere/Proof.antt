@@ -9,7 +9,7 @@ use mathlib.Core.List.{_∷_}
 use lib.ListN.{drop, getD, length, length-map, length-replicate}
 use Rattle.mesh.specs.Sound.{none, blendsOf}
 use Rattle.mesh.specs.Bytes.{Square}
-use Rattle.mesh.proofs.Judging.{left-turn, left-none, left-mem}
+use Rattle.mesh.proofs.Entries.{left-turn, left-none, left-mem}
 use Rattle.mesh.proofs.Counting.{CountedBut, counted-none, counted-more, counted-crowded, counted-all, counted-four}
 use Rattle.mesh.proofs.judge.four_everywhere.Statement.{statement}
 use Rattle.mesh.proofs.judge.four_everywhere.Tie as tie

@@ -9,7 +9,7 @@ use lib.ListN.{drop, length, length-map}
 use Rattle.mesh.specs.Range.{all}
 use Rattle.mesh.specs.Sound.{none, blendsOf}
 use Rattle.mesh.specs.Bytes.{clear}
-use Rattle.mesh.proofs.Judging.{left-turn, left-none, left-mem}
+use Rattle.mesh.proofs.Entries.{left-turn, left-none, left-mem}
 use Rattle.mesh.proofs.judge.none_nested.Statement.{statement}
 use Rattle.mesh.proofs.judge.none_nested.Tie as tie
 

@@ -6,7 +6,8 @@ use mathlib.Core.Path.{_≡_, refl, sym, _∙_}
 use mathlib.Core.Bool.{true, _||_}
 use Rattle.mesh.specs.Range.{some}
 use Rattle.mesh.specs.Lines.{direction, allowed, meshOf, shares}
-use Rattle.mesh.proofs.SingleSteps.{Small, both-kept, refused, passed, second, some-turn, some-none}
+use Rattle.mesh.proofs.Tests.{refused, passed, second, some-turn, some-none}
+use Rattle.mesh.proofs.SingleSteps.{Small, both-kept}
 use Rattle.mesh.proofs.points.shares_stretch.Statement.{statement}
 use Rattle.mesh.proofs.points.shares_stretch.Tie as tie
 

@@ -6,8 +6,9 @@ use mathlib.Core.Bool.{_||_}
 use lib.ListN.{drop, length, length-map}
 use Rattle.mesh.specs.Range.{any}
 use Rattle.mesh.specs.Lines.{splitsOf}
-use Rattle.mesh.proofs.Drawing.{allowed-says}
-use Rattle.mesh.proofs.SingleSteps.{has, split-small, any-turn, any-none}
+use Rattle.mesh.proofs.Entries.{left-turn, left-none}
+use Rattle.mesh.proofs.Drawing.{allowed-says, blank}
+use Rattle.mesh.proofs.SingleSteps.{has, split-small}
 use Rattle.mesh.proofs.points.some_split_step.Statement.{statement}
 use Rattle.mesh.proofs.points.some_split_step.Tie as tie
 
@@ -47,8 +48,8 @@ turn c =
     let s = c .before .before .before .before in
     let a = s .args in
     let l = c .before .before .before .loop in
-    let test = has (a .number) (a .run) (a .z) (a .k) in
-    l .inv .2 ∙ any-turn (a .t1) (s .pre .0) (sixty s) (l .i) test (omega arith) ∙ rw (c .split-step .ensures)
+    let n = sixty s in
+    l .inv .2 ∙ rw (left-turn (a .t1 .splits) (a .t1 .count) (l .i) (omega arith) blank (omega arith), c .split-step .ensures)
 
 returns : tie.Need-returns Inv-loop μ-loop
 returns c = sym (turn (c .before) ∙ rw (c .if1 .taken))
@@ -67,8 +68,8 @@ returns-2 c =
     let s = c .before .before in
     let a = s .args in
     let l = c .before .loop in
-    let test = has (a .number) (a .run) (a .z) (a .k) in
-    sym (l .inv .2 ∙ any-none (a .t1) (s .pre .0) (sixty s) (l .i) test (omega arith))
+    let n = sixty s in
+    sym (l .inv .2 ∙ rw (left-none (a .t1 .splits) (a .t1 .count) (l .i) (omega arith) (omega arith)))
 
 pub some-split-step-spec : {M : Type 1} → statement M
 some-split-step-spec =

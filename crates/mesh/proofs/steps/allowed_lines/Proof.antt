@@ -8,7 +8,9 @@ use mathlib.Core.Bool.{true, _&&_}
 use lib.ListN.{drop, length, length-map}
 use Rattle.mesh.specs.Range.{all}
 use Rattle.mesh.specs.Lines.{allowed, allowedSide, inRange, splitsOf}
-use Rattle.mesh.proofs.Drawing.{left-turn, left-none, blank}
+use Rattle.mesh.proofs.Tests.{failed, passed}
+use Rattle.mesh.proofs.Entries.{left-turn, left-none}
+use Rattle.mesh.proofs.Drawing.{blank}
 use Rattle.mesh.proofs.steps.allowed_lines.Statement.{statement}
 use Rattle.mesh.proofs.steps.allowed_lines.Tie as tie
 
@@ -23,21 +25,21 @@ allowed-side-requires c κs = search needs
 
 returns : tie.Need-returns Inv-loop μ-loop
 unfolding allowed
-returns c = rw (sym (c .before .allowed-side .ensures) ∙ not-true _ (c .if1 .taken))
+returns c = rw (failed (c .before .allowed-side .ensures) (c .if1 .taken))
 
 allowed-side-requires-2 : tie.Need-allowed-side-requires-2 Inv-loop μ-loop
 allowed-side-requires-2 c κs = search needs
 
 across : (c : tie.Else1 Inv-loop μ-loop) → allowedSide (c .before .before .args .t1 .w) ≡ true
-across c = sym (c .before .allowed-side .ensures) ∙ not-false _ (c .if1 .left)
+across c = passed (c .before .allowed-side .ensures) (c .if1 .left)
 
 returns-2 : tie.Need-returns-2 Inv-loop μ-loop
 unfolding allowed
 returns-2 c =
-    rw (across (c .before .before), sym (c .before .allowed-side2 .ensures) ∙ not-true _ (c .if2 .taken))
+    rw (across (c .before .before), failed (c .before .allowed-side2 .ensures) (c .if2 .taken))
 
 up : (c : tie.Else2 Inv-loop μ-loop) → allowedSide (c .before .before .before .before .args .t1 .h) ≡ true
-up c = sym (c .before .allowed-side2 .ensures) ∙ not-false _ (c .if2 .left)
+up c = passed (c .before .allowed-side2 .ensures) (c .if2 .left)
 
 returns-3 : tie.Need-returns-3 Inv-loop μ-loop
 unfolding allowed

@@ -1,16 +1,9 @@
 -- `mesh::steps::covers` meets its contract. The invariant: what is left to test decides the whole answer.
-use Prim.Native.Nat.{ℕ, zero, suc, _+_, _*_, _-_, _≤_, _<_}
+use Prim.Native.Nat.{_+_}
 use native.Mathlib.Omega.{arith}
-use native.Mathlib.Numerals.{add-one}
-use borrow.Author.Needs.{needs}
-use borrow.Author.Tests.{eq-eqb, ne-eqb, lt-ltb}
-use mathlib.Core.Path.{_≡_, refl, sym, ap, _∙_}
-use mathlib.Core.Bool.{Bool, true, false, not, _&&_}
-use mathlib.Core.List.{List}
-use lib.ListN.{length, getD}
-use lib.Dec.{eqb, ltb}
+use mathlib.Core.Path.{_≡_, refl, sym, _∙_}
 use Rattle.mesh.specs.Range.{every}
-use Rattle.mesh.specs.Bytes.{stepOn, at}
+use Rattle.mesh.specs.Bytes.{stepOn}
 use Rattle.mesh.proofs.Tests.{every-turn, every-none}
 use Rattle.mesh.proofs.Bytes.{step-off, step-on}
 use Rattle.mesh.proofs.steps.covers.Statement.{statement}

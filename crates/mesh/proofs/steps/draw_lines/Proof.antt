@@ -67,7 +67,7 @@ draw-split-requires c κs =
       l .inv .square,
       omega arith,
       λ e.
-          let s = drawing-ranges L _ (l .i) (l .steps) (l .inv) (omega arith) .0 in
+          let s = drawing-ranges L _ (l .i) (l .steps) (l .inv) (omega arith) in
           let r = in-range-says (L .w) (L .h) (dir .0) _ s (e ∙ sym (dir .1)) in
           let across = crossed .side-of .ensures .1 (dir .0) (dir .1) in
           let up = along run (dir .0) (dir .1) in
