@@ -82,16 +82,16 @@ noWeight = record { blend = noShape; numerator = 0; denominator = 0 }
 abbrev pub noWeights : ℕ → Weights
 noWeights n = record { number = n; entries = noWeight ∷ noWeight ∷ noWeight ∷ noWeight ∷ [] }
 
-abbrev pub weightOf : Plain → ℕ → ℕ → Blend → Weight
-weightOf P u v B =
-    let f = weightAt (corner (P .w) u + 1) (corner (P .h) v + 1) (u + 1) (v + 1) B in
+abbrev pub weightOver : ℕ → ℕ → ℕ → ℕ → Blend → Weight
+weightOver w h u v B =
+    let f = weightAt (corner w u + 1) (corner h v + 1) (u + 1) (v + 1) B in
     record { blend = shape B; numerator = f .num; denominator = f .den }
 
 unfoldable pub weights : Map → ℕ → ℕ → Weights
 weights m u v =
     let P = plain m in
     cond (not (good m)) (noWeights 2)
-    (cond (inDomain P u v) (record { number = 0; entries = map (weightOf P u v) (over P u v) })
+    (cond (inDomain P u v) (record { number = 0; entries = map (weightOver (P .w) (P .h) u v) (over P u v) })
     (noWeights 10))
 
 -- The exact split.

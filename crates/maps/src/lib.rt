@@ -1,4 +1,5 @@
 // Maps: a pump's lines and values, and the calls on them. The second of the three layers.
+
 use mesh::Split;
 
 // The record of a map: its sides, its splits in order and its values in table order; all unused places are zero.

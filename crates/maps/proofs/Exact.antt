@@ -1,0 +1,212 @@
+-- Exact readings: sums of values times weights, multiplied out to whole numbers, and what they round down to.
+use Prim.Native.Nat.{ℕ, zero, suc, _+_, _*_, _/_, _≤_, _<_}
+use native.Mathlib.Omega.{arith}
+use native.Mathlib.Nat.{mul-comm, mul-pos, mul-div-mul-right, eq-of-mul-eq-mul-right, div-mul-le-self, lt-div-mul-add, le-div-iff-mul-le, div-lt-iff-lt-mul, mul-le-mul-right, le-of-mul-le-mul-left}
+use mathlib.Core.Path.{_≡_, refl, sym, ap, subst, _∙_}
+use mathlib.Core.Bool.{true}
+use mathlib.Core.Logic.{_⊎_, inl, inr, ⊎-elim}
+use mathlib.Core.List.{List, [], _∷_, map, List·Memᴰ, List·Memᴰ·cases-cons}
+use mathlib.Core.List.List·Memᴰ.{List·Memᴰ·head, List·Memᴰ·tail}
+use lib.ListN.{length, getD, set}
+use Rattle.mesh.specs.declared.Blend.{Blend}
+use Rattle.mesh.specs.Triple.{Fraction}
+use Rattle.mesh.specs.Lines.{Mesh}
+use Rattle.mesh.specs.Blends.{live}
+use Rattle.mesh.specs.Sound.{none, proper, fourEverywhere, noneNested, sound}
+use Rattle.mesh.specs.Weight.{Term, weight, total, value}
+use Rattle.mesh.proofs.Tests.{and-both}
+use Rattle.mesh.proofs.Distinct.{Distinct}
+use Rattle.mesh.proofs.Order.{cut-or-not}
+use Rattle.mesh.proofs.Scale.{Multiple, common, Scaled, scaled-total, total-positive, sum}
+use Rattle.mesh.proofs.Live.{proper-rises, AllProper}
+use Rattle.mesh.proofs.Weights.{scaledWeight, scaled-weight, scaled-value, weight-den, Covered, terms-reproduced}
+use Rattle.mesh.proofs.SoundMaps.{live-proper, live-distinct, weights-add-up, one-at-anchor, none-at-anchor}
+use Rattle.maps.specs.Values.{paired, rounded, readingAt}
+
+-- a fraction rounds down to what its multiple, divided again, does
+pub scaled-rounded : (S : ℕ) (x : Fraction) (n : ℕ) → 0 < S → 0 < x .den → Scaled S x n → rounded x ≡ n / S
+scaled-rounded S x n s-pos d-pos e =
+    sym (mul-div-mul-right (x .num) (x .den) s-pos) ∙ rw (← e, mul-comm (x .den) S) (mul-div-mul-right n S d-pos)
+
+-- nothing, and one, at a scale
+pub scaled-nothing : (S : ℕ) (x : Fraction) (n : ℕ) → 0 < x .den → x .num ≡ 0 → Scaled S x n → n ≡ 0
+scaled-nothing S x n pos none e = eq-of-mul-eq-mul-right (x .den) pos _ _ (omega (arith, ap (λ (m : ℕ). m * S) none))
+
+pub scaled-whole : (S : ℕ) (x : Fraction) (n : ℕ) → 0 < x .den → x .num ≡ x .den → Scaled S x n → n ≡ S
+scaled-whole S x n pos one e = eq-of-mul-eq-mul-right (x .den) pos _ _ (omega (arith, ap (λ (m : ℕ). m * S) one))
+
+-- Lists by place: what stands at a place is in the list,
+pub entry {ℓ} : {A : Type ℓ} (xs : List A) (i : ℕ) (d : A) → i < length xs → List·Memᴰ (getD xs i d) xs
+entry [] i d lt = absurd (omega arith)
+entry (x ∷ xs) zero d lt = List·Memᴰ·head refl
+entry (x ∷ xs) (suc i) d lt = List·Memᴰ·tail (entry xs i d (omega arith))
+
+-- what is in the list stands at some place,
+pub placed {ℓ} : {A : Type ℓ} (xs : List A) (x d : A) → List·Memᴰ x xs → (i : ℕ) × (i < length xs) × (getD xs i d ≡ x)
+placed (y ∷ ys) x d m =
+    ⊎-elim (λ q. (0, omega arith, sym q)) (λ n. let r = placed ys x d n in (suc (r .0), omega (arith, r .1), r .2)) (List·Memᴰ·cases-cons m)
+
+-- a mapped list has at a place what is mapped there,
+pub entry-map {ℓ ℓ′} : {A : Type ℓ} {B : Type ℓ′} (f : A → B) (xs : List A) (i : ℕ) (d : A) (e : B) → i < length xs →
+    getD (map f xs) i e ≡ f (getD xs i d)
+entry-map f [] i d e lt = absurd (omega arith)
+entry-map f (x ∷ xs) zero d e lt = refl
+entry-map f (x ∷ xs) (suc i) d e lt = entry-map f xs i d e (omega arith)
+
+-- and a set place brings in only what it is set to.
+pub set-mem {ℓ} : {A : Type ℓ} (xs : List A) (i : ℕ) (v x : A) → List·Memᴰ x (set xs i v) → (x ≡ v) ⊎ List·Memᴰ x xs
+set-mem [] i v x m = inr m
+set-mem (y ∷ ys) zero v x m = ⊎-elim inl (λ n. inr (List·Memᴰ·tail n)) (List·Memᴰ·cases-cons m)
+set-mem (y ∷ ys) (suc i) v x m =
+    ⊎-elim (λ q. inr (List·Memᴰ·head q)) (λ n. ⊎-elim inl (λ k. inr (List·Memᴰ·tail k)) (set-mem ys i v x n)) (List·Memᴰ·cases-cons m)
+
+-- sums over blends with their values, each value times some measure of its blend
+module _ (g : Blend → ℕ) where
+  abbrev pub weighed : List Term → ℕ
+  weighed ts = sum (λ (t : Term). t .multiple * g (t .of)) ts
+
+  paired-none : (bs : List Blend) (vs : List ℕ) → ((C : Blend) → List·Memᴰ C bs → g C ≡ 0) → weighed (paired bs vs) ≡ 0
+  paired-none [] vs zeros = refl
+  paired-none (B ∷ bs) [] zeros = refl
+  paired-none (B ∷ bs) (v ∷ vs) zeros =
+      omega (arith, ap (λ (n : ℕ). v * n) (zeros B (List·Memᴰ·head refl)), paired-none bs vs (λ C m. zeros C (List·Memᴰ·tail m)))
+
+  -- where all blends but one measure 0, the sum is that one's
+  pub paired-single : (bs : List Blend) (vs : List ℕ) → Distinct bs → length vs ≡ length bs → (i : ℕ) → i < length bs →
+      ((C : Blend) → List·Memᴰ C bs → (getD bs i none ≡ C → ⊥) → g C ≡ 0) → weighed (paired bs vs) ≡ getD vs i 0 * g (getD bs i none)
+  paired-single [] vs dist long i lt zeros = absurd (omega arith)
+  paired-single (B ∷ bs) [] dist long i lt zeros = absurd (omega arith)
+  paired-single (B ∷ bs) (v ∷ vs) dist long zero lt zeros =
+      omega (arith, paired-none bs vs (λ C m. zeros C (List·Memᴰ·tail m) (λ q. dist .0 (subst (λ (X : Blend). List·Memᴰ X bs) (sym q) m))))
+  paired-single (B ∷ bs) (v ∷ vs) dist long (suc i) lt zeros =
+      let first = zeros B (List·Memᴰ·head refl) (λ q. dist .0 (subst (λ (X : Blend). List·Memᴰ X bs) q (entry bs i none (omega arith)))) in
+      omega (
+        arith,
+        ap (λ (n : ℕ). v * n) first,
+        paired-single bs vs (dist .1) (omega arith) i (omega arith) (λ C m. zeros C (List·Memᴰ·tail m)),
+      )
+
+  -- values of at most k come to at most k times the blends' sum
+  pub paired-most : (k : ℕ) (bs : List Blend) (vs : List ℕ) → ((v : ℕ) → List·Memᴰ v vs → v ≤ k) → weighed (paired bs vs) ≤ k * sum g bs
+  paired-most k [] vs most = omega arith
+  paired-most k (B ∷ bs) [] most = omega arith
+  paired-most k (B ∷ bs) (v ∷ vs) most =
+      omega (
+        arith,
+        mul-le-mul-right (g B) (most v (List·Memᴰ·head refl)),
+        paired-most k bs vs (λ u m. most u (List·Memᴰ·tail m)),
+      )
+
+  -- values that the blends determine
+  pub paired-map : (f : Blend → ℕ) (bs : List Blend) → weighed (paired bs (map f bs)) ≡ sum (λ (C : Blend). f C * g C) bs
+  paired-map f [] = refl
+  paired-map f (B ∷ bs) = ap (λ (n : ℕ). f B * g B + n) (paired-map f bs)
+
+-- what is at least G, and by less than the scale more, rounds down to as much as G does or to one more
+pub rounds-between : (S F G : ℕ) → 0 < S → G ≤ F → F < G + S → (G / S ≤ F / S) × (F / S ≤ G / S + 1)
+rounds-between S F G pos low high =
+    let down = div-mul-le-self G S in
+    let up : G < G / S * S + S = lt-div-mul-add {a = G} pos in
+    let less : F / S < G / S + 2 = div-lt-iff-lt-mul pos .1 (omega arith) in
+    (le-div-iff-mul-le pos .1 (omega arith), omega arith)
+
+-- A sum of f times g, and the same with each f rounded down to whole scales, S at a time.
+module _ (S : ℕ) (pos : 0 < S) {A : Type 0} (f g : A → ℕ) where
+  abbrev pub roundedSum : List A → ℕ
+  roundedSum xs = sum (λ (x : A). f x / S * g x) xs
+
+  sum-down : (xs : List A) → S * roundedSum xs ≤ sum (λ (x : A). f x * g x) xs
+  sum-down [] = omega arith
+  sum-down (x ∷ xs) = omega (arith, mul-le-mul-right (g x) (div-mul-le-self (f x) S), sum-down xs)
+
+  sum-up : (xs : List A) → sum (λ (x : A). f x * g x) xs + sum g xs ≤ S * (roundedSum xs + sum g xs)
+  sum-up [] = omega arith
+  sum-up (x ∷ xs) =
+      let step : f x + 1 ≤ f x / S * S + S = omega (arith, lt-div-mul-add {a = f x} pos) in
+      omega (arith, mul-le-mul-right (g x) step, sum-up xs)
+
+  -- where the g add up to one, the mean F of the f is at least that of the f rounded down, and less than one above it
+  pub means-between : (xs : List A) (F : ℕ) → sum g xs ≡ S → S * F ≡ sum (λ (x : A). f x * g x) xs →
+      (roundedSum xs / S ≤ F / S) × (F / S ≤ roundedSum xs / S + 1)
+  means-between xs F one mean =
+      let low : roundedSum xs ≤ F = le-of-mul-le-mul-left (omega (arith, sum-down xs)) pos in
+      let high : F + 1 ≤ roundedSum xs + S = le-of-mul-le-mul-left (omega (arith, sum-up xs, ap (λ (n : ℕ). S * n) one)) pos in
+      rounds-between S F (roundedSum xs) pos low (omega arith)
+
+-- the blends of the terms are those of the table
+pub paired-of : (bs : List Blend) (vs : List ℕ) (t : Term) → List·Memᴰ t (paired bs vs) → List·Memᴰ (t .of) bs
+paired-of (B ∷ bs) (v ∷ vs) t m =
+    ⊎-elim (λ q. List·Memᴰ·head (ap (λ (t : Term). t .of) q)) (λ m. List·Memᴰ·tail (paired-of bs vs t m)) (List·Memᴰ·cases-cons m)
+
+-- A reading, multiplied out.
+module _ (w h : ℕ) where
+  -- a number that every gap between knots divides; weights are multiplied by its square
+  abbrev K : Multiple (w + h + 2)
+  K = common (w + h + 2)
+
+  pub scale : ℕ
+  scale = K .all * 1 * (K .all * 1)
+
+  pub scale-positive : 0 < scale
+  unfolding scale
+  scale-positive =
+      let once : 0 < K .all * 1 = omega (arith, K .positive) in
+      mul-pos once once
+
+  -- a blend's weight at the point of knots (p, q), and the sum of value times weight there, both so multiplied
+  pub part : ℕ → ℕ → Blend → ℕ
+  part p q B = scaledWeight K B p q 1
+
+  abbrev pub exact : List Blend → List ℕ → ℕ → ℕ → ℕ
+  exact bs vs p q = weighed (part p q) (paired bs vs)
+
+  part-scaled : (B : Blend) → proper w h B ≡ true → (p q : ℕ) → Scaled scale (weight B p q 1) (part p q B)
+  unfolding scale part
+  part-scaled B ok p q = scaled-weight K w h (omega arith) (omega arith) B ok p q 1
+
+  -- "exact, then rounded down"
+  pub reading-rounds : (bs : List Blend) (vs : List ℕ) → AllProper w h bs → (u v : ℕ) → readingAt bs vs u v ≡ exact bs vs (u + 1) (v + 1) / scale
+  unfolding readingAt scale part
+  reading-rounds bs vs ok u v =
+      scaled-rounded scale (value (paired bs vs) (u + 1) (v + 1) 1) (exact bs vs (u + 1) (v + 1)) scale-positive
+      (total-positive _ (paired bs vs)
+      (λ t m. mul-pos (omega arith) (weight-den w h (t .of) (ok (t .of) (paired-of bs vs t m)) (u + 1) (v + 1) 1 (omega arith))))
+      (scaled-value K w h (omega arith) (omega arith) (paired bs vs) (λ t m. ok (t .of) (paired-of bs vs t m)) (u + 1) (v + 1) 1)
+
+  -- The live blends of a sound map:
+  module _ (hw : 1 ≤ w) (hh : 1 ≤ h) (M : Mesh) (s : sound w h (live w h M) ≡ true) where
+    ok : AllProper w h (live w h M)
+    ok = live-proper w h hw hh M
+
+    -- at an anchor its own blend is the whole of the scale, and every other nothing;
+    pub part-own : (B : Blend) → List·Memᴰ B (live w h M) → part (B .across .m) (B .up .m) B ≡ scale
+    part-own B m =
+        let one = one-at-anchor w h hw hh M s B m in
+        scaled-whole scale (weight B (B .across .m) (B .up .m) 1) _ (one .1) (one .0) (part-scaled B (ok B m) (B .across .m) (B .up .m))
+
+    pub part-other : (B C : Blend) → List·Memᴰ B (live w h M) → List·Memᴰ C (live w h M) → (B ≡ C → ⊥) → part (B .across .m) (B .up .m) C ≡ 0
+    part-other B C mB mC differ =
+        scaled-nothing scale (weight C (B .across .m) (B .up .m) 1) _
+        (weight-den w h C (ok C mC) (B .across .m) (B .up .m) 1 (omega arith))
+        (none-at-anchor w h hw hh M s B C mB mC differ) (part-scaled C (ok C mC) (B .across .m) (B .up .m))
+
+    -- at each whole point of the domain they add up to the scale;
+    pub parts-one : (u v : ℕ) → u ≤ w → v ≤ h → sum (part (u + 1) (v + 1)) (live w h M) ≡ scale
+    parts-one u v u-in v-in =
+        let one = weights-add-up w h hw hh M s u v 1 (omega arith) (omega arith) (omega arith) in
+        scaled-whole scale (total (map (λ (C : Blend). weight C (u + 1) (v + 1) 1) (live w h M))) _ (one .1) (one .0)
+        (scaled-total scale (λ (C : Blend). weight C (u + 1) (v + 1) 1) (part (u + 1) (v + 1)) (live w h M)
+        (λ C m. part-scaled C (ok C m) (u + 1) (v + 1)))
+
+    -- and a sum over blends that come before them is the sum of its values at the anchors times them.
+    pub exact-reproduced : (bs : List Blend) (vs : List ℕ) → ((B : Blend) → List·Memᴰ B bs → (proper w h B ≡ true) × Covered M (live w h M) B) →
+        (p q : ℕ) → scale * exact bs vs p q ≡ sum (λ (C : Blend). exact bs vs (C .across .m) (C .up .m) * part p q C) (live w h M)
+    unfolding sound scale part
+    exact-reproduced bs vs cov p q =
+        at-one (K .all) _ _
+        (terms-reproduced M w h (live w h M) (λ B p. cut-or-not M B (proper-rises w h B p)) (live-distinct w h hw hh M)
+        (and-both (fourEverywhere w h (live w h M)) (noneNested (live w h M)) s .1) ok K (omega arith) (omega arith)
+        (paired bs vs) (λ t m. cov (t .of) (paired-of bs vs t m)) p q 1)
+      where
+        at-one : (k f r : ℕ) → k * k * f ≡ r → k * 1 * (k * 1) * f ≡ r
+        at-one k f r e = omega arith

@@ -1,0 +1,233 @@
+-- Document 01, "Values, readings, splits": readings at anchors, how large readings are, and what a split and a set value do to them.
+use Prim.Native.Nat.{ℕ, suc, _+_, _-_, _*_, _/_, _≤_, _<_}
+use native.Mathlib.Omega.{arith}
+use native.Mathlib.Numerals.{add-one}
+use native.Mathlib.Nat.{mul-div-cancel, div-le-of-le-mul}
+use mathlib.Core.Path.{_≡_, refl, sym, ap, ap₂, _∙_}
+use mathlib.Core.Logic.{⊎-elim}
+use mathlib.Core.Bool.{true, false}
+use mathlib.Core.List.{List, [], _∷_, _++_, List·Memᴰ, Memᴰ·append-left}
+use borrow.Author.Tests.{eqb-true, ltb-true}
+use lib.Dec.{eqb, ltb}
+use lib.ListN.{length, getD, length-map, length-set}
+use lib.Seq.{getD-set-same, getD-set-other}
+use Rattle.mesh.specs.declared.Split.{Split}
+use Rattle.mesh.specs.declared.Blend.{Blend}
+use Rattle.mesh.specs.Range.{any}
+use Rattle.mesh.specs.Lines.{mesh, freshMesh, draws}
+use Rattle.mesh.specs.Blends.{anchored}
+use Rattle.mesh.specs.Order.{Coarser}
+use Rattle.mesh.specs.Sound.{none, proper, sound}
+use Rattle.mesh.proofs.Tests.{either, and-both, or-either, or-left, or-right, any-at, any-of, cond-true, cond-false}
+use Rattle.mesh.proofs.Order.{finer-back, keeps-anchor}
+use Rattle.mesh.proofs.Places.{proper-facts}
+use Rattle.mesh.proofs.Live.{AllProper, proper-rises}
+use Rattle.mesh.proofs.Few.{map-mem}
+use Rattle.mesh.proofs.Scale.{sum, sum-same}
+use Rattle.mesh.proofs.Weights.{Covered}
+use Rattle.mesh.proofs.SoundMaps.{live-left, live-proper, live-distinct}
+use Rattle.maps.specs.Plain.{Plain, meshOf, blends}
+use Rattle.maps.specs.Values.{readingAt, placeOf, carried}
+use Rattle.maps.specs.Splits.{withLine, drawn}
+use Rattle.maps.specs.Calls.{setPlain}
+use Rattle.maps.proofs.Exact.{entry, placed, entry-map, set-mem, paired-single, paired-most, paired-map, means-between, scale, scale-positive, part, exact, reading-rounds, part-own, part-other, parts-one, exact-reproduced}
+
+-- the place of an anchor in a table, blend by blend
+module _ (B : Blend) (bs : List Blend) (m n : ℕ) where
+  place-here : anchored m n B ≡ true → placeOf (B ∷ bs) m n ≡ 0
+  place-here e = rw e
+
+  place-later : anchored m n B ≡ false → placeOf (B ∷ bs) m n ≡ suc (placeOf bs m n)
+  place-later e = rw e (add-one (placeOf bs m n))
+
+-- the blend at the place of an anchor has it
+pub place-found : (bs : List Blend) (m n : ℕ) → placeOf bs m n < length bs →
+    let B = getD bs (placeOf bs m n) none in (B .across .m ≡ m) × (B .up .m ≡ n)
+place-found [] m n lt = absurd (omega arith)
+place-found (B ∷ bs) m n lt =
+    ⊎-elim
+    (λ e. let a = and-both (eqb (B .across .m) m) (eqb (B .up .m) n) e in
+    rw (place-here B bs m n e) (eqb-true _ _ (a .0), eqb-true _ _ (a .1)))
+    (λ e. rw (place-later B bs m n e) (place-found bs m n (omega (arith, place-later B bs m n e))))
+    (either (anchored m n B))
+
+-- A sound map of allowed sides with a 16-bit value for each live blend.
+pub record Valued (P : Plain) : Type 0 where
+  pub wide : (1 ≤ P .w) × (P .w ≤ 128)
+  pub tall : (1 ≤ P .h) × (P .h ≤ 128)
+  pub is-sound : sound (P .w) (P .h) (blends P) ≡ true
+  pub counted : length (P .values) ≡ length (blends P)
+  pub small : (v : ℕ) → List·Memᴰ v (P .values) → v < 65536
+
+module _ (P : Plain) (valued : Valued P) where
+  pub blends-proper : AllProper (P .w) (P .h) (blends P)
+  blends-proper = live-proper (P .w) (P .h) (valued .wide .0) (valued .tall .0) (meshOf P)
+
+  -- a reading at the anchor of a proper blend, on its knots
+  reading-on-knots : (B : Blend) → proper (P .w) (P .h) B ≡ true →
+      readingAt (blends P) (P .values) (B .across .m - 1) (B .up .m - 1) ≡
+      exact (P .w) (P .h) (blends P) (P .values) (B .across .m) (B .up .m) / scale (P .w) (P .h)
+  reading-on-knots B ok =
+      let p = proper-facts (P .w) (P .h) B ok in
+      let a = p .across in
+      let b = p .up in
+      let x : B .across .m - 1 + 1 ≡ B .across .m = omega arith in
+      let y : B .up .m - 1 + 1 ≡ B .up .m = omega arith in
+      rw (x, y) at (reading-rounds (P .w) (P .h) (blends P) (P .values) blends-proper (B .across .m - 1) (B .up .m - 1))
+
+  -- At an anchor the reading is the value of its blend.
+  pub reading-value : (i : ℕ) → i < length (blends P) → let B = getD (blends P) i none in
+      readingAt (blends P) (P .values) (B .across .m - 1) (B .up .m - 1) ≡ getD (P .values) i 0
+  reading-value i lt =
+      let w = P .w in
+      let h = P .h in
+      let B = getD (blends P) i none in
+      let m = entry (blends P) i none lt in
+      reading-on-knots B (blends-proper B m) ∙
+      rw (
+        paired-single (part w h (B .across .m) (B .up .m)) (blends P) (P .values)
+            (live-distinct w h (valued .wide .0) (valued .tall .0) (meshOf P)) (valued .counted) i lt
+            (λ C mC. part-other w h (valued .wide .0) (valued .tall .0) (meshOf P) (valued .is-sound) B C m mC),
+        part-own w h (valued .wide .0) (valued .tall .0) (meshOf P) (valued .is-sound) B m,
+      )
+      (mul-div-cancel (getD (P .values) i 0) (scale-positive w h))
+
+  -- "Old anchors keep their values; each new one takes the old map's reading there": either way it is the reading there.
+  pub carried-reading : (B : Blend) →
+      carried (blends P) (P .values) B ≡ readingAt (blends P) (P .values) (B .across .m - 1) (B .up .m - 1)
+  unfolding carried
+  carried-reading B =
+      let i = placeOf (blends P) (B .across .m) (B .up .m) in
+      ⊎-elim
+      (λ e. let f = place-found (blends P) (B .across .m) (B .up .m) (ltb-true i _ e) in
+      cond-true _ _ _ e ∙ sym (reading-value i (ltb-true i _ e)) ∙
+      ap₂ (λ (m n : ℕ). readingAt (blends P) (P .values) (m - 1) (n - 1)) (f .0) (f .1))
+      (λ e. cond-false _ _ _ e)
+      (either (ltb i (length (blends P))))
+
+  -- A reading in the domain is again one of "0 to 65,535 litres a minute".
+  pub reading-most : (u v : ℕ) → u ≤ P .w → v ≤ P .h → readingAt (blends P) (P .values) u v ≤ 65535
+  reading-most u v u-in v-in =
+      let w = P .w in
+      let h = P .h in
+      let one = parts-one w h (valued .wide .0) (valued .tall .0) (meshOf P) (valued .is-sound) u v u-in v-in in
+      let most = paired-most (part w h (u + 1) (v + 1)) 65535 (blends P) (P .values) (λ x m. omega (arith, valued .small x m)) in
+      rw (reading-rounds w h (blends P) (P .values) blends-proper u v)
+      (div-le-of-le-mul (scale w h) (omega (arith, most, ap (λ (n : ℕ). 65535 * n) one)))
+
+-- drawing a split takes no unit step off the lines
+pub drawn-finer : (w h : ℕ) (splits : List Split) (s : Split) → Coarser (mesh w h splits) (mesh w h (splits ++ s ∷ []))
+unfolding mesh
+drawn-finer w h splits s d z k e =
+    ⊎-elim (λ f. or-left (freshMesh w h d z k) _ f)
+    (λ o. let r = any-at (draws w h d z k) splits o in
+    or-right (freshMesh w h d z k) _ (any-of (draws w h d z k) (splits ++ s ∷ []) (r .0) (Memᴰ·append-left (s ∷ []) (r .1)) (r .2)))
+    (or-either (freshMesh w h d z k) (any (draws w h d z k) splits) e)
+
+-- A split that leaves a sound map:
+module _ (P : Plain) (valued : Valued P) (s : Split) (still : sound (P .w) (P .h) (blends (withLine P s)) ≡ true) where
+  -- every live blend of the map just before comes before the new ones;
+  pub old-covered : (B : Blend) → List·Memᴰ B (blends P) →
+      (proper (P .w) (P .h) B ≡ true) × Covered (meshOf (withLine P s)) (blends (withLine P s)) B
+  old-covered B m = (
+    blends-proper P valued B m,
+    λ C l. let r = live-left (P .w) (P .h) (valued .wide .0) (valued .tall .0) (meshOf P) B .0 m in
+        live-left (P .w) (P .h) (valued .wide .0) (valued .tall .0) (meshOf (withLine P s)) C .1
+        (r .0, r .1, finer-back (drawn-finer (P .w) (P .h) (P .splits) s) (r .2) l),
+  )
+
+  new-proper : AllProper (P .w) (P .h) (blends (withLine P s))
+  new-proper = live-proper (P .w) (P .h) (valued .wide .0) (valued .tall .0) (meshOf (withLine P s))
+
+  -- each new value is the old map's reading at the anchor;
+  pub drawn-value : (i : ℕ) → i < length (blends (drawn P s)) → let B = getD (blends (drawn P s)) i none in
+      getD (drawn P s .values) i 0 ≡ readingAt (blends P) (P .values) (B .across .m - 1) (B .up .m - 1)
+  unfolding drawn
+  drawn-value i lt =
+      entry-map (carried (blends P) (P .values)) (blends (withLine P s)) i none 0 lt ∙
+      carried-reading P valued (getD (blends (withLine P s)) i none)
+
+  -- the map just after is again a sound one with a 16-bit value for each live blend;
+  pub drawn-valued : Valued (drawn P s)
+  unfolding drawn
+  drawn-valued = record {
+    wide = valued .wide;
+    tall = valued .tall;
+    is-sound = still;
+    counted = length-map (blends (withLine P s)) (carried (blends P) (P .values));
+    small = λ v m.
+        let r = map-mem (carried (blends P) (P .values)) (blends (withLine P s)) v m in
+        let p = proper-facts (P .w) (P .h) (r .0) (new-proper (r .0) (r .1)) in
+        let a = p .across in
+        let b = p .up in
+        let most = reading-most P valued (r .0 .across .m - 1) (r .0 .up .m - 1) (omega arith) (omega arith) in
+        omega (arith, r .2, carried-reading P valued (r .0), most);
+  }
+
+  -- a reading just after the split is never above the one just before, and at most one below;
+  pub drawn-reading : (u v : ℕ) → u ≤ P .w → v ≤ P .h →
+      (readingAt (blends (drawn P s)) (drawn P s .values) u v ≤ readingAt (blends P) (P .values) u v) ×
+      (readingAt (blends P) (P .values) u v ≤ readingAt (blends (drawn P s)) (drawn P s .values) u v + 1)
+  unfolding drawn
+  drawn-reading u v u-in v-in =
+      let w = P .w in
+      let h = P .h in
+      let L = blends (withLine P s) in
+      let old = exact w h (blends P) (P .values) in
+      let g = part w h (u + 1) (v + 1) in
+      let values : exact w h L (drawn P s .values) (u + 1) (v + 1) ≡ sum (λ (C : Blend). old (C .across .m) (C .up .m) / scale w h * g C) L =
+      paired-map g (carried (blends P) (P .values)) L ∙
+      sum-same _ _ L (λ C m. ap (λ (n : ℕ). n * g C) (carried-reading P valued C ∙ reading-on-knots P valued C (new-proper C m))) in
+      rw (reading-rounds w h L (drawn P s .values) new-proper u v, reading-rounds w h (blends P) (P .values) (blends-proper P valued) u v, values)
+      (means-between (scale w h) (scale-positive w h) (λ (C : Blend). old (C .across .m) (C .up .m)) g L (old (u + 1) (v + 1))
+      (parts-one w h (valued .wide .0) (valued .tall .0) (meshOf (withLine P s)) still u v u-in v-in)
+      (exact-reproduced w h (valued .wide .0) (valued .tall .0) (meshOf (withLine P s)) still (blends P) (P .values) old-covered (u + 1) (v + 1)))
+
+  -- and at an old anchor the two are the same.
+  pub drawn-anchor : (B : Blend) → List·Memᴰ B (blends P) →
+      readingAt (blends (drawn P s)) (drawn P s .values) (B .across .m - 1) (B .up .m - 1) ≡
+      readingAt (blends P) (P .values) (B .across .m - 1) (B .up .m - 1)
+  unfolding drawn
+  drawn-anchor B m =
+      let k = keeps-anchor (meshOf (withLine P s)) B (proper-rises (P .w) (P .h) B (blends-proper P valued B m)) in
+      let r = placed (blends (withLine P s)) (k .0) none (old-covered B m .1 (k .0) (k .1)) in
+      let x : getD (blends (withLine P s)) (r .0) none .across .m ≡ B .across .m = ap (λ (C : Blend). C .across .m) (r .2) ∙ k .2 in
+      let y : getD (blends (withLine P s)) (r .0) none .up .m ≡ B .up .m = ap (λ (C : Blend). C .up .m) (r .2) ∙ k .3 in
+      rw (x, y) at (reading-value (drawn P s) drawn-valued (r .0) (r .1) ∙ drawn-value (r .0) (r .1))
+
+-- Setting the value at an anchor leaves the live blends as they are,
+pub set-blends : (P : Plain) (m n v : ℕ) → blends (setPlain P m n v) ≡ blends P
+unfolding setPlain
+set-blends P m n v = refl
+
+module _ (P : Plain) (valued : Valued P) (m n v : ℕ) where
+  -- and a map with a 16-bit value for each;
+  pub set-valued : v < 65536 → Valued (setPlain P m n v)
+  unfolding setPlain
+  set-valued lt = record {
+    wide = valued .wide;
+    tall = valued .tall;
+    is-sound = valued .is-sound;
+    counted = length-set (P .values) _ v ∙ valued .counted;
+    small = λ x k. ⊎-elim (λ q. omega arith) (valued .small x) (set-mem (P .values) _ v x k);
+  }
+
+  -- every other table place keeps its value;
+  pub set-other : (i : ℕ) → (i ≡ placeOf (blends P) (m + 1) (n + 1) → ⊥) → getD (setPlain P m n v .values) i 0 ≡ getD (P .values) i 0
+  unfolding setPlain
+  set-other i off = getD-set-other (P .values) _ i v 0 off
+
+  -- and where a live blend has the anchor, its value, and so the reading there, is the one that was set.
+  module _ (there : placeOf (blends P) (m + 1) (n + 1) < length (blends P)) where
+    pub set-same : getD (setPlain P m n v .values) (placeOf (blends P) (m + 1) (n + 1)) 0 ≡ v
+    unfolding setPlain
+    set-same = getD-set-same (P .values) _ v 0 (rw (valued .counted) there)
+
+    pub set-reading : v < 65536 → readingAt (blends (setPlain P m n v)) (setPlain P m n v .values) m n ≡ v
+    unfolding setPlain
+    set-reading lt =
+        let i = placeOf (blends P) (m + 1) (n + 1) in
+        let f = place-found (blends P) (m + 1) (n + 1) there in
+        let x : getD (blends P) i none .across .m - 1 ≡ m = omega (arith, f .0) in
+        let y : getD (blends P) i none .up .m - 1 ≡ n = omega (arith, f .1) in
+        rw (x, y) at (reading-value (setPlain P m n v) (set-valued lt) i there ∙ set-same)
