@@ -37,11 +37,14 @@ readFile bytes =
     cond (good (recordOf P) && sameBytes bytes (fileOf P)) (changed 0 (recordOf P))
     (changed 11 (recordOf (freshPlain 1 1)))
 
--- A record's payload at a byte place: 11 where there is "no whole record with length 2 or more at the place".
-unfoldable pub payloadNumber : List ℕ → ℕ → ℕ
-payloadNumber bytes at =
-    cond (leb (at + 2) (length bytes) && leb 2 (wordAt bytes at) && leb (at + 2 + wordAt bytes at) (length bytes)) 0 11
+-- whether there is a "whole record with length 2 or more at the place"
+unfoldable pub whole : List ℕ → ℕ → Bool
+whole bytes at =
+    leb (at + 2) (length bytes) && leb 2 (wordAt bytes at) && leb (at + 2 + wordAt bytes at) (length bytes)
+
+-- A record's payload at a byte place: 11, and an empty part, where no whole record is there.
+abbrev pub payloadNumber : List ℕ → ℕ → ℕ
+payloadNumber bytes at = cond (whole bytes at) 0 11
 
 abbrev pub payloadAt : List ℕ → ℕ → List ℕ
-payloadAt bytes at =
-    cond (leb 1 (payloadNumber bytes at)) [] (take (wordAt bytes at - 2) (drop (at + 4) bytes))
+payloadAt bytes at = cond (whole bytes at) (take (wordAt bytes at - 2) (drop (at + 4) bytes)) []

@@ -38,6 +38,10 @@ tail = entry 4 []
 unfoldable pub fileOf : Plain → List ℕ
 fileOf P = head (P .w) (P .h) ++ joined splitEntry (P .splits) ++ joined valueEntry (paired (blends P) (P .values)) ++ tail
 
+-- bytes with others put over them, from a byte place on
+abbrev pub put : List ℕ → ℕ → List ℕ → List ℕ
+put bytes at new = take at bytes ++ new ++ drop (at + length new) bytes
+
 -- the number at a byte place
 abbrev pub wordAt : List ℕ → ℕ → ℕ
 wordAt bytes at = getD bytes at 0 + 256 * getD bytes (at + 1) 0
