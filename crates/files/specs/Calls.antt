@@ -33,9 +33,8 @@ after m buffer =
 -- Read: the map whose file the bytes are, with 0; else 11 with the fresh 1 by 1 map.
 unfoldable pub readFile : List ℕ → Changed
 readFile bytes =
-    let P = guessed bytes in
-    cond (good (recordOf P) && sameBytes bytes (fileOf P)) (changed 0 (recordOf P))
-    (changed 11 (recordOf (freshPlain 1 1)))
+    let m = recordOf (guessed bytes) in
+    cond (good m && sameBytes bytes (fileOf (plain m))) (changed 0 m) (changed 11 (recordOf (freshPlain 1 1)))
 
 -- whether there is a "whole record with length 2 or more at the place"
 unfoldable pub whole : List ℕ → ℕ → Bool
