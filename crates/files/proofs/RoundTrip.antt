@@ -40,10 +40,10 @@ pub record Fits (P : Plain) : Type 0 where
   pub values : (v : ℕ) → List·Memᴰ v (P .values) → v < 65536
   pub full : length (P .values) ≡ length (blends P)
 
-split-long : (s : Split) → length (splitEntry s) ≡ 12
+pub split-long : (s : Split) → length (splitEntry s) ≡ 12
 split-long s = refl
 
-value-long : (t : Term) → length (valueEntry t) ≡ 10
+pub value-long : (t : Term) → length (valueEntry t) ≡ 10
 value-long t = refl
 
 pub paired-length : (bs : List Blend) (vs : List ℕ) → length vs ≡ length bs → length (paired bs vs) ≡ length bs

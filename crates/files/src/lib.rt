@@ -1,5 +1,6 @@
 // Map files: the third of the three layers.
 pub mod bytes;
+mod put;
 
 // A number, and how many bytes were written.
 pub struct Written {
