@@ -1,6 +1,9 @@
-use borrow.Author.Needs.{needs}
 use native.Mathlib.Omega.{arith}
 use borrow.Author.Needs.{needs}
+use mathlib.Core.Path.{_≡_}
+use lib.ListN.{length, length-map}
+use lib.Seq.{length-take-le}
+use Rattle.files.proofs.Terms.{filed-put}
 use Rattle.files.proofs.put.put_file.Statement.{statement}
 use Rattle.files.proofs.put.put_file.Tie as tie
 use Rattle.files.proofs.put.put_file.Reads as reads
@@ -51,7 +54,18 @@ same-length c = search needs
 
 -- src/put.rt:78:1
 returns : tie.Need-returns
-returns c = ?
+returns c =
+    let end = c .before .before in
+    let values = end .before .before .before .before .before in
+    let splits = values .before .before .before .before .before in
+    let sides = splits .before .before .before .before .before in
+    let first = sides .before .before .before .before in
+    let start = first .before .before .before in
+    let m = start .args .map in
+    let sixty : length (m .splits) ≡ 60 = simp length-map at (start .good .1 .0 .1 .1 .1 .1 .1 .0 .1 .0 .1) in
+    filed-put m (start .args .table) (start .pre .0) (simp length-map at (start .good .1 .1 .0 .1 .1 .1 .0 .1 .0 .1))
+    (simp length-map at (start .good .1 .0 .1 .1 .1 .1 .1 .1 .0 .1 .0 .1)) (length-take-le _ _ (omega arith)) _ (start .pre .2)
+    (first .put-pair .ensures) (sides .put-pair2 .ensures) (splits .put-splits .ensures) (values .put-values .ensures) (end .put-pair3 .ensures)
 
 pub put-file-spec : {M : Type 1} → statement M
 put-file-spec =
