@@ -1,5 +1,6 @@
 pub mod Whole
 pub mod Words
-pub mod RoundTrip
 pub mod Putting
+pub mod Taking
+pub mod RoundTrip
 pub mod Terms

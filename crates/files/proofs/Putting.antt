@@ -1,5 +1,5 @@
 -- Bytes put over others, one part after the other.
-use Prim.Native.Nat.{ℕ, zero, suc, _+_, _*_, _-_, _≤_, _<_}
+use Prim.Native.Nat.{ℕ, _+_, _*_, _≤_, _<_}
 use native.Mathlib.Omega.{arith}
 use native.Mathlib.Numerals.{add-one}
 use native.Mathlib.Nat.{add-zero, add-assoc, mul-le-mul-left}
@@ -26,8 +26,8 @@ module _ (bytes : List ℕ) (at : ℕ) (xs : List ℕ) (room : at + length xs �
   put-more ys n e =
       let full : length (take at bytes ++ xs) ≡ n = front-length ∙ e in
       let past : drop (n + length ys) (put bytes at xs) ≡ drop (at + length xs + length ys) bytes =
-          sym (drop-drop (length ys) n (put bytes at xs)) ∙ ap (drop (length ys)) (drop-at (take at bytes ++ xs) _ n full) ∙
-          drop-drop (length ys) (at + length xs) bytes in
+      sym (drop-drop (length ys) n (put bytes at xs)) ∙ ap (drop (length ys)) (drop-at (take at bytes ++ xs) _ n full) ∙
+      drop-drop (length ys) (at + length xs) bytes in
       rw (take-at (take at bytes ++ xs) _ n full, past, append-assoc (take at bytes) xs ys, length-append, add-assoc)
 
 -- the same of what two calls leave

@@ -4,25 +4,24 @@ use native.Mathlib.Omega.{arith}
 use native.Mathlib.Nat.{add-zero}
 use mathlib.Core.Path.{_≡_, refl, sym, ap, _∙_}
 use mathlib.Core.Logic.{⊎-elim}
-use mathlib.Core.Bool.{Bool, true, false, cond, _&&_}
-use mathlib.Core.List.{List, [], _∷_, _++_, map, map-id, append-assoc, List·Memᴰ}
-use borrow.Author.Tests.{leb-true, le-leb, eqb-true, eq-eqb, ne-eqb}
-use lib.Dec.{leb, eqb}
-use lib.ListN.{length, getD, take, drop, replicate, length-append, length-drop, length-replicate}
+use mathlib.Core.Bool.{Bool, true, _&&_}
+use mathlib.Core.List.{List, [], _∷_, _++_, map, map-id, append-assoc, List·Memᴰ, List·Memᴰ·not-nil}
+use lib.ListN.{length, take, drop, replicate, length-append, length-drop, length-replicate}
 use lib.Seq.{length-take-le, take-append-seam, drop-drop, drop-at}
 use Rattle.mesh.specs.declared.Split.{Split}
 use Rattle.mesh.specs.declared.Blend.{Blend}
 use Rattle.mesh.specs.Range.{each, joined}
 use Rattle.mesh.specs.Weight.{Term}
-use Rattle.mesh.proofs.Tests.{either, and-both, and-of, false-of, true-not-false, cond-true, cond-false}
+use Rattle.mesh.proofs.Tests.{either, and-both, and-of, false-of, cond-true, cond-false}
 use Rattle.maps.specs.declared.Map.{Map}
 use Rattle.maps.specs.declared.Changed.{Changed}
 use Rattle.maps.specs.Plain.{Plain, freshPlain, blends}
 use Rattle.maps.specs.Values.{paired}
 use Rattle.maps.specs.Record.{noSplit, recordOf, plain, good}
 use Rattle.maps.specs.Calls.{changed}
-use Rattle.files.specs.File.{head, splitEntry, valueEntry, tail, fileOf, wordAt, splitCount, splitAt, guessed, sameBytes}
+use Rattle.files.specs.File.{splitEntry, valueEntry, tail, fileOf, wordAt, splitCount, splitAt, guessed, sameBytes}
 use Rattle.files.specs.Calls.{readFile}
+use Rattle.files.proofs.Taking.{one-more, no-more}
 use Rattle.files.proofs.Words.{word-from, number-read, same-bytes, bytes-same, joined-length, past-entry, each-length, each-read}
 
 -- a split's numbers, and a map's, are numbers of 16 bits; its values are as many as its blends
@@ -58,8 +57,8 @@ paired-values (B ∷ bs) [] e = absurd (omega arith)
 paired-values (B ∷ bs) (v ∷ vs) e = ap (λ (l : List ℕ). v ∷ l) (paired-values bs vs (omega arith))
 
 paired-mem : (bs : List Blend) (vs : List ℕ) (t : Term) → List·Memᴰ t (paired bs vs) → List·Memᴰ (t .multiple) vs
-paired-mem [] vs t m = absurd (mathlib.Core.List.List·Memᴰ·not-nil m)
-paired-mem (B ∷ bs) [] t m = absurd (mathlib.Core.List.List·Memᴰ·not-nil m)
+paired-mem [] vs t m = absurd (List·Memᴰ·not-nil m)
+paired-mem (B ∷ bs) [] t m = absurd (List·Memᴰ·not-nil m)
 paired-mem (B ∷ bs) (v ∷ vs) t (List·Memᴰ.List·Memᴰ·head e) = List·Memᴰ.List·Memᴰ·head (ap (λ (u : Term). u .multiple) e)
 paired-mem (B ∷ bs) (v ∷ vs) t (List·Memᴰ.List·Memᴰ·tail m) = List·Memᴰ.List·Memᴰ·tail (paired-mem bs vs t m)
 
@@ -87,28 +86,22 @@ module _ (bytes : List ℕ) (at : ℕ) (rest : List ℕ) where
   value-read t lt e = number-read bytes at (valueEntry t ++ rest) e 8 (t .multiple) refl lt
 
   -- another kind than a split's ends the count of splits
-  no-split : (most : ℕ) → drop at bytes ≡ rest → eqb (wordAt rest 2) 2 ≡ false → splitCount bytes at most ≡ 0
-  unfolding splitCount
-  no-split zero e last = refl
-  no-split (suc most) e last =
-      let off : eqb (wordAt bytes (at + 2)) 2 ≡ false = rw (word-from bytes at 2, e) last in
-      cond-false _ _ _ (false-of _ (λ t. true-not-false _ (and-both (leb (at + 12) (length bytes)) _ t .1) off))
+  no-split : (most : ℕ) → drop at bytes ≡ rest → (wordAt rest 2 ≡ 2 → ⊥) → splitCount bytes at most ≡ 0
+  no-split most e last = no-more bytes at most (λ lt h. last (sym (word-from bytes at 2 ∙ ap (λ (l : List ℕ). wordAt l 2) e) ∙ h .kind))
 
   one-split : (most : ℕ) (s : Split) → drop at bytes ≡ splitEntry s ++ rest → splitCount bytes at (suc most) ≡ suc (splitCount bytes (at + 12) most)
-  unfolding splitCount
   one-split most s e =
-      let kind : wordAt bytes (at + 2) ≡ 2 = word-from bytes at 2 ∙ ap (λ (l : List ℕ). wordAt l 2) e in
       let long : length bytes - at ≡ 12 + length rest = sym (length-drop at bytes) ∙ ap length e ∙ length-append (splitEntry s) rest in
-      cond-true _ _ _ (and-of _ _ (le-leb (at + 12) (length bytes) (omega arith)) (eq-eqb _ _ kind))
+      one-more bytes at most (record { fits = omega arith; kind = word-from bytes at 2 ∙ ap (λ (l : List ℕ). wordAt l 2) e })
 
 -- after the splits stands a value or the end
-after-splits : (ts : List Term) → eqb (wordAt (joined valueEntry ts ++ tail) 2) 2 ≡ false
-after-splits [] = refl
-after-splits (t ∷ ts) = refl
+after-splits : (ts : List Term) → wordAt (joined valueEntry ts ++ tail) 2 ≡ 2 → ⊥
+after-splits [] e = omega arith
+after-splits (t ∷ ts) e = omega arith
 
 -- so the splits that stand in a row are counted right
 count-read : (most : ℕ) (bytes : List ℕ) (at : ℕ) (ss : List Split) (rest : List ℕ) → length ss ≤ most →
-    drop at bytes ≡ joined splitEntry ss ++ rest → eqb (wordAt rest 2) 2 ≡ false → splitCount bytes at most ≡ length ss
+    drop at bytes ≡ joined splitEntry ss ++ rest → (wordAt rest 2 ≡ 2 → ⊥) → splitCount bytes at most ≡ length ss
 count-read most bytes at [] rest few e last = no-split bytes at rest most e last
 count-read zero bytes at (s ∷ ss) rest few e last = absurd (omega arith)
 count-read (suc most) bytes at (s ∷ ss) rest few e last =

@@ -69,7 +69,13 @@ fn put_values(bytes: &mut [u8], at: usize, table: Table, values: [u16; 1024])
     while i < count {
         let blend = table.blends[i];
         let value = wide(values[i]);
-        put_value(bytes, at + 10 * i, blend.across.m - 1, blend.up.m - 1, value);
+        put_value(
+            bytes,
+            at + 10 * i,
+            blend.across.m - 1,
+            blend.up.m - 1,
+            value,
+        );
         i += 1;
     }
 }

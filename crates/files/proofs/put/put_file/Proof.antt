@@ -1,3 +1,4 @@
+-- `put::put_file` meets its contract: a file's parts, one next to the other.
 use native.Mathlib.Omega.{arith}
 use borrow.Author.Needs.{needs}
 use mathlib.Core.Path.{_≡_}
@@ -6,53 +7,37 @@ use lib.Seq.{length-take-le}
 use Rattle.files.proofs.Terms.{filed-put}
 use Rattle.files.proofs.put.put_file.Statement.{statement}
 use Rattle.files.proofs.put.put_file.Tie as tie
-use Rattle.files.proofs.put.put_file.Reads as reads
-use Rattle.files.proofs.put.put_file.Lts as lts
-use Rattle.files.proofs.put.put_pair.Reads as put-pair-reads
-use Rattle.files.proofs.put.put_splits.Reads as put-splits-reads
-use Rattle.files.proofs.put.put_values.Reads as put-values-reads
 
--- src/put.rt:82:5
 put-pair-requires : tie.Need-put-pair-requires
 put-pair-requires c κs = search needs
 
--- src/put.rt:83:5
 put-pair-requires-2 : tie.Need-put-pair-requires-2
 put-pair-requires-2 c κs = search needs
 
--- src/put.rt:86:5
 put-splits-requires : tie.Need-put-splits-requires
 put-splits-requires c κs = search needs
 
--- src/put.rt:87:18
 mul-at : tie.Need-mul-at
 mul-at c = search needs
 
--- src/put.rt:87:14
 add-at : tie.Need-add-at
 add-at c = search needs
 
--- src/put.rt:89:5
 put-values-requires : tie.Need-put-values-requires
 put-values-requires c κs = search needs
 
--- src/put.rt:90:20
 mul-end : tie.Need-mul-end
 mul-end c = search needs
 
--- src/put.rt:90:15
 add-end : tie.Need-add-end
 add-end c = search needs
 
--- src/put.rt:91:5
 put-pair-requires-3 : tie.Need-put-pair-requires-3
 put-pair-requires-3 c κs = search needs
 
--- src/put.rt:78:1
 same-length : tie.Need-same-length
 same-length c = search needs
 
--- src/put.rt:78:1
 returns : tie.Need-returns
 returns c =
     let end = c .before .before in

@@ -1,33 +1,25 @@
+-- `put::put_pair` meets its contract: two numbers, one next to the other.
 use borrow.Author.Needs.{needs}
 use native.Mathlib.Omega.{arith}
-use borrow.Author.Needs.{needs}
 use Prim.Native.Nat.{_+_}
 use mathlib.Core.Path.{refl}
 use Rattle.files.specs.File.{word}
 use Rattle.files.proofs.Putting.{put-then}
 use Rattle.files.proofs.put.put_pair.Statement.{statement}
 use Rattle.files.proofs.put.put_pair.Tie as tie
-use Rattle.files.proofs.put.put_pair.Reads as reads
-use Rattle.files.proofs.put.put_pair.Lts as lts
-use Rattle.files.proofs.bytes.put_word.Reads as put-word-reads
 
--- src/put.rt:20:5
 put-word-requires : tie.Need-put-word-requires
 put-word-requires c κs = search needs
 
--- src/put.rt:21:21
 add-put-word : tie.Need-add-put-word
 add-put-word c = search needs
 
--- src/put.rt:21:5
 put-word-requires-2 : tie.Need-put-word-requires-2
 put-word-requires-2 c κs = search needs
 
--- src/put.rt:16:1
 same-length : tie.Need-same-length
 same-length c = search needs
 
--- src/put.rt:16:1
 returns : tie.Need-returns
 returns c =
     let second = c .before .before in

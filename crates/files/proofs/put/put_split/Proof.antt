@@ -1,6 +1,6 @@
+-- `put::put_split` meets its contract: three pairs of numbers in a row.
 use borrow.Author.Needs.{needs}
 use native.Mathlib.Omega.{arith}
-use borrow.Author.Needs.{needs}
 use Prim.Native.Nat.{_+_}
 use mathlib.Core.Path.{refl}
 use mathlib.Core.List.{_++_}
@@ -8,35 +8,25 @@ use Rattle.files.specs.File.{word}
 use Rattle.files.proofs.Putting.{put-three}
 use Rattle.files.proofs.put.put_split.Statement.{statement}
 use Rattle.files.proofs.put.put_split.Tie as tie
-use Rattle.files.proofs.put.put_split.Reads as reads
-use Rattle.files.proofs.put.put_split.Lts as lts
-use Rattle.files.proofs.put.put_pair.Reads as put-pair-reads
 
--- src/put.rt:29:5
 put-pair-requires : tie.Need-put-pair-requires
 put-pair-requires c κs = search needs
 
--- src/put.rt:30:21
 add-put-pair : tie.Need-add-put-pair
 add-put-pair c = search needs
 
--- src/put.rt:30:5
 put-pair-requires-2 : tie.Need-put-pair-requires-2
 put-pair-requires-2 c κs = search needs
 
--- src/put.rt:31:21
 add-put-pair-2 : tie.Need-add-put-pair-2
 add-put-pair-2 c = search needs
 
--- src/put.rt:31:5
 put-pair-requires-3 : tie.Need-put-pair-requires-3
 put-pair-requires-3 c κs = search needs
 
--- src/put.rt:25:1
 same-length : tie.Need-same-length
 same-length c = search needs
 
--- src/put.rt:25:1
 returns : tie.Need-returns
 returns c =
     let third = c .before .before in

@@ -1,4 +1,4 @@
-use borrow.Author.Needs.{needs}
+-- `put::put_splits` meets its contract. The invariant: the entries of the first i splits are put.
 use native.Mathlib.Omega.{arith}
 use Prim.Native.Nat.{_+_, _*_, _-_, _≤_, _<_}
 use mathlib.Core.Path.{_≡_}
@@ -10,9 +10,6 @@ use Rattle.files.proofs.RoundTrip.{split-long}
 use Rattle.files.proofs.Putting.{Some, some-none, some-length, some-room, some-more, some-done}
 use Rattle.files.proofs.put.put_splits.Statement.{statement}
 use Rattle.files.proofs.put.put_splits.Tie as tie
-use Rattle.files.proofs.put.put_splits.Reads as reads
-use Rattle.files.proofs.put.put_splits.Lts as lts
-use Rattle.files.proofs.put.put_split.Reads as put-split-reads
 
 abbrev Inv-loop : tie.InvT-loop
 Inv-loop bytes₀ count splits i₀ bytes i = Some splitEntry 12 (take count splits) bytes₀ 8 i bytes
@@ -27,41 +24,32 @@ counted c = let sixty : length (c .args .t2) ≡ 60 = c .good .1 .0 .1 .0 .1 in 
 room : (c : tie.Start Inv-loop μ-loop) → 8 + 12 * length (take (c .args .count) (c .args .t2)) ≤ length (c .args .bytes .now)
 room c = rw (counted c) (c .pre .1)
 
--- src/put.rt:50:5
 loop-holds : tie.Need-loop-holds Inv-loop μ-loop
 loop-holds c = some-none splitEntry 12 _ _ 8
 
--- src/put.rt:51:21
 mul-split : tie.Need-mul-split Inv-loop μ-loop
 mul-split c = omega arith
 
--- src/put.rt:51:21
 array-copy-out-split : tie.Need-array-copy-out-split Inv-loop μ-loop
 array-copy-out-split c = omega arith
 
--- src/put.rt:52:30
 mul-put-split : tie.Need-mul-put-split Inv-loop μ-loop
 mul-put-split c = omega arith
 
--- src/put.rt:52:26
 add-put-split : tie.Need-add-put-split Inv-loop μ-loop
 add-put-split c = omega arith
 
--- src/put.rt:52:9
 put-split-requires : tie.Need-put-split-requires Inv-loop μ-loop
 put-split-requires c κs =
     let start = c .before .before .before .before .before in
     some-room splitEntry 12 _ _ 8 split-long (room start) (c .before .before .before .loop .inv) (omega (arith, counted start))
 
--- src/put.rt:53:9
 add-i : tie.Need-add-i Inv-loop μ-loop
 add-i c = omega arith
 
--- src/put.rt:50:5
 loop-less : tie.Need-loop-less Inv-loop μ-loop
 loop-less c = omega arith
 
--- src/put.rt:50:5
 loop-again : tie.Need-loop-again Inv-loop μ-loop
 loop-again c =
     let at = c .before .before .before .before .before .before in
@@ -70,11 +58,9 @@ loop-again c =
     some-more splitEntry 12 _ _ 8 split-long (room start) (at .loop .inv) noSplit _ (omega (arith, counted start))
     (rw (getD-take _ _ _ _ lt) (c .before .before .put-split .ensures))
 
--- src/put.rt:45:1
 same-length : tie.Need-same-length Inv-loop μ-loop
 same-length c = some-length splitEntry 12 _ _ 8 split-long (room (c .before .before .before)) (c .before .loop .inv)
 
--- src/put.rt:45:1
 returns : tie.Need-returns Inv-loop μ-loop
 returns c =
     let start = c .before .before .before in

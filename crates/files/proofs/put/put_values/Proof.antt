@@ -1,3 +1,4 @@
+-- `put::put_values` meets its contract. The invariant: the entries of the first i values are put.
 use borrow.Author.Needs.{needs}
 use native.Mathlib.Omega.{arith}
 use Prim.Native.Nat.{_+_, _*_, _-_, _≤_, _<_}
@@ -12,10 +13,6 @@ use Rattle.files.proofs.Terms.{term, terms-length, terms-at, terms-rise
 use Rattle.files.proofs.Putting.{Some, some-none, some-length, some-room, some-more, some-done}
 use Rattle.files.proofs.put.put_values.Statement.{statement}
 use Rattle.files.proofs.put.put_values.Tie as tie
-use Rattle.files.proofs.put.put_values.Reads as reads
-use Rattle.files.proofs.put.put_values.Lts as lts
-use Rattle.files.proofs.put.put_value.Reads as put-value-reads
-use Rattle.files.proofs.put.wide.Reads as wide-reads
 
 abbrev Inv-loop : tie.InvT-loop
 Inv-loop bytes₀ at table values count i₀ bytes i = Some valueEntry 10 (terms table values) bytes₀ at i bytes
@@ -41,62 +38,48 @@ rises c =
     let start = c .before .before .before in
     terms-rise (start .args .t3) (start .args .t4) (start .pre .0) (places start) (start .good .1 .1 .1 .0 .1 .0 .1) (c .before .loop .i) (c .loop-test .taken)
 
--- src/put.rt:69:5
 loop-holds : tie.Need-loop-holds Inv-loop μ-loop
 loop-holds c = some-none valueEntry 10 _ _ _
 
--- src/put.rt:70:21
 mul-blend : tie.Need-mul-blend Inv-loop μ-loop
 mul-blend c = omega arith
 
--- src/put.rt:70:21
 element-copy-out-blend : tie.Need-element-copy-out-blend Inv-loop μ-loop
 element-copy-out-blend c = omega arith
 
--- src/put.rt:71:26
 mul-wide : tie.Need-mul-wide Inv-loop μ-loop
 mul-wide c = omega arith
 
--- src/put.rt:71:26
 array-read-wide : tie.Need-array-read-wide Inv-loop μ-loop
 array-read-wide c = omega arith
 
--- src/put.rt:71:13
 wide-requires : tie.Need-wide-requires Inv-loop μ-loop
 wide-requires c κs = search needs
 
--- src/put.rt:72:31
 mul-put-value : tie.Need-mul-put-value Inv-loop μ-loop
 mul-put-value c = omega arith
 
--- src/put.rt:72:26
 add-put-value : tie.Need-add-put-value Inv-loop μ-loop
 add-put-value c = omega arith
 
--- src/put.rt:72:39
 sub-put-value : tie.Need-sub-put-value Inv-loop μ-loop
 sub-put-value c = let p = rises (c .before .before .before .before) in omega (arith, p .across .low)
 
--- src/put.rt:72:59
 sub-put-value-2 : tie.Need-sub-put-value-2 Inv-loop μ-loop
 sub-put-value-2 c = let p = rises (c .before .before .before .before .before) in omega (arith, p .up .low)
 
--- src/put.rt:72:9
 put-value-requires : tie.Need-put-value-requires Inv-loop μ-loop
 put-value-requires c κs =
     let at = c .before .before .before .before .before .before in
     let start = at .before .before in
     some-room valueEntry 10 _ _ _ value-long (room start) (at .loop .inv) (omega (arith, counted start))
 
--- src/put.rt:73:9
 add-i : tie.Need-add-i Inv-loop μ-loop
 add-i c = omega arith
 
--- src/put.rt:69:5
 loop-less : tie.Need-loop-less Inv-loop μ-loop
 loop-less c = omega arith
 
--- src/put.rt:69:5
 loop-again : tie.Need-loop-again Inv-loop μ-loop
 loop-again c =
     let put = c .before .before in
@@ -108,11 +91,9 @@ loop-again c =
     some-more valueEntry 10 _ _ _ value-long (room start) (at .loop .inv) (term none 0) _ (omega (arith, counted start))
     (rw (terms-at (a .t3) (a .t4) (start .pre .0) (places start) (start .good .1 .1 .1 .0 .1 .0 .1) (at .loop .i) lt (term none 0), ← wide .wide .ensures) (put .put-value .ensures))
 
--- src/put.rt:63:1
 same-length : tie.Need-same-length Inv-loop μ-loop
 same-length c = some-length valueEntry 10 _ _ _ value-long (room (c .before .before .before)) (c .before .loop .inv)
 
--- src/put.rt:63:1
 returns : tie.Need-returns Inv-loop μ-loop
 returns c =
     let start = c .before .before .before in
