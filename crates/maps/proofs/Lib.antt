@@ -1,2 +1,12 @@
+pub mod Adding
 pub mod Exact
+pub mod Filling
+pub mod Good
+pub mod InHand
+pub mod Index
+pub mod Longer
+pub mod Over
 pub mod Readings
+pub mod Recording
+pub mod Replay
+pub mod Sums

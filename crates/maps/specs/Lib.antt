@@ -3,4 +3,5 @@ pub mod Values
 pub mod Splits
 pub mod Record
 pub mod Calls
+pub mod Inner
 pub mod Cases

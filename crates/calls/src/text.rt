@@ -1,0 +1,104 @@
+// The text of calls: a word, then numbers, each behind one blank.
+ghost use Prim.Native.Nat.{_<_};
+
+// The last four numbers of a line, the last in d; not `whole` where the line holds anything else.
+pub struct Four {
+    pub whole: bool,
+    pub a: usize,
+    pub b: usize,
+    pub c: usize,
+    pub d: usize,
+}
+
+// A number and the place after it; none where no digit stands there, or too many.
+pub struct Found {
+    pub some: bool,
+    pub value: usize,
+    pub next: usize,
+}
+
+// Whether the line begins with a word.
+pub fn begins(line: &[u8], word: &[u8]) -> bool {
+    if line.len() < word.len() {
+        return false;
+    }
+    let mut i = 0;
+    while i < word.len() {
+        if line[i] != word[i] {
+            return false;
+        }
+        i += 1;
+    }
+    true
+}
+
+// The number behind a blank at a place, below ten to the ninth.
+pub fn number(line: &[u8], at: usize) -> Found {
+    let none = Found {
+        some: false,
+        value: 0,
+        next: 0,
+    };
+    if line.len() <= at {
+        return none;
+    }
+    if line[at] != b' ' {
+        return none;
+    }
+    let first = at + 1;
+    let mut value: usize = 0;
+    let mut i = first;
+    while i < line.len() {
+        let c = line[i];
+        if c < b'0' {
+            break;
+        }
+        if b'9' < c {
+            break;
+        }
+        if 99999999 < value {
+            return none;
+        }
+        value = value * 10 + digit(c);
+        i += 1;
+    }
+    Found {
+        some: first < i,
+        value: value,
+        next: i,
+    }
+}
+
+// What a digit's byte counts.
+fn digit(c: u8) -> usize
+    ensures { λ r. ⌜ r < 16 ⌝ }
+{
+    (c % 16) as usize
+}
+
+// Exactly `count` numbers, at most four, from a place to the line's end.
+pub fn numbers(line: &[u8], at: usize, count: usize) -> Four {
+    let mut found = Four {
+        whole: false,
+        a: 0,
+        b: 0,
+        c: 0,
+        d: 0,
+    };
+    let mut next = at;
+    let mut i = 0;
+    while i < count {
+        let n = number(line, next);
+        if !n.some {
+            return found;
+        }
+        next = n.next;
+        found.a = found.b;
+        found.b = found.c;
+        found.c = found.d;
+        found.d = n.value;
+        i += 1;
+    }
+    found.whole = next == line.len();
+    found
+}

@@ -1,0 +1,216 @@
+-- Lines whose live blends are in hand, and what one split more does to them.
+use Prim.Native.Nat.{ℕ, zero, suc, _+_, _≤_, _<_}
+use native.Mathlib.Omega.{arith}
+use native.Mathlib.Numerals.{add-one}
+use mathlib.Core.Path.{_≡_, refl, sym, ap, _∙_}
+use mathlib.Core.Logic.{⊎-elim}
+use mathlib.Core.Bool.{Bool, true, false, cond, _&&_, not}
+use mathlib.Core.List.{List, [], _∷_, _++_, List·Memᴰ·append-cases, List·Memᴰ·eq-of-singleton}
+use borrow.Author.Tests.{leb-true, leb-false, le-leb, ne-eqb, not-false}
+use lib.Dec.{leb, eqb}
+use lib.ListN.{length, replicate, length-set, length-append}
+use lib.Seq.{take-suc-set, take-append-seam, length-take-le}
+use Rattle.mesh.specs.declared.Split.{Split}
+use Rattle.mesh.specs.declared.Blend.{Blend}
+use Rattle.mesh.specs.declared.Lines.{Lines}
+use Rattle.mesh.specs.declared.Table.{Table}
+use Rattle.mesh.specs.declared.Refined.{Refined}
+use Rattle.mesh.specs.Range.{all, any}
+use Rattle.mesh.specs.Lines.{mesh, splitsOf, allowed, allowedSide, inRange, shares, ended}
+use Rattle.mesh.specs.Lines as lines
+use Rattle.mesh.specs.Blends.{isCut, live, firstFour}
+use Rattle.mesh.specs.Sound.{sound, table, proper, blendsOf, answer, refined, someCut}
+use Rattle.mesh.proofs.Tests.{either, and-both, and-of, all-at, all-of, cond-true}
+use Rattle.mesh.proofs.Drawing.{Allowed, allowed-says}
+use Rattle.mesh.proofs.Refining.{Ranged, is-cut}
+use Rattle.mesh.proofs.Live.{finer-answer, unsound-answer}
+use Rattle.mesh.proofs.Fresh.{first-proper, fresh-live, fresh-sound}
+use Rattle.mesh.proofs.AtMost.{at-most}
+use Rattle.mesh.proofs.SoundMaps.{live-proper}
+use Rattle.maps.specs.Plain.{Plain, meshOf, blends}
+use Rattle.maps.specs.Splits.{withLine, soundWith, given, exactNumber}
+use Rattle.maps.specs.Record.{noSplit}
+use Rattle.maps.specs.Inner.{held, withSplit, InHand}
+use Rattle.maps.proofs.Readings.{drawn-finer}
+
+-- a test of every entry holds with one entry more that passes it
+all-more : {A : Type 0} (test : A → Bool) (xs : List A) (y : A) → all test xs ≡ true → test y ≡ true → all test (xs ++ y ∷ []) ≡ true
+all-more test xs y e q =
+    all-of test (xs ++ y ∷ [])
+    (λ x m. ⊎-elim (λ k. all-at test xs e x k) (λ k. ap test (List·Memᴰ·eq-of-singleton k) ∙ q) (List·Memᴰ·append-cases xs m))
+
+-- the lines with one split more hold it after the others
+module _ (L : Lines) (room : L .count < 60) (places : length (L .splits) ≡ 60) (s : Split) where
+  pub hand-splits : splitsOf (withSplit L s) ≡ splitsOf L ++ s ∷ []
+  hand-splits =
+      let lt : L .count < length (L .splits) = omega arith in rw (add-one, take-suc-set (L .splits) (L .count) s lt)
+
+  pub hand-held : held (withSplit L s) ≡ withLine (held L) s
+  hand-held = ap (λ (l : List Split). record { w = L .w; h = L .h; splits = l; values = [] }) hand-splits
+
+  pub hand-mesh : lines.meshOf (withSplit L s) ≡ meshOf (withLine (held L) s)
+  hand-mesh = ap (mesh (L .w) (L .h)) hand-splits
+
+  pub allowed-more : allowed L ≡ true → inRange (L .w) (L .h) s ≡ true → allowed (withSplit L s) ≡ true
+  unfolding allowed
+  allowed-more ok fits =
+      let a = and-both (allowedSide (L .w) && allowedSide (L .h) && leb (L .count) 60) (all (inRange (L .w) (L .h)) (splitsOf L)) ok in
+      let b = and-both (allowedSide (L .w) && allowedSide (L .h)) (leb (L .count) 60) (a .0) in
+      and-of _ _ (and-of _ _ (b .0) (le-leb (L .count + 1) 60 (omega arith)))
+      (rw hand-splits (all-more (inRange (L .w) (L .h)) (splitsOf L) s (a .1) fits))
+
+-- a table's own blends and their number
+pub table-blends : (bs : List Blend) → blendsOf (table bs) ≡ bs
+unfolding table
+table-blends bs = take-append-seam bs _
+
+pub table-count : (bs : List Blend) → table bs .count ≡ length bs
+unfolding table
+table-count bs = refl
+
+module _ {L : Lines} {t : Table} (hand : InHand L t) where
+  pub hand-sides : Allowed L
+  hand-sides = allowed-says L (hand .allowed?)
+
+  pub hand-length : length (splitsOf L) ≡ L .count
+  hand-length = let a = hand-sides in length-take-le (L .count) (L .splits) (omega arith)
+
+  pub hand-few : length (blends (held L)) ≤ 1024
+  hand-few =
+      let a = hand-sides in
+      at-most (L .w) (L .h) (a .across .0) (a .up .0) (a .up .1) (splitsOf L)
+      (rw hand-length (a .held)) (hand .is-sound)
+
+  pub hand-count : t .count ≤ 1024
+  hand-count = rw (hand .is-table, table-count) hand-few
+
+  pub hand-blends : blendsOf t ≡ blends (held L)
+  hand-blends = ap blendsOf (hand .is-table) ∙ table-blends (blends (held L))
+
+  pub hand-proper : all (proper (L .w) (L .h)) (blendsOf t) ≡ true
+  hand-proper =
+      let a = hand-sides in
+      rw hand-blends (all-of _ (blends (held L)) (live-proper (L .w) (L .h) (a .across .0) (a .up .0) (meshOf (held L))))
+
+-- what it says that no refusal of 3 to 7 applies, and that an exact split is accepted
+pub record Given (P : Plain) (s : Split) : Type 0 where
+  pub fits : inRange (P .w) (P .h) s ≡ true
+  pub room : length (P .splits) < 60
+  pub apart : shares (meshOf P) s ≡ false
+  pub ends : ended (meshOf P) s ≡ true
+  pub cut : any (isCut (meshOf (withLine P s))) (blends P) ≡ true
+
+-- the first test of a chain that ends in 0
+chain : (b : Bool) (n rest : ℕ) → 0 < n → cond b n rest ≡ 0 → (b ≡ false) × (rest ≡ 0)
+chain true n rest lt e = absurd (omega arith)
+chain false n rest lt e = (refl, e)
+
+pub given-says : (P : Plain) (s : Split) → given P s ≡ 0 → Given P s
+unfolding given
+given-says P s e =
+    let a = chain (not (inRange (P .w) (P .h) s)) 3 _ (omega arith) e in
+    let b = chain (leb 60 (length (P .splits))) 4 _ (omega arith) (a .1) in
+    let c = chain (shares (meshOf P) s) 5 _ (omega arith) (b .1) in
+    let d = chain (not (ended (meshOf P) s)) 6 _ (omega arith) (c .1) in
+    let f = chain (not (any (isCut (meshOf (withLine P s))) (blends P))) 7 0 (omega arith) (d .1) in
+    record {
+      fits = not-false _ (a .0);
+      room = leb-false 60 (length (P .splits)) (b .0);
+      apart = c .0;
+      ends = not-false _ (d .0);
+      cut = not-false _ (f .0);
+    }
+
+pub exact-says : (P : Plain) (s : Split) → exactNumber P s ≡ 0 → Given P s × (soundWith P s ≡ true)
+unfolding exactNumber
+exact-says P s e = let r = both-pass (given P s) (soundWith P s) e in (given-says P s (r .0), r .1)
+  where
+    both-pass : (g : ℕ) (b : Bool) → cond (eqb g 0) (cond b 0 8) g ≡ 0 → (g ≡ 0) × (b ≡ true)
+    both-pass zero true e = (refl, refl)
+    both-pass zero false e = absurd (omega arith)
+    both-pass (suc g) b e = absurd (omega (arith, rw (ne-eqb (suc g) 0 (omega arith)) at e))
+
+-- One split more on lines whose live blends are in hand:
+module _ {L : Lines} {t : Table} (hand : InHand L t) (s : Split) (fits : inRange (L .w) (L .h) s ≡ true) (room : L .count < 60) where
+  ranged : Ranged (withSplit L s) t
+  ranged =
+      record {
+        ok = allowed-more L room (hand .places) s (hand .allowed?) fits;
+        few = hand-count hand;
+        good = hand-proper hand;
+      }
+
+  -- whether it cuts something,
+  pub hand-cut : someCut (withSplit L s) t ≡ any (isCut (meshOf (withLine (held L) s))) (blends (held L))
+  hand-cut = sym (is-cut ranged) ∙ rw (hand-mesh L room (hand .places) s, hand-blends hand)
+
+  -- and the blends in hand, cut further, are its live blends.
+  pub hand-refined : refined (withSplit L s) t ≡ answer (L .w) (L .h) (blends (withLine (held L) s))
+  unfolding refined live
+  hand-refined =
+      let a = hand-sides hand in
+      cond-true _ _ _ (and-of _ _ (and-of _ _ (ranged .ok) (le-leb (t .count) 1024 (ranged .few))) (ranged .good)) ∙
+      rw (hand-mesh L room (hand .places) s, hand-blends hand)
+      (finer-answer (L .w) (L .h) (a .up .1) (meshOf (held L)) (meshOf (withLine (held L) s)) (drawn-finer (L .w) (L .h) (splitsOf L) s)
+      (firstFour (L .w) (L .h)) (first-proper (L .w) (L .h) (a .across .0) (a .up .0)))
+
+  still-few : soundWith (held L) s ≡ true → length (blends (withLine (held L) s)) ≤ 1024
+  still-few o =
+      let a = hand-sides hand in
+      at-most (L .w) (L .h) (a .across .0) (a .up .0) (a .up .1) (splitsOf L ++ s ∷ []) (rw (length-append, hand-length hand) (omega arith)) o
+
+  refined-sound : soundWith (held L) s ≡ true →
+      refined (withSplit L s) t ≡ record { sound = true; table = table (blends (withLine (held L) s)) }
+  unfolding answer
+  refined-sound o = hand-refined ∙ cond-true _ _ _ (and-of _ _ o (le-leb _ 1024 (still-few o)))
+
+  pub hand-sound : refined (withSplit L s) t .sound ≡ soundWith (held L) s
+  hand-sound =
+      ⊎-elim (λ o. ap (λ (r : Refined). r .sound) (refined-sound o) ∙ sym o)
+      (λ o. ap (λ (r : Refined). r .sound) (hand-refined ∙ unsound-answer (L .w) (L .h) _ o) ∙ sym o)
+      (either (soundWith (held L) s))
+
+  pub hand-table : soundWith (held L) s ≡ true → refined (withSplit L s) t .table ≡ table (blends (withLine (held L) s))
+  hand-table o = ap (λ (r : Refined). r .table) (refined-sound o)
+
+  -- the same of what a call of `refine` on these lines answers
+  module _ {next : Lines} {r : Refined} (more : next ≡ withSplit L s) (e : r ≡ refined next t) where
+    is-refined : r ≡ refined (withSplit L s) t
+    is-refined = e ∙ ap (λ (N : Lines). refined N t) more
+
+    pub answered-sound : r .sound ≡ soundWith (held L) s
+    answered-sound = ap (λ (r : Refined). r .sound) is-refined ∙ hand-sound
+
+    pub answered-table : soundWith (held L) s ≡ true → r .table ≡ table (blends (withLine (held L) s))
+    answered-table o = ap (λ (r : Refined). r .table) is-refined ∙ hand-table o
+
+-- an accepted split leaves lines whose live blends are in hand;
+pub hand-next : {L : Lines} {t : Table} → InHand L t → (s : Split) → exactNumber (held L) s ≡ 0 →
+    InHand (withSplit L s) (table (blends (withLine (held L) s)))
+hand-next {L} hand s e =
+    let r = exact-says (held L) s e in
+    let g = r .0 in
+    let room : L .count < 60 = omega (arith, hand-length hand) in
+    let same = hand-splits L room (hand .places) s in
+    record {
+      allowed? = allowed-more L room (hand .places) s (hand .allowed?) (g .fits);
+      places = length-set (L .splits) (L .count) s ∙ hand .places;
+      is-sound = rw same (r .1);
+      is-table = rw same;
+    }
+
+-- and so are those of a fresh map.
+pub hand-fresh : (w h : ℕ) → allowedSide w ≡ true → allowedSide h ≡ true →
+    InHand (record { w = w; h = h; count = 0; splits = replicate 60 noSplit }) (table (firstFour w h))
+unfolding allowed
+hand-fresh w h a b =
+    let one = leb-true 1 w (and-both (leb 1 w) (leb w 128) a .0) in
+    let also = and-both (leb 1 h) (leb h 128) b in
+    let up = leb-true 1 h (also .0) in
+    let most = leb-true h 128 (also .1) in
+    record {
+      allowed? = rw (a, b);
+      places = refl;
+      is-sound = rw (fresh-live w h one up most) (fresh-sound w h one up);
+      is-table = rw (fresh-live w h one up most);
+    }

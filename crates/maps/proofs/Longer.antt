@@ -1,0 +1,228 @@
+-- The lines that a lengthened split may take, as the search walks them: by length, then by start.
+use Prim.Native.Nat.{ℕ, _+_, _-_, _≤_, _<_}
+use native.Mathlib.Omega.{arith}
+use mathlib.Core.Path.{_≡_, refl, sym, ap, _∙_}
+use mathlib.Core.Logic.{⊎-elim}
+use mathlib.Core.Bool.{Bool, true, false, _&&_, not}
+use mathlib.Core.List.{List, [], _∷_, _++_, append-assoc}
+use borrow.Author.Tests.{leb-true, le-leb, lt-ltb, eqb-true}
+use lib.Dec.{leb, ltb, eqb}
+use lib.ListN.{take}
+use Rattle.mesh.specs.declared.Split.{Split}
+use Rattle.mesh.specs.declared.Lines.{Lines}
+use Rattle.mesh.specs.declared.Table.{Table}
+use Rattle.mesh.specs.declared.Refined.{Refined}
+use Rattle.mesh.specs.Range.{each, only}
+use Rattle.mesh.specs.Lines.{upright, level, inRange, shares, ended, fits}
+use Rattle.mesh.specs.Sound.{refined}
+use Rattle.mesh.proofs.Tests.{either, and-both, and-of, cond-true, cond-false, each-turn, each-none}
+use Rattle.mesh.proofs.Drawing.{in-range-says}
+use Rattle.maps.specs.declared.splits.Found.{Found}
+use Rattle.maps.specs.Plain.{Plain, meshOf}
+use Rattle.maps.specs.Splits.{given, reaching, run, containing, candidate, chosen}
+use Rattle.maps.specs.Inner.{held, withSplit, InHand, found}
+use Rattle.maps.proofs.InHand.{Given, given-says, hand-sides, hand-length, answered-sound, answered-table}
+
+module _ (P : Plain) (s : Split) where
+  -- the line of a length from a start, where it keeps to the side; those of a length from a start on
+  abbrev pub line : ℕ → ℕ → List Split
+  line n from = only (λ c. leb (c .to) (run P s)) (reaching s from n ∷ [])
+
+  abbrev pub starts : ℕ → ℕ → List Split
+  starts n from = each from (s .from + 1 - from) (line n)
+
+  -- the lines of length n and more; and those before them that are left of a length from a start on
+  abbrev pub rows : ℕ → List Split
+  rows n = each n (run P s + 1 - n) (λ k. starts k (s .to - k))
+
+  abbrev pub ahead : ℕ → ℕ → List Split
+  ahead n from = starts n from ++ rows (n + 1)
+
+  -- the first candidate of some lines
+  unfoldable pub first : List Split → List Split
+  first xs = take 1 (only (candidate P) xs)
+
+  chosen-first : s .to - s .from ≤ run P s → chosen P s ≡ first (rows (s .to - s .from))
+  unfolding chosen containing first
+  chosen-first le =
+      let e : run P s - (s .to - s .from) + 1 ≡ run P s + 1 - (s .to - s .from) = omega arith in rw e
+
+  rows-turn : (n : ℕ) → n ≤ run P s → rows n ≡ ahead n (s .to - n)
+  rows-turn n le =
+      let e : run P s + 1 - n - 1 ≡ run P s + 1 - (n + 1) = omega arith in
+      each-turn n (run P s + 1 - n) _ (omega arith) ∙ rw e
+
+  rows-none : (n : ℕ) → run P s < n → rows n ≡ []
+  rows-none n lt = each-none n (run P s + 1 - n) _ (omega arith)
+
+  starts-turn : (n from : ℕ) → from ≤ s .from → ahead n from ≡ line n from ++ ahead n (from + 1)
+  starts-turn n from le =
+      let e : s .from + 1 - from - 1 ≡ s .from + 1 - (from + 1) = omega arith in
+      rw (each-turn from (s .from + 1 - from) (line n) (omega arith), e, append-assoc)
+
+  starts-none : (n from : ℕ) → s .from < from → starts n from ≡ []
+  starts-none n from lt = each-none from (s .from + 1 - from) (line n) (omega arith)
+
+  -- a line that is no candidate is passed over, and the first that is one is taken
+  line-passed : (n from : ℕ) (more : List Split) → (from + n ≤ run P s → candidate P (reaching s from n) ≡ false) →
+      first (line n from ++ more) ≡ first more
+  unfolding first
+  line-passed n from more out =
+      ⊎-elim
+      (λ e. ap (λ (xs : List Split). first (xs ++ more)) (cond-true _ _ _ e) ∙ ap (take 1) (cond-false _ _ _ (out (leb-true _ _ e))))
+      (λ e. ap (λ (xs : List Split). first (xs ++ more)) (cond-false _ _ _ e))
+      (either (leb (from + n) (run P s)))
+
+  line-taken : (n from : ℕ) (more : List Split) → from + n ≤ run P s → candidate P (reaching s from n) ≡ true →
+      first (line n from ++ more) ≡ reaching s from n ∷ []
+  unfolding first
+  line-taken n from more le ok =
+      ap (λ (xs : List Split). first (xs ++ more)) (cond-true _ _ _ (le-leb _ _ le)) ∙ ap (take 1) (cond-true _ _ _ ok)
+
+-- a line in range keeps to its ranges with other ends within the side that it runs along
+reaching-fits : (P : Plain) (s : Split) (from n : ℕ) → inRange (P .w) (P .h) s ≡ true → 0 < n → from + n ≤ run P s →
+    inRange (P .w) (P .h) (reaching s from n) ≡ true
+unfolding inRange
+reaching-fits P s from n e lo hi =
+    ⊎-elim
+    (λ q. cond-true _ _ _ q ∙ ends-kept (P .w) (P .h) (rw q at e) (rw q at hi))
+    (λ q. let r = and-both (eqb (s .direction) 1) (fits (P .h) (P .w) s) (rw q at e) in
+    cond-false _ _ _ q ∙ and-of _ _ (r .0) (ends-kept (P .h) (P .w) (r .1) (rw q at hi)))
+    (either (eqb (s .direction) 0))
+  where
+    ends-kept : (crossed along : ℕ) → fits crossed along s ≡ true → from + n ≤ along → fits crossed along (reaching s from n) ≡ true
+    ends-kept crossed along f le =
+        let p = and-both (ltb 0 (s .position) && ltb (s .position) crossed && ltb (s .from) (s .to)) (leb (s .to) along) f in
+        let q = and-both (ltb 0 (s .position) && ltb (s .position) crossed) (ltb (s .from) (s .to)) (p .0) in
+        and-of _ _ (and-of _ _ (q .0) (lt-ltb from (from + n) (omega arith))) (le-leb (from + n) along le)
+
+-- the ends of a split in range
+pub ends-in : (P : Plain) (s : Split) → inRange (P .w) (P .h) s ≡ true → (s .from < s .to) × (s .to ≤ run P s)
+unfolding inRange
+ends-in P s e =
+    ⊎-elim (λ q. let r = in-range-says (P .w) (P .h) upright s e (eqb-true _ _ q) in rw q (r .1, r .2))
+    (λ q. let r = in-range-says (P .w) (P .h) level s e (is-level q) in rw q (r .1, r .2))
+    (either (eqb (s .direction) 0))
+  where
+    is-level : eqb (s .direction) 0 ≡ false → s .direction ≡ 1
+    is-level q = eqb-true _ _ (and-both (eqb (s .direction) 1) (fits (P .h) (P .w) s) (rw q at e) .0)
+
+-- What holds throughout the search: nothing is found yet, and the first candidate of the lines that are left is the line that the split takes.
+pub record Search (L : Lines) (t : Table) (s : Split) (side : ℕ) (answer : Found) (n : ℕ) (left : List Split) : Type 0 where
+  pub hand : InHand L t
+  pub free : Given (held L) s
+  pub is-side : side ≡ run (held L) s
+  pub long : s .to - s .from ≤ n
+  pub unfound : answer ≡ record { some = false; split = s; table = t }
+  pub rest : chosen (held L) s ≡ first (held L) s left
+
+-- it begins with all the lines from the drawn length on
+pub search-starts : {L : Lines} {t : Table} {s : Split} {side : ℕ} → InHand L t → given (held L) s ≡ 0 → side ≡ run (held L) s →
+    Search L t s side (record { some = false; split = s; table = t }) (s .to - s .from) (rows (held L) s (s .to - s .from))
+search-starts {L} {t} {s} hand e is =
+    let free = given-says (held L) s e in
+    let ends = ends-in (held L) s (free .fits) in
+    record {
+      hand = hand;
+      free = free;
+      is-side = is;
+      long = omega arith;
+      unfound = refl;
+      rest = chosen-first (held L) s (omega arith);
+    }
+
+run-most : (P : Plain) (s : Split) → P .w ≤ 128 → P .h ≤ 128 → run P s ≤ 128
+run-most P s hw hh = ⊎-elim (λ q. rw q hh) (λ q. rw q hw) (either (eqb (s .direction) 0))
+
+module _ {L : Lines} {t : Table} {s : Split} {side n : ℕ} {answer : Found} {left : List Split} (at : Search L t s side answer n left) where
+  -- what the numbers keep to
+  pub bounds : (s .from < s .to) × (s .to ≤ side) × (side ≤ 128)
+  bounds =
+      let ends = ends-in (held L) s (at .free .fits) in
+      let sides = hand-sides (at .hand) in
+      let most = run-most (held L) s (sides .across .1) (sides .up .1) in
+      let is = at .is-side in
+      (ends .0, omega arith, omega arith)
+
+  pub room : L .count < 60
+  room = omega (arith, hand-length (at .hand), at .free .room)
+
+  -- another list of lines with the same first candidate
+  onward : {m : ℕ} {next : List Split} → n ≤ m → first (held L) s left ≡ first (held L) s next → Search L t s side answer m next
+  onward le e =
+      record {
+        hand = at .hand;
+        free = at .free;
+        is-side = at .is-side;
+        long = omega (arith, at .long);
+        unfound = at .unfound;
+        rest = at .rest ∙ e;
+      }
+
+module _ {L : Lines} {t : Table} {s : Split} {side n : ℕ} {answer : Found} where
+  -- One length after the other,
+  pub search-enters : Search L t s side answer n (rows (held L) s n) → n ≤ side →
+      Search L t s side answer n (ahead (held L) s n (s .to - n))
+  search-enters at le =
+      onward at (omega arith) (ap (first (held L) s) (rows-turn (held L) s n (omega (arith, at .is-side))))
+
+  -- and one start after the other, a line that is no candidate is passed over,
+  pub search-passes : {from : ℕ} → Search L t s side answer n (ahead (held L) s n from) → from ≤ s .from →
+      (from + n ≤ side → candidate (held L) (reaching s from n) ≡ false) →
+      Search L t s side answer n (ahead (held L) s n (from + 1))
+  search-passes {from} at le out =
+      onward at (omega arith)
+      (ap (first (held L) s) (starts-turn (held L) s n from le) ∙
+      line-passed (held L) s n from (ahead (held L) s n (from + 1)) (λ in-side. out (omega (arith, at .is-side))))
+
+  pub search-leaves : {from : ℕ} → Search L t s side answer n (ahead (held L) s n from) → s .from < from →
+      Search L t s side answer (n + 1) (rows (held L) s (n + 1))
+  search-leaves {from} at lt =
+      onward at (omega arith)
+      (ap (λ (xs : List Split). first (held L) s (xs ++ rows (held L) s (n + 1))) (starts-none (held L) s n from lt))
+
+  -- until the lines run out.
+  pub search-fails : Search L t s side answer n (rows (held L) s n) → side < n → answer ≡ found L t s (chosen (held L) s)
+  unfolding found first
+  search-fails at lt =
+      at .unfound ∙
+      sym (ap (found L t s) (at .rest ∙ ap (first (held L) s) (rows-none (held L) s n (omega (arith, at .is-side)))))
+
+-- A line that is tried: whether it may stand,
+module _ {L : Lines} {t : Table} {s : Split} {side n : ℕ} {answer : Found} (from : ℕ) (at : Search L t s side answer n (ahead (held L) s n from))
+    {r : Bool} (e : let c = reaching s from n in
+    r ≡ (inRange (L .w) (L .h) c && ended (meshOf (held L)) c && not (shares (meshOf (held L)) c))) where
+  pub tried-falls : r ≡ false → from + n ≤ side → candidate (held L) (reaching s from n) ≡ false
+  unfolding candidate
+  tried-falls q le =
+      let b = bounds at in
+      let in-range = reaching-fits (held L) s from n (at .free .fits) (omega (arith, at .long)) (omega (arith, at .is-side)) in
+      let none = rw in-range at (sym e ∙ q) in
+      rw none
+
+  -- and if so, whether it leaves a sound map.
+  module _ (q : r ≡ true) {next : Lines} {R : Refined} (more : next ≡ withSplit L (reaching s from n)) (refines : R ≡ refined next t) where
+    ends-apart : (inRange (L .w) (L .h) (reaching s from n) && ended (meshOf (held L)) (reaching s from n) ≡ true) ×
+        (not (shares (meshOf (held L)) (reaching s from n)) ≡ true)
+    ends-apart = and-both _ _ (sym e ∙ q)
+
+    in-range : inRange (L .w) (L .h) (reaching s from n) ≡ true
+    in-range = and-both _ (ended (meshOf (held L)) (reaching s from n)) (ends-apart .0) .0
+
+    pub tried-candidate : candidate (held L) (reaching s from n) ≡ R .sound
+    unfolding candidate
+    tried-candidate =
+        rw (and-both (inRange (L .w) (L .h) (reaching s from n)) _ (ends-apart .0) .1, ends-apart .1)
+        (sym (answered-sound (at .hand) (reaching s from n) in-range (room at) more refines))
+
+    pub tried-found : from ≤ s .from → R .sound ≡ true →
+        record { some = true; split = reaching s from n; table = R .table } ≡ found L t s (chosen (held L) s)
+    unfolding found
+    tried-found le o =
+        let ends = ends-in (held L) (reaching s from n) in-range in
+        let sounds = sym (answered-sound (at .hand) (reaching s from n) in-range (room at) more refines) ∙ o in
+        ap (λ (T : Table). record { some = true; split = reaching s from n; table = T })
+        (answered-table (at .hand) (reaching s from n) in-range (room at) more refines sounds) ∙
+        sym (ap (found L t s)
+        (at .rest ∙ ap (first (held L) s) (starts-turn (held L) s n from le) ∙
+        line-taken (held L) s n from (ahead (held L) s n (from + 1)) (ends .1) (tried-candidate ∙ o)))

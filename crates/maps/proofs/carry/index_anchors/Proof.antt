@@ -1,0 +1,119 @@
+-- `maps::carry::index_anchors` meets its contract. The invariant: the blends that remain, noted in the index as it is, give the whole index.
+use Prim.Native.Nat.{_+_, _-_, _≤_, _<_}
+use native.Mathlib.Omega.{arith}
+use mathlib.Core.Path.{_≡_, refl}
+use mathlib.Core.Bool.{true}
+use mathlib.Core.List.{_∷_}
+use lib.ListN.{drop, getD, length, length-map, length-set}
+use Rattle.mesh.specs.Range.{all}
+use Rattle.mesh.specs.Sound.{proper, none, blendsOf}
+use Rattle.mesh.specs.Bytes.{place}
+use Rattle.mesh.proofs.Tests.{and-both}
+use Rattle.mesh.proofs.Cutting.{blends-turn, blends-end, proper-of}
+use Rattle.maps.specs.Inner.{anchorIndex}
+use Rattle.maps.proofs.carry.index_anchors.Statement.{statement}
+use Rattle.maps.proofs.carry.index_anchors.Tie as tie
+
+abbrev Inv-loop : tie.InvT-loop
+Inv-loop index₀ table count i₀ index i =
+    (i ≤ count) × (length index ≡ length index₀) × (all (proper 128 128) (drop i (blendsOf table)) ≡ true) ×
+    (anchorIndex index i (drop i (blendsOf table)) ≡ anchorIndex index₀ 0 (blendsOf table))
+
+abbrev μ-loop : tie.MeasureT-loop
+μ-loop index₀ table count i₀ index i = count - i
+
+loop-holds : tie.Need-loop-holds Inv-loop μ-loop
+loop-holds c = (omega arith, refl, c .pre .2, refl)
+
+-- the next blend, and those behind it
+turn : (c : tie.In-loop Inv-loop μ-loop) →
+    let l = c .before .loop in
+    let a = c .before .before .args in
+    drop (l .i) (blendsOf (a .t1)) ≡ getD (a .t1 .blends) (l .i) none ∷ drop (l .i + 1) (blendsOf (a .t1))
+turn c =
+    let l = c .before .loop in
+    let b = c .before .before in
+    let full : length (b .args .t1 .blends) ≡ 1024 = simp length-map at (b .good .0 .1 .1 .1 .0 .1 .0 .1) in
+    blends-turn (b .args .t1) (l .i) (omega arith) (omega arith)
+
+-- its anchor has a place in the index, and the others are proper still
+next-turn : (c : tie.In-loop Inv-loop μ-loop) →
+    let l = c .before .loop in
+    let a = c .before .before .args in
+    (place (getD (a .t1 .blends) (l .i) none) < 17161) × (all (proper 128 128) (drop (l .i + 1) (blendsOf (a .t1))) ≡ true)
+next-turn c =
+    let l = c .before .loop in
+    let a = c .before .before .args in
+    let x = getD (a .t1 .blends) (l .i) none in
+    let p = and-both (proper 128 128 x) (all (proper 128 128) (drop (l .i + 1) (blendsOf (a .t1)))) (rw (turn c) at (l .inv .2)) in
+    let q = proper-of 128 128 x (omega arith) (omega arith) (p .0) in
+    let across = q .across in
+    let up = q .up in
+    (omega arith, p .1)
+
+mul-x : tie.Need-mul-x Inv-loop μ-loop
+mul-x c = omega arith
+
+element-copy-out-x : tie.Need-element-copy-out-x Inv-loop μ-loop
+element-copy-out-x c = omega arith
+
+mul-place : tie.Need-mul-place Inv-loop μ-loop
+mul-place c = omega (arith, next-turn (c .before .before) .0)
+
+add-place : tie.Need-add-place Inv-loop μ-loop
+add-place c = omega (arith, next-turn (c .before .before .before) .0)
+
+add-i : tie.Need-add-i Inv-loop μ-loop
+add-i c = omega arith
+
+cast-index : tie.Need-cast-index Inv-loop μ-loop
+cast-index c = omega arith
+
+mul-index : tie.Need-mul-index Inv-loop μ-loop
+mul-index c = omega (arith, next-turn (c .before .before .before) .0)
+
+slice-write-index : tie.Need-slice-write-index Inv-loop μ-loop
+slice-write-index c = omega (arith, next-turn (c .before .before .before) .0)
+
+loop-less : tie.Need-loop-less Inv-loop μ-loop
+loop-less c = omega arith
+
+loop-again : tie.Need-loop-again Inv-loop μ-loop
+unfolding anchorIndex
+loop-again c =
+    let l = c .before .before .before .before .loop in
+    let t = c .before .before .before in (
+      omega arith,
+      simp length-set (l .inv .1),
+      next-turn t .1,
+      rw (turn t) at (l .inv .3),
+    )
+
+same-length : tie.Need-same-length Inv-loop μ-loop
+same-length c = c .before .loop .inv .1
+
+returns : tie.Need-returns Inv-loop μ-loop
+unfolding anchorIndex
+returns c =
+    let l = c .before .loop in
+    rw (blends-end (c .before .before .args .t1) (l .i) (omega arith)) at (l .inv .3)
+
+pub index-anchors-spec : {M : Type 1} → statement M
+index-anchors-spec =
+    tie.close
+    (tie.spec
+    Inv-loop
+    μ-loop
+    loop-holds
+    mul-x
+    element-copy-out-x
+    mul-place
+    add-place
+    add-i
+    cast-index
+    mul-index
+    slice-write-index
+    loop-less
+    loop-again
+    same-length
+    returns)

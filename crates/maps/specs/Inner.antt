@@ -1,0 +1,76 @@
+-- What the maps' own functions work on. Only contracts of functions that the crate keeps to itself cite this file.
+use Prim.Native.Nat.{ℕ, _+_, _-_, _≤_, _<_}
+use mathlib.Core.Path.{_≡_}
+use mathlib.Core.Bool.{Bool, true, false, cond}
+use mathlib.Core.List.{List, [], _∷_, _++_, map}
+use lib.Dec.{eqb}
+use lib.ListN.{length, take, set, replicate}
+use Rattle.mesh.specs.declared.Split.{Split}
+use Rattle.mesh.specs.declared.Lines.{Lines}
+use Rattle.mesh.specs.declared.Table.{Table}
+use Rattle.mesh.specs.declared.Blend.{Blend}
+use Rattle.mesh.specs.Lines.{splitsOf, allowed}
+use Rattle.mesh.specs.Sound.{sound, table}
+use Rattle.mesh.specs.Bytes.{place}
+use Rattle.maps.specs.declared.Map.{Map}
+use Rattle.maps.specs.declared.splits.Step.{Step}
+use Rattle.maps.specs.declared.record.Opened.{Opened}
+use Rattle.maps.specs.declared.splits.Found.{Found}
+use Rattle.maps.specs.Plain.{Plain, blends}
+use Rattle.maps.specs.Values.{carried}
+use Rattle.maps.specs.Splits.{given, exactNumber, withLine, chosen}
+use Rattle.maps.specs.Record.{good, bare, noSplit}
+
+-- the lines of a record, as a struct; and what a struct of lines holds, without values
+abbrev pub linesOf : Map → Lines
+linesOf m = record { w = m .w; h = m .h; count = m .count; splits = m .splits }
+
+abbrev pub held : Lines → Plain
+held L = record { w = L .w; h = L .h; splits = splitsOf L; values = [] }
+
+-- the lines with one split more
+abbrev pub withSplit : Lines → Split → Lines
+withSplit L s = record { w = L .w; h = L .h; count = L .count + 1; splits = set (L .splits) (L .count) s }
+
+-- a table in hand is that of the live blends of sound lines
+pub record InHand (L : Lines) (t : Table) : Type 0 where
+  pub allowed? : allowed L ≡ true
+  pub places : length (L .splits) ≡ 60
+  pub is-sound : sound (L .w) (L .h) (blends (held L)) ≡ true
+  pub is-table : t ≡ table (blends (held L))
+
+-- one exact split: its number, and the table after it, or the old one on a refusal
+unfoldable pub stepped : Lines → Table → Split → Step
+stepped L t s =
+    let n = exactNumber (held L) s in
+    record { number = n; table = cond (eqb n 0) (table (blends (withLine (held L) s))) t }
+
+-- a record opened: whether it is good, and then the table of its live blends
+unfoldable pub opened : Map → Opened
+opened m =
+    cond (good m) (record { good = true; table = table (blends (bare m)) }) (record { good = false; table = table [] })
+
+-- the line that a lengthened split takes, and the table after it
+unfoldable pub found : Lines → Table → Split → List Split → Found
+found L t s [] = record { some = false; split = s; table = t }
+found L t s (c ∷ cs) = record { some = true; split = c; table = table (blends (withLine (held L) c)) }
+
+-- the values after a split, in an array
+unfoldable pub carriedArray : List Blend → List ℕ → List Blend → List ℕ
+carriedArray old vs new = map (carried old vs) new ++ replicate (1024 - length new) 0
+
+-- the places of a table's blends, from 1, noted at their anchors
+unfoldable pub anchorIndex : List ℕ → ℕ → List Blend → List ℕ
+anchorIndex index i [] = index
+anchorIndex index i (B ∷ bs) = anchorIndex (set index (place B) (i + 1)) (i + 1) bs
+
+-- a table of the live blends of some sound map of these sides, and an array that begins with their values
+pub record InTable (w h : ℕ) (t : Table) (values : List ℕ) : Type 0 where
+  pub of : Plain
+  pub across : of .w ≡ w
+  pub up : of .h ≡ h
+  pub sides : (1 ≤ w) × (w ≤ 128) × (1 ≤ h) × (h ≤ 128)
+  pub is-sound : sound w h (blends of) ≡ true
+  pub is-table : t ≡ table (blends of)
+  pub is-short : length (blends of) ≤ 1024
+  pub are-values : of .values ≡ take (length (blends of)) values

@@ -1,0 +1,147 @@
+// Splits: the refusals in their order, the exact step, and the search for a longer line.
+use mesh::Lines;
+use mesh::Split;
+use mesh::Table;
+use mesh::blends::refine;
+use mesh::blends::some_cut;
+use mesh::points::ends_on_lines;
+use mesh::points::fits_sides;
+use mesh::points::shares_stretch;
+ghost use mathlib.Core.Path.{_≡_};
+ghost use mathlib.Core.Bool.{true, _&&_, not};
+ghost use Prim.Native.Nat.{_<_};
+ghost use Rattle.mesh.specs.Lines.{allowed, inRange, ended, shares, meshOf};
+ghost use Rattle.maps.specs.Splits.{given, chosen};
+ghost use Rattle.maps.specs.Inner.{held, withSplit, InHand, stepped, found};
+
+// A split's number, and the table of blends after it.
+pub struct Step {
+    pub number: usize,
+    pub table: Table,
+}
+
+// Whether a longer line was found, the line, and the table of blends after it.
+pub struct Found {
+    pub some: bool,
+    pub split: Split,
+    pub table: Table,
+}
+
+// The lines with one split more.
+pub(crate) fn with_split(lines: Lines, s: Split) -> Lines
+    requires { ⌜ lines .count < 60 ⌝ }
+    ensures { λ r. ⌜ r ≡ withSplit lines s ⌝ }
+{
+    let mut next = lines;
+    let at = next.count;
+    next.splits[at] = s;
+    next.count = at + 1;
+    next
+}
+
+// Refusals 3 to 7, in their order, on the split as given; 0 where none applies.
+pub(crate) fn given_number(lines: Lines, live: Table, s: Split) -> usize
+    requires { ⌜ InHand lines live ⌝ }
+    ensures { λ r. ⌜ r ≡ given (held lines) s ⌝ }
+{
+    if !fits_sides(lines.w, lines.h, s) {
+        return 3;
+    }
+    if 60 <= lines.count {
+        return 4;
+    }
+    if shares_stretch(lines, s) {
+        return 5;
+    }
+    if !ends_on_lines(lines, s) {
+        return 6;
+    }
+    if !some_cut(with_split(lines, s), live) {
+        return 7;
+    }
+    0
+}
+
+// An exact split on lines whose live blends are in hand.
+pub(crate) fn exact_step(lines: Lines, live: Table, s: Split) -> Step
+    requires { ⌜ InHand lines live ⌝ }
+    ensures { λ r. ⌜ r ≡ stepped lines live s ⌝ }
+{
+    let number = given_number(lines, live, s);
+    if number != 0 {
+        return Step {
+            number: number,
+            table: live,
+        };
+    }
+    let next = refine(with_split(lines, s), live);
+    if !next.sound {
+        return Step {
+            number: 8,
+            table: live,
+        };
+    }
+    let t = next.table;
+    Step {
+        number: 0,
+        table: t,
+    }
+}
+
+// Whether a line has both ends on crossing lines and shares no stretch with a line at its position; no where it is out of range.
+fn may_stand(lines: Lines, c: Split) -> bool
+    requires { ⌜ allowed lines ≡ true ⌝ }
+    ensures { λ r. ⌜ r ≡ (inRange (lines .w) (lines .h) c && ended (meshOf lines) c && not (shares (meshOf lines) c)) ⌝ }
+{
+    if !ends_on_lines(lines, c) {
+        return false;
+    }
+    !shares_stretch(lines, c)
+}
+
+// The line that a lengthened split takes: nested loops over length and start, left with the first sound line.
+// A line that would reach past the side is out of range, and may not stand.
+pub(crate) fn longer_line(lines: Lines, live: Table, s: Split) -> Found
+    requires { ⌜ InHand lines live × (given (held lines) s ≡ 0) ⌝ }
+    ensures { λ r. ⌜ r ≡ found lines live s (chosen (held lines) s) ⌝ }
+{
+    let mut run = lines.w;
+    if s.direction == 0 {
+        run = lines.h;
+    }
+    let mut answer = Found {
+        some: false,
+        split: s,
+        table: live,
+    };
+    let mut length = s.to - s.from;
+    'search: while length <= run {
+        let mut from = 0;
+        if length < s.to {
+            from = s.to - length;
+        }
+        while from <= s.from {
+            let c = Split {
+                direction: s.direction,
+                position: s.position,
+                from: from,
+                to: from + length,
+            };
+            if may_stand(lines, c) {
+                let next = refine(with_split(lines, c), live);
+                if next.sound {
+                    let t = next.table;
+                    answer = Found {
+                        some: true,
+                        split: c,
+                        table: t,
+                    };
+                    break 'search;
+                }
+            }
+            from += 1;
+        }
+        length += 1;
+    }
+    answer
+}
