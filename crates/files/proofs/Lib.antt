@@ -4,3 +4,6 @@ pub mod Putting
 pub mod Taking
 pub mod RoundTrip
 pub mod Terms
+pub mod Filing
+pub mod Reading
+pub mod GoodFiles

@@ -160,10 +160,10 @@ module _ (P : Plain) (ok : Fits P) where
 
 -- the record of a map holds the map's lines, and its values where they are as many as its blends
 module _ (P : Plain) where
-  held-lines : take (length (P .splits)) (P .splits ++ replicate (60 - length (P .splits)) noSplit) ≡ P .splits
+  pub held-lines : take (length (P .splits)) (P .splits ++ replicate (60 - length (P .splits)) noSplit) ≡ P .splits
   held-lines = take-append-seam (P .splits) _
 
-  held-values : length (blends P) ≤ 1024 → length (plain (recordOf P) .values) ≡ length (blends (plain (recordOf P)))
+  pub held-values : length (blends P) ≤ 1024 → length (plain (recordOf P) .values) ≡ length (blends (plain (recordOf P)))
   unfolding recordOf plain
   held-values few =
       rw held-lines
