@@ -9,7 +9,7 @@ use borrow.Author.Tests.{leb-true, eqb-true}
 use lib.Dec.{leb, eqb}
 use lib.ListN.{length, drop, take-append-drop}
 use Rattle.mesh.specs.declared.Split.{Split}
-use Rattle.mesh.specs.Lines.{Direction, upright, level, number, allowedSide, inRange}
+use Rattle.mesh.specs.Lines.{Direction, upright, level, number, side, other, allowedSide, inRange}
 use Rattle.mesh.proofs.Tests.{either, and-both, all-at}
 use Rattle.mesh.proofs.Drawing.{in-range-says}
 use Rattle.maps.specs.declared.Map.{Map}
@@ -25,20 +25,31 @@ use Rattle.files.proofs.Reading.{good-replays, good-short}
 most : (s : ℕ) → allowedSide s ≡ true → s ≤ 128
 most s e = leb-true s 128 (and-both (leb 1 s) (leb s 128) e .1)
 
--- numbers in range are numbers of 16 bits
-small-at : (w h : ℕ) → w ≤ 128 → h ≤ 128 → (d : Direction) (s : Split) → inRange w h s ≡ true → s .direction ≡ number d → Small s
-small-at w h hw hh upright s e q =
-    let r = in-range-says w h upright s e q in record { direction = omega arith; position = omega (arith, r .0); from = omega (arith, r .1, r .2); to = omega (arith, r .2) }
-small-at w h hw hh level s e q =
-    let r = in-range-says w h level s e q in record { direction = omega arith; position = omega (arith, r .0); from = omega (arith, r .1, r .2); to = omega (arith, r .2) }
+side-most : (d : Direction) (w h : ℕ) → w ≤ 128 → h ≤ 128 → (side d w h ≤ 128) × (number d < 2)
+side-most upright w h hw hh = (hw, omega arith)
+side-most level w h hw hh = (hh, omega arith)
 
-small : (w h : ℕ) → w ≤ 128 → h ≤ 128 → (s : Split) → inRange w h s ≡ true → Small s
-unfolding inRange
-small w h hw hh s e =
-    ⊎-elim (λ (t : eqb (s .direction) 0 ≡ true). small-at w h hw hh upright s e (eqb-true _ _ t))
-    (λ (f : eqb (s .direction) 0 ≡ false).
-    small-at w h hw hh level s e (eqb-true _ _ (and-both (eqb (s .direction) 1) _ (rw f at e) .0)))
-    (either (eqb (s .direction) 0))
+-- numbers in range are numbers of 16 bits
+module _ (w h : ℕ) (hw : w ≤ 128) (hh : h ≤ 128) (s : Split) (e : inRange w h s ≡ true) where
+  small-at : (d : Direction) → s .direction ≡ number d → Small s
+  small-at d q =
+      let r = in-range-says w h d s e q in
+      let a = side-most d w h hw hh in
+      let b = side-most (other d) w h hw hh in
+      record {
+        direction = omega (arith, a .1);
+        position = omega (arith, r .0, a .0);
+        from = omega (arith, r .1, r .2, b .0);
+        to = omega (arith, r .2, b .0);
+      }
+
+  small : Small s
+  unfolding inRange
+  small =
+      ⊎-elim (λ (t : eqb (s .direction) 0 ≡ true). small-at upright (eqb-true _ _ t))
+      (λ (f : eqb (s .direction) 0 ≡ false).
+      small-at level (eqb-true _ _ (and-both (eqb (s .direction) 1) _ (rw f at e) .0)))
+      (either (eqb (s .direction) 0))
 
 module _ (P : Plain) (values : (v : ℕ) → List·Memᴰ v (P .values) → v < 65536) (full : length (P .values) ≡ length (blends P)) where
   good-fits : Replays P → Fits P

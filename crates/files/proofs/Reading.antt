@@ -22,7 +22,7 @@ use Rattle.files.specs.File.{fileOf, splitCount, guessed, sameBytes}
 use Rattle.files.specs.Calls.{written, after, readFile}
 use Rattle.files.proofs.Words.{same-bytes, bytes-same}
 use Rattle.files.proofs.Taking.{count-few}
-use Rattle.files.proofs.RoundTrip.{file-length, held-lines, held-values, told, guessed-splits, is-read, is-refused}
+use Rattle.files.proofs.RoundTrip.{held-lines, told, told-length, guessed-splits, is-read, is-refused}
 use Rattle.files.proofs.Filing.{write-bad, write-short, write-whole}
 
 -- a good record's lines, and how few blends they have
@@ -71,12 +71,10 @@ module _ (bytes : List ℕ) where
     pub most : length bytes ≤ 12 + 12 * splitCount bytes 8 60 + 10240
 
   pub file-lengths : good (told bytes) ≡ true → bytes ≡ fileOf (plain (told bytes)) → FileLength
-  unfolding recordOf plain
   file-lengths g e =
       let few = good-short (guessed bytes) g in
-      let long : length bytes ≡ 12 + 12 * length (guessed bytes .splits) + 10 * length (blends (guessed bytes)) =
-      ap length e ∙ file-length (plain (told bytes)) (held-values (guessed bytes) few) ∙ rw (held-lines (guessed bytes)) in
-      record { least = omega (arith, guessed-splits bytes); most = omega (arith, guessed-splits bytes) }
+      let long = told-length bytes few e in
+      record { least = omega (arith, long, guessed-splits bytes); most = omega (arith, long, guessed-splits bytes) }
 
   -- the map that they tell, written into a buffer that any file fits
   module _ (m : Map) (is : m ≡ told bytes) where

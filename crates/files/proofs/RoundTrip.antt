@@ -209,13 +209,14 @@ module _ (bytes : List ℕ) where
       (λ f. let z : _≡_ {A = ℕ} 11 0 = rw f at e in absurd (omega arith))
       (either isFile)
 
-  -- it has a value for each blend, so the map that is read is the one whose file it is
-  pub all-values : length (blends (guessed bytes)) ≤ 1024 → bytes ≡ fileOf (plain told) → plain told ≡ guessed bytes
-  unfolding recordOf plain
-  all-values few e =
-      let long : length bytes ≡ 12 + 12 * length (guessed bytes .splits) + 10 * length (blends (guessed bytes)) =
-      ap length e ∙ file-length (plain told) (held-values (guessed bytes) few) ∙ rw (held-lines (guessed bytes)) in
-      is-held (guessed bytes) (omega (arith, guessed-values))
+  -- It has a value for each blend, so the map that is read is the one whose file it is.
+  module _ (few : length (blends (guessed bytes)) ≤ 1024) (e : bytes ≡ fileOf (plain told)) where
+    pub told-length : length bytes ≡ 12 + 12 * length (guessed bytes .splits) + 10 * length (blends (guessed bytes))
+    unfolding recordOf plain
+    told-length = ap length e ∙ file-length (plain told) (held-values (guessed bytes) few) ∙ rw (held-lines (guessed bytes))
+
+    pub all-values : plain told ≡ guessed bytes
+    all-values = is-held (guessed bytes) (omega (arith, guessed-values, told-length))
 
 -- So a written map reads back.
 pub written-reads : (P : Plain) → Fits P → good (recordOf P) ≡ true → readFile (fileOf P) ≡ changed 0 (recordOf P)

@@ -39,20 +39,12 @@ module _ (bytes : List ℕ) where
   no-more at zero f = refl
   no-more at (suc most) f = cond-false _ _ _ (false-of _ (λ t. f (omega arith) (here-says at t)))
 
-  -- those that are counted are few, and stand within the bytes
+  -- no more are counted than are looked for
   pub count-few : (at most : ℕ) → splitCount bytes at most ≤ most
   unfolding splitCount
   count-few at zero = omega arith
   count-few at (suc most) =
       ⊎-elim (λ t. rw (one-more at most (here-says at t)) (omega (arith, count-few (at + 12) most)))
-      (λ f. rw f (omega arith))
-      (either (leb (at + 12) (length bytes) && eqb (wordAt bytes (at + 2)) 2))
-
-  pub count-room : (at most : ℕ) → at ≤ length bytes → at + 12 * splitCount bytes at most ≤ length bytes
-  unfolding splitCount
-  count-room at zero le = omega arith
-  count-room at (suc most) le =
-      ⊎-elim (λ t. let h = here-says at t in rw (one-more at most h) (omega (arith, count-room (at + 12) most (h .fits))))
       (λ f. rw f (omega arith))
       (either (leb (at + 12) (length bytes) && eqb (wordAt bytes (at + 2)) 2))
 

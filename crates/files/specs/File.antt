@@ -3,15 +3,12 @@ use Prim.Native.Nat.{ℕ, zero, suc, _+_, _-_, _*_, _/_, _%_}
 use mathlib.Core.Bool.{Bool, true, false, cond, _&&_}
 use mathlib.Core.List.{List, [], _∷_, _++_}
 use lib.Dec.{leb, eqb}
-use lib.ListN.{length, getD, take, drop, replicate}
+use lib.ListN.{length, getD, take, drop}
 use Rattle.mesh.specs.declared.Split.{Split}
-use Rattle.mesh.specs.declared.Blend.{Blend}
 use Rattle.mesh.specs.Range.{joined, each}
 use Rattle.mesh.specs.Weight.{Term}
-use Rattle.maps.specs.declared.Map.{Map}
 use Rattle.maps.specs.Plain.{Plain, blends}
 use Rattle.maps.specs.Values.{paired}
-use Rattle.maps.specs.Record.{recordOf}
 
 -- "16-bit numbers, little-endian"
 abbrev pub word : ℕ → List ℕ
