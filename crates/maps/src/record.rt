@@ -103,7 +103,7 @@ fn no_lines(w: usize, h: usize) -> Lines
 }
 
 // Opens a record: tests whether it is good, and gives the table of its live blends.
-pub(crate) fn open(map: Map) -> Opened
+pub fn open(map: Map) -> Opened
     ensures { λ r. ⌜ r ≡ opened map ⌝ }
 {
     let refused = Opened {
