@@ -33,7 +33,8 @@ use Rattle.maps.specs.Values.{placeOf, carried}
 use Rattle.maps.specs.Splits.{given, exactNumber, containing, candidate, chosen, drawn, withLine, soundWith}
 use Rattle.maps.specs.Record.{noSplit, recordOf, bare, plain, good}
 use Rattle.maps.specs.Calls.{changed, drawnFirst, setPlain, setValue}
-use Rattle.maps.specs.Inner.{linesOf, held, InHand, InTable, opened, stepped, found, carriedArray}
+use Rattle.maps.specs.Inner.{linesOf, held, InHand, InTable, stepped, found, carriedArray}
+use Rattle.maps.specs.Record.{opened}
 use Rattle.maps.proofs.Map.{the-type}
 use Rattle.maps.proofs.Exact.{entry}
 use Rattle.maps.proofs.Readings.{place-found}

@@ -25,7 +25,8 @@ use Rattle.maps.specs.declared.splits.Step.{Step}
 use Rattle.maps.specs.Plain.{Plain, blends}
 use Rattle.maps.specs.Splits.{exactNumber, withLine}
 use Rattle.maps.specs.Record.{noSplit, isNoSplit, bare, accepted, good}
-use Rattle.maps.specs.Inner.{held, withSplit, InHand, stepped, opened}
+use Rattle.maps.specs.Inner.{held, withSplit, InHand, stepped}
+use Rattle.maps.specs.Record.{opened}
 use Rattle.maps.proofs.InHand.{hand-held, hand-sides, hand-next, hand-fresh, table-blends, table-count}
 
 -- a test of the entries from a place on, as a loop takes them

@@ -14,12 +14,10 @@ use Rattle.mesh.specs.Sound.{sound, table}
 use Rattle.mesh.specs.Bytes.{place}
 use Rattle.maps.specs.declared.Map.{Map}
 use Rattle.maps.specs.declared.splits.Step.{Step}
-use Rattle.maps.specs.declared.record.Opened.{Opened}
 use Rattle.maps.specs.declared.splits.Found.{Found}
 use Rattle.maps.specs.Plain.{Plain, blends}
 use Rattle.maps.specs.Values.{carried}
 use Rattle.maps.specs.Splits.{given, exactNumber, withLine, chosen}
-use Rattle.maps.specs.Record.{good, bare, noSplit}
 
 -- the lines of a record, as a struct; and what a struct of lines holds, without values
 abbrev pub linesOf : Map → Lines
@@ -44,11 +42,6 @@ unfoldable pub stepped : Lines → Table → Split → Step
 stepped L t s =
     let n = exactNumber (held L) s in
     record { number = n; table = cond (eqb n 0) (table (blends (withLine (held L) s))) t }
-
--- a record opened: whether it is good, and then the table of its live blends
-unfoldable pub opened : Map → Opened
-opened m =
-    cond (good m) (record { good = true; table = table (blends (bare m)) }) (record { good = false; table = table [] })
 
 -- the line that a lengthened split takes, and the table after it
 unfoldable pub found : Lines → Table → Split → List Split → Found

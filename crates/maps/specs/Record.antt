@@ -1,13 +1,15 @@
 -- Document 01, "Values, readings, splits": the record of a map, and when it is good.
 use Prim.Native.Nat.{ℕ, _-_}
-use mathlib.Core.Bool.{Bool, true, _&&_}
+use mathlib.Core.Bool.{Bool, true, false, cond, _&&_}
 use mathlib.Core.List.{List, [], _∷_, _++_}
 use lib.Dec.{leb, eqb}
 use lib.ListN.{length, take, drop, replicate}
 use Rattle.mesh.specs.declared.Split.{Split}
 use Rattle.mesh.specs.Range.{all}
 use Rattle.mesh.specs.Lines.{allowedSide}
+use Rattle.mesh.specs.Sound.{table}
 use Rattle.maps.specs.declared.Map.{Map}
+use Rattle.maps.specs.declared.record.Opened.{Opened}
 use Rattle.maps.specs.Plain.{Plain, blends}
 use Rattle.maps.specs.Splits.{exactNumber, withLine}
 
@@ -48,3 +50,8 @@ good m =
     allowedSide (m .w) && allowedSide (m .h) && leb (m .count) 60 &&
     accepted (record { w = m .w; h = m .h; splits = []; values = [] }) (take (m .count) (m .splits)) &&
     all isNoSplit (drop (m .count) (m .splits)) && all (λ v. eqb v 0) (drop (length (blends (bare m))) (m .values))
+
+-- A record opened: whether it is good, and then the table of its live blends.
+unfoldable pub opened : Map → Opened
+opened m =
+    cond (good m) (record { good = true; table = table (blends (bare m)) }) (record { good = false; table = table [] })

@@ -1,7 +1,7 @@
 // Maps: a pump's lines and values, and the calls on them. The second of the three layers.
 mod calls;
 mod carry;
-mod record;
+pub mod record;
 mod sameness;
 mod splits;
 mod values;

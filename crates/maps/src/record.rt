@@ -16,7 +16,7 @@ ghost use Rattle.mesh.specs.Sound.{table};
 ghost use lib.ListN.{drop, replicate};
 ghost use Rattle.mesh.specs.Range.{all};
 ghost use Rattle.maps.specs.Record.{noSplit, isNoSplit};
-ghost use Rattle.maps.specs.Inner.{opened};
+ghost use Rattle.maps.specs.Record.{opened};
 
 // Whether a record is good, and then the table of its live blends.
 pub struct Opened {
@@ -103,7 +103,7 @@ fn no_lines(w: usize, h: usize) -> Lines
 }
 
 // Opens a record: tests whether it is good, and gives the table of its live blends.
-pub(crate) fn open(map: Map) -> Opened
+pub fn open(map: Map) -> Opened
     ensures { λ r. ⌜ r ≡ opened map ⌝ }
 {
     let refused = Opened {

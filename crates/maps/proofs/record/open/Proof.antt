@@ -14,7 +14,7 @@ use Rattle.mesh.proofs.Tests.{true-not-false}
 use Rattle.maps.specs.declared.record.Opened.{Opened}
 use Rattle.maps.specs.Plain.{blends}
 use Rattle.maps.specs.Record.{bare, accepted}
-use Rattle.maps.specs.Inner.{opened}
+use Rattle.maps.specs.Record.{opened}
 use Rattle.maps.proofs.InHand.{table-count}
 use Rattle.maps.proofs.Replay.{isZero, Passes, upTo, not-opened, is-opened, live-fresh, Replayed, replayed-none, replayed-more, replayed-stop, replayed-done}
 use Rattle.maps.proofs.record.open.Statement.{statement}

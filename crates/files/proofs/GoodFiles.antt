@@ -1,0 +1,88 @@
+-- The files of good records: a written map reads back, and an accepted file is the writer's.
+use Prim.Native.Nat.{ℕ, _≤_, _<_}
+use native.Mathlib.Omega.{arith}
+use mathlib.Core.Path.{_≡_, ap, _∙_}
+use mathlib.Core.Logic.{⊎-elim}
+use mathlib.Core.Bool.{true, false}
+use mathlib.Core.List.{List, List·Memᴰ, Memᴰ·append-left}
+use borrow.Author.Tests.{leb-true, eqb-true}
+use lib.Dec.{leb, eqb}
+use lib.ListN.{length, drop, take-append-drop}
+use Rattle.mesh.specs.declared.Split.{Split}
+use Rattle.mesh.specs.Lines.{Direction, upright, level, number, side, other, allowedSide, inRange}
+use Rattle.mesh.proofs.Tests.{either, and-both, all-at}
+use Rattle.mesh.proofs.Drawing.{in-range-says}
+use Rattle.maps.specs.declared.Map.{Map}
+use Rattle.maps.specs.Plain.{Plain, blends}
+use Rattle.maps.specs.Record.{bare, recordOf, plain, good}
+use Rattle.maps.specs.Calls.{changed}
+use Rattle.maps.proofs.Good.{Replays, replays-stands, good-facts}
+use Rattle.files.specs.File.{fileOf, guessed}
+use Rattle.files.specs.Calls.{readFile}
+use Rattle.files.proofs.RoundTrip.{Small, Fits, accepted-file, all-values, written-reads}
+use Rattle.files.proofs.Reading.{good-replays, good-short}
+
+most : (s : ℕ) → allowedSide s ≡ true → s ≤ 128
+most s e = leb-true s 128 (and-both (leb 1 s) (leb s 128) e .1)
+
+side-most : (d : Direction) (w h : ℕ) → w ≤ 128 → h ≤ 128 → (side d w h ≤ 128) × (number d < 2)
+side-most upright w h hw hh = (hw, omega arith)
+side-most level w h hw hh = (hh, omega arith)
+
+-- numbers in range are numbers of 16 bits
+module _ (w h : ℕ) (hw : w ≤ 128) (hh : h ≤ 128) (s : Split) (e : inRange w h s ≡ true) where
+  small-at : (d : Direction) → s .direction ≡ number d → Small s
+  small-at d q =
+      let r = in-range-says w h d s e q in
+      let a = side-most d w h hw hh in
+      let b = side-most (other d) w h hw hh in
+      record {
+        direction = omega (arith, a .1);
+        position = omega (arith, r .0, a .0);
+        from = omega (arith, r .1, r .2, b .0);
+        to = omega (arith, r .2, b .0);
+      }
+
+  small : Small s
+  unfolding inRange
+  small =
+      ⊎-elim (λ (t : eqb (s .direction) 0 ≡ true). small-at upright (eqb-true _ _ t))
+      (λ (f : eqb (s .direction) 0 ≡ false).
+      small-at level (eqb-true _ _ (and-both (eqb (s .direction) 1) _ (rw f at e) .0)))
+      (either (eqb (s .direction) 0))
+
+module _ (P : Plain) (values : (v : ℕ) → List·Memᴰ v (P .values) → v < 65536) (full : length (P .values) ≡ length (blends P)) where
+  good-fits : Replays P → Fits P
+  good-fits r =
+      let hw = most (P .w) (r .across) in
+      let hh = most (P .h) (r .up) in
+      record {
+        across = omega arith;
+        up = omega arith;
+        few = r .few;
+        splits = λ s m. small (P .w) (P .h) hw hh s (all-at (inRange (P .w) (P .h)) (P .splits) (replays-stands r .ranges) s m);
+        values = values;
+        full = full;
+      }
+
+  pub reads-back : good (recordOf P) ≡ true → readFile (fileOf P) ≡ changed 0 (recordOf P)
+  reads-back g = written-reads P (good-fits (good-replays P g)) g
+
+-- A good record that is written reads back.
+pub map-reads-back : (m : Map) → length (m .splits) ≡ 60 → length (m .values) ≡ 1024 → ((v : ℕ) → List·Memᴰ v (m .values) → v < 65536) →
+    good m ≡ true → readFile (fileOf (plain m)) ≡ changed 0 m
+unfolding plain
+map-reads-back m places room values g =
+    let f = good-facts m places room g in
+    let k = length (blends (bare m)) in
+    let held : (v : ℕ) → List·Memᴰ v (plain m .values) → v < 65536 =
+    λ v i. values v (rw (take-append-drop k (m .values)) at (Memᴰ·append-left (drop k (m .values)) i)) in
+    reads-back (plain m) held (f .counted) (ap good (f .is-record) ∙ g) ∙ ap (changed 0) (f .is-record)
+
+-- Bytes that are accepted are the file of the map that is read.
+pub accepted-is-written : (bytes : List ℕ) → readFile bytes .number ≡ 0 →
+    (bytes ≡ fileOf (guessed bytes)) × (readFile bytes .map ≡ recordOf (guessed bytes)) × (good (recordOf (guessed bytes)) ≡ true)
+accepted-is-written bytes e =
+    let a = accepted-file bytes e in
+    let held = all-values bytes (good-short (guessed bytes) (a .0)) (a .1) in
+    (a .1 ∙ ap fileOf held, a .2, a .0)

@@ -1,0 +1,9 @@
+pub mod Whole
+pub mod Words
+pub mod Putting
+pub mod Taking
+pub mod RoundTrip
+pub mod Terms
+pub mod Filing
+pub mod Reading
+pub mod GoodFiles

@@ -1,0 +1,97 @@
+-- Bytes that are read: the map that they tell is written again, and compared.
+use Prim.Native.Nat.{ℕ, _+_, _*_, _≤_, _<_}
+use native.Mathlib.Omega.{arith}
+use native.Mathlib.Nat.{zero-add}
+use mathlib.Core.Path.{_≡_, sym, ap, _∙_}
+use mathlib.Core.Logic.{⊎-elim}
+use mathlib.Core.Bool.{true, false}
+use mathlib.Core.List.{List, _++_}
+use borrow.Author.Tests.{ltb-true, ltb-false}
+use lib.Dec.{ltb}
+use lib.ListN.{length, take, drop, length-append}
+use lib.Seq.{take-append-seam}
+use Rattle.mesh.proofs.Tests.{either, true-not-false}
+use Rattle.maps.specs.declared.Map.{Map}
+use Rattle.maps.specs.Plain.{Plain, freshPlain, blends}
+use Rattle.maps.specs.Record.{recordOf, plain, good}
+use Rattle.maps.specs.Calls.{changed}
+use Rattle.maps.proofs.Replay.{good-passes}
+use Rattle.maps.proofs.Good.{Replays, replays-short}
+use Rattle.files.specs.declared.Written.{Written}
+use Rattle.files.specs.File.{fileOf, splitCount, guessed, sameBytes}
+use Rattle.files.specs.Calls.{written, after, readFile}
+use Rattle.files.proofs.Words.{same-bytes, bytes-same}
+use Rattle.files.proofs.Taking.{count-few}
+use Rattle.files.proofs.RoundTrip.{held-lines, told, told-length, guessed-splits, is-read, is-refused}
+use Rattle.files.proofs.Filing.{write-bad, write-short, write-whole}
+
+-- a good record's lines, and how few blends they have
+pub good-replays : (P : Plain) → good (recordOf P) ≡ true → Replays P
+unfolding recordOf
+good-replays P g =
+    let p = good-passes (recordOf P) g in
+    record { across = p .across; up = p .up; few = p .few; replays = rw (held-lines P) at (p .replays) }
+
+pub good-short : (P : Plain) → good (recordOf P) ≡ true → length (blends P) ≤ 1024
+good-short P g = replays-short (good-replays P g)
+
+-- a write that is not refused leaves the file in front
+pub record Wrote (m : Map) (long : ℕ) (left : List ℕ) : Type 0 where
+  pub is-good : good m ≡ true
+  pub fits : long ≤ length left
+  pub front : take long left ≡ fileOf (plain m)
+
+pub wrote : (m : Map) (buffer : List ℕ) {w : Written} {left : List ℕ} → w ≡ written m buffer → left ≡ after m buffer →
+    w .number ≡ 0 → Wrote m (w .length) left
+wrote m buffer {w} {left} p q z =
+    ⊎-elim
+    (λ (g : good m ≡ true).
+    ⊎-elim
+    (λ (s : ltb (length buffer) size ≡ true). absurd (other 12 (write-short m buffer g (ltb-true _ _ s) .0) (omega arith)))
+    (λ (s : ltb (length buffer) size ≡ false).
+    let le = ltb-false _ _ s in
+    let o = write-whole m buffer g le in
+    let long : w .length ≡ size = ap (λ (x : Written). x .length) (p ∙ sym (o .0)) in
+    let whole : left ≡ fileOf (plain m) ++ drop size buffer = q ∙ sym (o .1) ∙ rw zero-add in
+    record { is-good = g; fits = rw (whole, length-append) (omega arith); front = rw (long, whole) (take-append-seam (fileOf (plain m)) _) })
+    (either (ltb (length buffer) size)))
+    (λ (b : good m ≡ false). absurd (other 2 (write-bad m buffer b .0) (omega arith)))
+    (either (good m))
+  where
+    size : ℕ
+    size = length (fileOf (plain m))
+
+    other : (n : ℕ) → _≡_ {A = Written} (record { number = n; length = 0 }) (written m buffer) → 0 < n → ⊥
+    other n e pos = let f : n ≡ 0 = ap (λ (x : Written). x .number) (e ∙ sym p) ∙ z in omega arith
+
+module _ (bytes : List ℕ) where
+  -- the lengths that a file may have
+  pub record FileLength : Type 0 where
+    pub least : 12 + 12 * splitCount bytes 8 60 ≤ length bytes
+    pub most : length bytes ≤ 12 + 12 * splitCount bytes 8 60 + 10240
+
+  pub file-lengths : good (told bytes) ≡ true → bytes ≡ fileOf (plain (told bytes)) → FileLength
+  file-lengths g e =
+      let few = good-short (guessed bytes) g in
+      let long = told-length bytes few e in
+      record { least = omega (arith, long, guessed-splits bytes); most = omega (arith, long, guessed-splits bytes) }
+
+  -- the map that they tell, written into a buffer that any file fits
+  module _ (m : Map) (is : m ≡ told bytes) where
+    pub not-written : (buffer : List ℕ) {w : Written} → w ≡ written m buffer → length buffer ≡ 10972 → (w .number ≡ 0 → ⊥) →
+        readFile bytes ≡ changed 11 (recordOf (freshPlain 1 1))
+    not-written buffer {w} p room ne =
+        is-refused bytes
+        (λ g e.
+        let f = file-lengths g e in
+        let le : length (fileOf (plain m)) ≤ length buffer = rw (is, ← e) (omega (arith, f .most, count-few bytes 8 60)) in
+        ne (ap (λ (x : Written). x .number) (p ∙ sym (write-whole m buffer (ap good is ∙ g) le .0))))
+
+    module _ {long : ℕ} {left : List ℕ} (w : Wrote m long left) where
+      pub not-same : sameBytes bytes (take long left) ≡ false → readFile bytes ≡ changed 11 (recordOf (freshPlain 1 1))
+      not-same f =
+          is-refused bytes
+          (λ g e. true-not-false _ (bytes-same bytes (take long left) (e ∙ sym (w .front ∙ rw is))) f)
+
+      pub all-same : sameBytes bytes (take long left) ≡ true → changed 0 m ≡ readFile bytes
+      all-same t = rw is (sym (is-read bytes (ap good (sym is) ∙ w .is-good) (same-bytes bytes (take long left) t ∙ w .front ∙ rw is)))

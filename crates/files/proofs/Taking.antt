@@ -1,0 +1,137 @@
+-- What loops over the bytes of a file have found so far.
+use Prim.Native.Nat.{ℕ, zero, suc, _+_, _*_, _-_, _/_, _≤_, _<_}
+use native.Mathlib.Omega.{arith}
+use native.Mathlib.Numerals.{add-one}
+use native.Mathlib.Nat.{zero-add, add-zero, sub-zero}
+use mathlib.Core.Path.{_≡_, refl, sym, ap, _∙_}
+use mathlib.Core.Logic.{⊎-elim}
+use mathlib.Core.Bool.{true, false, _&&_}
+use mathlib.Core.List.{List, [], _∷_, _++_, append-assoc}
+use borrow.Author.Tests.{leb-true, le-leb, eqb-true, eq-eqb, ne-eqb}
+use lib.Dec.{leb, eqb}
+use lib.ListN.{length, getD, set, drop, replicate, drop-of-length-le}
+use lib.Seq.{set-at, drop-cons}
+use Rattle.mesh.specs.declared.Split.{Split}
+use Rattle.mesh.specs.Range.{each}
+use Rattle.maps.specs.declared.Map.{Map}
+use Rattle.maps.specs.Record.{noSplit, recordOf}
+use Rattle.mesh.proofs.Tests.{either, and-both, and-of, false-of, cond-true, cond-false}
+use Rattle.files.specs.File.{wordAt, splitCount, splitAt, guessed, sameBytes}
+use Rattle.files.proofs.Words.{same-bytes, each-length}
+
+-- Splits in a row: one more where a whole entry of kind 2 stands, no more where none does.
+module _ (bytes : List ℕ) where
+  pub record SplitHere (at : ℕ) : Type 0 where
+    pub fits : at + 12 ≤ length bytes
+    pub kind : wordAt bytes (at + 2) ≡ 2
+
+  here-says : (at : ℕ) → (leb (at + 12) (length bytes) && eqb (wordAt bytes (at + 2)) 2) ≡ true → SplitHere at
+  here-says at t =
+      let b = and-both (leb (at + 12) (length bytes)) (eqb (wordAt bytes (at + 2)) 2) t in
+      record { fits = leb-true _ _ (b .0); kind = eqb-true _ _ (b .1) }
+
+  pub one-more : (at most : ℕ) → SplitHere at → splitCount bytes at (suc most) ≡ suc (splitCount bytes (at + 12) most)
+  unfolding splitCount
+  one-more at most h = cond-true _ _ _ (and-of _ _ (le-leb (at + 12) (length bytes) (h .fits)) (eq-eqb _ _ (h .kind)))
+
+  pub no-more : (at most : ℕ) → (0 < most → SplitHere at → ⊥) → splitCount bytes at most ≡ 0
+  unfolding splitCount
+  no-more at zero f = refl
+  no-more at (suc most) f = cond-false _ _ _ (false-of _ (λ t. f (omega arith) (here-says at t)))
+
+  -- no more are counted than are looked for
+  pub count-few : (at most : ℕ) → splitCount bytes at most ≤ most
+  unfolding splitCount
+  count-few at zero = omega arith
+  count-few at (suc most) =
+      ⊎-elim (λ t. rw (one-more at most (here-says at t)) (omega (arith, count-few (at + 12) most)))
+      (λ f. rw f (omega arith))
+      (either (leb (at + 12) (length bytes) && eqb (wordAt bytes (at + 2)) 2))
+
+  -- n of them are found
+  pub record Counted (n : ℕ) : Type 0 where
+    pub within : n ≤ 60
+    pub is : splitCount bytes 8 60 ≡ n + splitCount bytes (8 + 12 * n) (60 - n)
+
+  pub counted-none : Counted 0
+  counted-none = record { within = omega arith; is = rw zero-add }
+
+  module _ {n : ℕ} (c : Counted n) where
+    pub counted-more : n < 60 → SplitHere (8 + 12 * n) → Counted (n + 1)
+    counted-more lt h =
+        let e : 60 - n ≡ suc (60 - (n + 1)) = omega arith in
+        let p : 8 + 12 * n + 12 ≡ 8 + 12 * (n + 1) = omega arith in
+        let q : splitCount bytes (8 + 12 * n) (60 - n) ≡ suc (splitCount bytes (8 + 12 * (n + 1)) (60 - (n + 1))) =
+        rw (e, one-more (8 + 12 * n) (60 - (n + 1)) h, p) in
+        record { within = omega arith; is = omega (arith, c .is) }
+
+    pub counted-all : (n < 60 → SplitHere (8 + 12 * n) → ⊥) → n ≡ splitCount bytes 8 60
+    counted-all f =
+        let last : splitCount bytes (8 + 12 * n) (60 - n) ≡ 0 = no-more (8 + 12 * n) (60 - n) (λ lt. f (omega arith)) in
+        omega (arith, c .is)
+
+-- An array filled from the front, entry by entry:
+module _ {A : Type 0} (got : ℕ → A) (d : A) (n : ℕ) where
+  abbrev run : ℕ → ℕ → List A
+  run from k = each from k (λ i. got i ∷ [])
+
+  run-more : (from k : ℕ) → run from (suc k) ≡ run from k ++ got (from + k) ∷ []
+  run-more from zero = rw add-zero
+  run-more from (suc k) =
+      let e : from + 1 + k ≡ from + suc k = omega arith in
+      rw (← e) (ap (λ (l : List A). got from ∷ l) (run-more (from + 1) k))
+
+  pub record Filled (i : ℕ) (xs : List A) : Type 0 where
+    pub within : i ≤ n
+    pub is : xs ≡ run 0 i ++ replicate (n - i) d
+
+  pub filled-none : Filled 0 (replicate n d)
+  filled-none = record { within = omega arith; is = rw sub-zero }
+
+  pub filled-more : {i : ℕ} {xs : List A} → Filled i xs → i < n → (x : A) → x ≡ got i → Filled (i + 1) (set xs i x)
+  filled-more {i} {xs} f lt x q =
+      let left : n - i ≡ suc (n - (i + 1)) = omega arith in
+      let e : xs ≡ run 0 i ++ d ∷ replicate (n - (i + 1)) d = f .is ∙ rw left in
+      let more : run 0 (i + 1) ≡ run 0 i ++ got i ∷ [] = rw add-one (run-more 0 i ∙ rw zero-add) in
+      record {
+        within = omega arith;
+        is = rw (e, q, more, append-assoc) (set-at (run 0 i) d (replicate (n - (i + 1)) d) (got i) i (each-length 0 i got));
+      }
+
+  pub filled-all : {i : ℕ} {xs : List A} → Filled i xs → (k : ℕ) → i ≡ k → xs ≡ run 0 k ++ replicate (n - k) d
+  filled-all f k e = rw e at (f .is)
+
+-- Bytes compared one by one:
+module _ (xs ys : List ℕ) where
+  pub record Alike (i : ℕ) : Type 0 where
+    pub within : i ≤ length xs
+    pub is : sameBytes xs ys ≡ sameBytes (drop i xs) (drop i ys)
+
+  pub alike-none : Alike 0
+  alike-none = record { within = omega arith; is = refl }
+
+  module _ (long : length ys ≡ length xs) {i : ℕ} (a : Alike i) where
+    turn : i < length xs → sameBytes xs ys ≡ (eqb (getD xs i 0) (getD ys i 0) && sameBytes (drop (suc i) xs) (drop (suc i) ys))
+    turn lt = a .is ∙ rw (drop-cons xs i 0 lt, drop-cons ys i 0 (omega arith))
+
+    pub alike-more : i < length xs → getD xs i 0 ≡ getD ys i 0 → Alike (i + 1)
+    alike-more lt e = record { within = omega arith; is = turn lt ∙ rw (eq-eqb _ _ e, add-one) }
+
+    pub alike-not : i < length xs → (getD xs i 0 ≡ getD ys i 0 → ⊥) → false ≡ sameBytes xs ys
+    alike-not lt ne = sym (turn lt ∙ rw (ne-eqb _ _ ne))
+
+    pub alike-all : length xs ≤ i → true ≡ sameBytes xs ys
+    alike-all le = sym (a .is ∙ let more : length ys ≤ i = omega arith in rw (drop-of-length-le xs le, drop-of-length-le ys more))
+
+  pub longer-not : (length ys ≡ length xs → ⊥) → false ≡ sameBytes xs ys
+  longer-not ne = sym (false-of _ (λ t. ne (ap length (sym (same-bytes xs ys t)))))
+
+-- The numbers at a file's places, in a record:
+pub told-map : (bytes : List ℕ) (w h count places : ℕ) (splits : List Split) (values : List ℕ) →
+    w ≡ wordAt bytes 4 → h ≡ wordAt bytes 6 → count ≡ splitCount bytes 8 60 → places ≡ (length bytes - 12 - 12 * count) / 10 →
+    splits ≡ each 0 count (λ i. splitAt bytes (8 + 12 * i) ∷ []) ++ replicate (60 - count) noSplit →
+    values ≡ each 0 places (λ i. wordAt bytes (16 + 12 * count + 10 * i) ∷ []) ++ replicate (1024 - places) 0 →
+    _≡_ {A = Map} (record { w = w; h = h; count = count; splits = splits; values = values }) (recordOf (guessed bytes))
+unfolding guessed recordOf
+told-map bytes w h count places splits values p q r s t u =
+    rw (p, q, t, u, s, r, each-length 0 (splitCount bytes 8 60) (λ i. splitAt bytes (8 + 12 * i)), each-length 0 ((length bytes - 12 - 12 * splitCount bytes 8 60) / 10) (λ i. wordAt bytes (16 + 12 * splitCount bytes 8 60 + 10 * i)))

@@ -1,0 +1,64 @@
+-- `take::take_values` meets its contract. The invariant: the array holds the first i values, and nothing else.
+use native.Mathlib.Omega.{arith}
+use Prim.Native.Nat.{_+_, _*_, _-_, _≤_}
+use Rattle.files.specs.File.{wordAt}
+use Rattle.files.proofs.Taking.{Filled, filled-none, filled-more, filled-all}
+use Rattle.files.proofs.take.take_values.Statement.{statement}
+use Rattle.files.proofs.take.take_values.Tie as tie
+
+abbrev Inv-loop : tie.InvT-loop
+Inv-loop bytes at count values₀ i₀ values i = Filled (λ i. wordAt bytes (at + 10 * i)) 0 1024 i values × (i ≤ count)
+
+abbrev μ-loop : tie.MeasureT-loop
+μ-loop bytes at count values₀ i₀ values i = count - i
+
+loop-holds : tie.Need-loop-holds Inv-loop μ-loop
+loop-holds c = (filled-none _ 0 1024, omega arith)
+
+mul-word-at : tie.Need-mul-word-at Inv-loop μ-loop
+mul-word-at c = omega arith
+
+add-word-at : tie.Need-add-word-at Inv-loop μ-loop
+add-word-at c = omega arith
+
+word-at-requires : tie.Need-word-at-requires Inv-loop μ-loop
+word-at-requires c κs = omega arith
+
+cast-values : tie.Need-cast-values Inv-loop μ-loop
+cast-values c = omega arith
+
+mul-values : tie.Need-mul-values Inv-loop μ-loop
+mul-values c = omega arith
+
+array-write-values : tie.Need-array-write-values Inv-loop μ-loop
+array-write-values c = omega arith
+
+add-i : tie.Need-add-i Inv-loop μ-loop
+add-i c = omega arith
+
+loop-less : tie.Need-loop-less Inv-loop μ-loop
+loop-less c = omega arith
+
+loop-again : tie.Need-loop-again Inv-loop μ-loop
+loop-again c = (filled-more _ 0 1024 (c .before .before .loop .inv .0) (omega arith) _ (c .word-at .ensures .0), omega arith)
+
+returns : tie.Need-returns Inv-loop μ-loop
+returns c = filled-all _ 0 1024 (c .before .loop .inv .0) (c .before .before .before .args .count) (omega arith)
+
+pub take-values-spec : {M : Type 1} → statement M
+take-values-spec =
+    tie.close
+    (tie.spec
+    Inv-loop
+    μ-loop
+    loop-holds
+    mul-word-at
+    add-word-at
+    word-at-requires
+    cast-values
+    mul-values
+    array-write-values
+    add-i
+    loop-less
+    loop-again
+    returns)

@@ -1,0 +1,30 @@
+-- What the functions that put and take a file work on. Only contracts of functions that the crate keeps to itself cite this file.
+use Prim.Native.Nat.{ℕ, _≤_}
+use mathlib.Core.List.{List, [], _∷_, _++_}
+use lib.ListN.{take}
+use Rattle.mesh.specs.declared.Table.{Table}
+use Rattle.mesh.specs.Range.{joined}
+use Rattle.mesh.specs.Sound.{blendsOf}
+use Rattle.mesh.specs.Bytes.{AllProper}
+use Rattle.mesh.specs.Weight.{Term}
+use Rattle.maps.specs.declared.Map.{Map}
+use Rattle.maps.specs.Values.{paired}
+use Rattle.files.specs.File.{entry, head, splitEntry, valueEntry, tail}
+
+-- the entry of a value at an anchor, by its numbers
+abbrev pub valueNumbers : ℕ → ℕ → ℕ → List ℕ
+valueNumbers m n value = entry 3 (m ∷ n ∷ value ∷ [])
+
+-- a table holds as many blends as it says, and their knots rise
+pub record Listed (t : Table) : Type 0 where
+  pub few : t .count ≤ 1024
+  pub rise : AllProper (blendsOf t)
+
+-- a table's blends with the values that an array begins with
+abbrev pub terms : Table → List ℕ → List Term
+terms t values = paired (blendsOf t) (take (t .count) values)
+
+-- the file of a map's record, with its table in hand
+abbrev pub filed : Map → Table → List ℕ
+filed m t =
+    head (m .w) (m .h) ++ joined splitEntry (take (m .count) (m .splits)) ++ joined valueEntry (terms t (m .values)) ++ tail

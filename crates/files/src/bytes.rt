@@ -1,0 +1,66 @@
+// Numbers of 16 bits in bytes, and the walk from record to record.
+ghost use mathlib.Core.Path.{_≡_};
+ghost use Prim.Native.Nat.{ℕ, _+_, _≤_, _<_};
+ghost use lib.ListN.{length};
+ghost use Rattle.files.specs.File.{word, wordAt, put};
+ghost use mathlib.Core.Bool.{cond};
+ghost use Rattle.files.specs.Calls.{whole, payloadNumber, payloadAt};
+
+// The number at a byte place.
+pub(crate) fn word_at(bytes: &[u8], at: usize) -> usize
+    requires { ⌜ at + 2 ≤ length (now bytes) ⌝ }
+    ensures { λ r. ⌜ (r ≡ wordAt (now (bytes .entry)) at) × (r < 65536) ⌝ }
+{
+    wide(bytes[at]) + 256 * wide(bytes[at + 1])
+}
+
+fn wide(x: u8) -> usize
+    ensures { λ r. ⌜ (r ≡ x) × (r < 256) ⌝ }
+{
+    x as usize
+}
+
+// Puts a number at a byte place.
+pub(crate) fn put_word(bytes: &mut [u8], at: usize, n: usize)
+    requires { ⌜ at + 2 ≤ length (now bytes) ⌝ }
+    ensures { λ _. ⌜ now (bytes .exit) ≡ put (now (bytes .entry)) at (word n) ⌝ }
+{
+    bytes[at] = (n % 256) as u8;
+    bytes[at + 1] = (n / 256 % 256) as u8;
+}
+
+// The length of the whole record at a byte place; 0 where none is there.
+fn size_at(bytes: &[u8], at: usize) -> usize
+    ensures { λ r. ⌜ r ≡ cond (whole (now (bytes .entry)) at) (wordAt (now (bytes .entry)) at) 0 ⌝ }
+{
+    let length = bytes.len();
+    if length < 2 {
+        return 0;
+    }
+    if length - 2 < at {
+        return 0;
+    }
+    let size = word_at(bytes, at);
+    if size < 2 {
+        return 0;
+    }
+    if length - 2 - at < size {
+        return 0;
+    }
+    size
+}
+
+// The payload of the record at a byte place: that part of the bytes; an empty part, with 11, where no whole record is there.
+pub fn payload<'a>(bytes: &'a [u8], at: usize, number: &mut usize) -> &'a [u8]
+    ensures { λ r. ⌜ (now r ≡ payloadAt (now (bytes .entry)) at) × (now (number .exit) ≡ payloadNumber (now (bytes .entry)) at) ⌝ }
+{
+    let size = size_at(bytes, at);
+    if size == 0 {
+        *number = 11;
+        return &bytes[0..0];
+    }
+    *number = 0;
+    let from = at + 4;
+    let to = at + 2 + size;
+    &bytes[from..to]
+}

@@ -1,0 +1,98 @@
+// A map's file, put into bytes entry by entry.
+use crate::bytes::put_word;
+use maps::Map;
+use mesh::Split;
+use mesh::Table;
+ghost use mathlib.Core.Path.{_≡_};
+ghost use mathlib.Core.List.{_++_};
+ghost use Prim.Native.Nat.{ℕ, _+_, _-_, _*_, _≤_};
+ghost use lib.ListN.{length, take};
+ghost use Rattle.mesh.specs.Range.{joined};
+ghost use Rattle.files.specs.File.{word, put, splitEntry, valueEntry};
+ghost use Rattle.files.specs.Inner.{valueNumbers, Listed, terms, filed};
+
+// Puts two numbers in a row.
+pub(crate) fn put_pair(bytes: &mut [u8], at: usize, first: usize, second: usize)
+    requires { ⌜ at + 4 ≤ length (now bytes) ⌝ }
+    ensures { λ _. ⌜ now (bytes .exit) ≡ put (now (bytes .entry)) at (word first ++ word second) ⌝ }
+{
+    put_word(bytes, at, first);
+    put_word(bytes, at + 2, second);
+}
+
+// Puts a split's entry.
+fn put_split(bytes: &mut [u8], at: usize, split: Split)
+    requires { ⌜ at + 12 ≤ length (now bytes) ⌝ }
+    ensures { λ _. ⌜ now (bytes .exit) ≡ put (now (bytes .entry)) at (splitEntry split) ⌝ }
+{
+    put_pair(bytes, at, 10, 2);
+    put_pair(bytes, at + 4, split.direction, split.position);
+    put_pair(bytes, at + 8, split.from, split.to);
+}
+
+// Puts the entry of a value at an anchor.
+fn put_value(bytes: &mut [u8], at: usize, m: usize, n: usize, value: usize)
+    requires { ⌜ at + 10 ≤ length (now bytes) ⌝ }
+    ensures { λ _. ⌜ now (bytes .exit) ≡ put (now (bytes .entry)) at (valueNumbers m n value) ⌝ }
+{
+    put_pair(bytes, at, 8, 3);
+    put_pair(bytes, at + 4, m, n);
+    put_word(bytes, at + 8, value);
+}
+
+// Puts the entries of the first `count` splits, after the head.
+pub(crate) fn put_splits(bytes: &mut [u8], splits: [Split; 60], count: usize)
+    requires { ⌜ (count ≤ 60) × (8 + 12 * count ≤ length (now bytes)) ⌝ }
+    ensures { λ _. ⌜ now (bytes .exit) ≡ put (now (bytes .entry)) 8 (joined splitEntry (take count splits)) ⌝ }
+{
+    let mut i = 0;
+    while i < count {
+        let split = splits[i];
+        put_split(bytes, 8 + 12 * i, split);
+        i += 1;
+    }
+}
+
+fn wide(x: u16) -> usize
+    ensures { λ r. ⌜ r ≡ x ⌝ }
+{
+    x as usize
+}
+
+// Puts the entries of a table's values, from a byte place on.
+fn put_values(bytes: &mut [u8], at: usize, table: Table, values: [u16; 1024])
+    requires { ⌜ Listed table × (at + 10 * table .count ≤ length (now bytes)) ⌝ }
+    ensures { λ _. ⌜ now (bytes .exit) ≡ put (now (bytes .entry)) at (joined valueEntry (terms table values)) ⌝ }
+{
+    let count = table.count;
+    let mut i = 0;
+    while i < count {
+        let blend = table.blends[i];
+        let value = wide(values[i]);
+        put_value(
+            bytes,
+            at + 10 * i,
+            blend.across.m - 1,
+            blend.up.m - 1,
+            value,
+        );
+        i += 1;
+    }
+}
+
+// Puts the whole file of a map whose table is in hand.
+pub(crate) fn put_file(bytes: &mut [u8], map: Map, table: Table)
+    requires { ⌜ Listed table × (map .count ≤ 60) × (12 + 12 * map .count + 10 * table .count ≤ length (now bytes)) ⌝ }
+    ensures { λ _. ⌜ now (bytes .exit) ≡ put (now (bytes .entry)) 0 (filed map table) ⌝ }
+{
+    put_pair(bytes, 0, 6, 1);
+    put_pair(bytes, 4, map.w, map.h);
+    let splits = map.splits;
+    let count = map.count;
+    put_splits(bytes, splits, count);
+    let at = 8 + 12 * count;
+    let values = map.values;
+    put_values(bytes, at, table, values);
+    let end = at + 10 * table.count;
+    put_pair(bytes, end, 2, 4);
+}
