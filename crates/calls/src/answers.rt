@@ -151,6 +151,52 @@ fn lengthen(map: Map, line: &[u8]) -> Map {
     r.map
 }
 
+// Sameness with another map, given as the hexadecimal bytes of its file; a line whose bytes are no file is no call.
+fn same(map: Map, line: &[u8]) {
+    let mut bytes = [0u8; 10972];
+    let found = text::unhex(line, 5, &mut bytes);
+    let n = found.value;
+    if !found.some {
+        no_call();
+        return;
+    }
+    if 10972 < n {
+        no_call();
+        return;
+    }
+    let other = files::read(&bytes[..n]);
+    if other.number != 0 {
+        no_call();
+        return;
+    }
+    let r = map.same(other.map);
+    told(r.number);
+    if r.number != 0 {
+        return;
+    }
+    if r.yes {
+        show::text(b" yes");
+        return;
+    }
+    show::text(b" no");
+}
+
+// The bytes of the map's file, in hexadecimal.
+fn file(map: Map) {
+    let mut bytes = [0u8; 10972];
+    let r = files::write(map, &mut bytes);
+    show::text(b" = ");
+    let n = r.length;
+    let mut i = 0;
+    while i < n {
+        if 10972 <= i {
+            return;
+        }
+        show::hex(bytes[i]);
+        i += 1;
+    }
+}
+
 // Answers one line, and hands back the map for the next.
 pub fn answer(map: Map, line: &[u8]) -> Map {
     show::text(line);
@@ -176,6 +222,14 @@ pub fn answer(map: Map, line: &[u8]) -> Map {
     }
     if text::begins(line, b"weights") {
         weights(map, line);
+        return map;
+    }
+    if text::begins(line, b"same ") {
+        same(map, line);
+        return map;
+    }
+    if text::begins(line, b"file") {
+        file(map);
         return map;
     }
     no_call();

@@ -37,5 +37,11 @@ fn run(input: &[u8]) {
 fn main() {
     let mut input = [0u8; 262144];
     let n = io::read_full(libc::STDIN_FILENO, &mut input);
+    if n == 262144 {
+        show::text(
+            b"the input is too long: give it in parts of less than 262144 bytes, each from a history line on\n",
+        );
+        return;
+    }
     run(&input[..n]);
 }

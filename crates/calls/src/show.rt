@@ -50,3 +50,12 @@ pub fn four(w: Weights) {
     text(b" ;");
     weight(d);
 }
+
+// A byte as two hexadecimal digits.
+pub fn hex(x: u8) {
+    let digits = b"0123456789abcdef";
+    let high = (x / 16) as usize;
+    let low = (x % 16) as usize;
+    let pair = [digits[high], digits[low]];
+    text(&pair);
+}

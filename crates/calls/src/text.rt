@@ -102,3 +102,57 @@ pub fn numbers(line: &[u8], at: usize, count: usize) -> Four {
     found.whole = next == line.len();
     found
 }
+
+// What a hexadecimal digit's byte counts; 16 where it is none.
+fn hex_digit(c: u8) -> u8
+    ensures { λ r. ⌜ r < 17 ⌝ }
+{
+    if c < b'0' {
+        return 16;
+    }
+    if c <= b'9' {
+        return c - b'0';
+    }
+    if c < b'a' {
+        return 16;
+    }
+    if c <= b'f' {
+        return c - b'a' + 10;
+    }
+    16
+}
+
+// The bytes that the hexadecimal digits from a place to the line's end give, into a lent buffer; none where they are no bytes or too many.
+pub fn unhex(line: &[u8], at: usize, out: &mut [u8]) -> Found {
+    let none = Found {
+        some: false,
+        value: 0,
+        next: 0,
+    };
+    let mut i = at;
+    let mut n = 0;
+    while i < line.len() {
+        if line.len() - i < 2 {
+            return none;
+        }
+        if out.len() <= n {
+            return none;
+        }
+        let high = hex_digit(line[i]);
+        let low = hex_digit(line[i + 1]);
+        if 15 < high {
+            return none;
+        }
+        if 15 < low {
+            return none;
+        }
+        out[n] = high * 16 + low;
+        n += 1;
+        i += 2;
+    }
+    Found {
+        some: true,
+        value: n,
+        next: i,
+    }
+}
