@@ -1,0 +1,41 @@
+#!/usr/bin/env bash
+# Runs the outside vectors through the compiled programs and compares every answer. Needs `rt check` (or `rt ci`) to have built them.
+set -eu
+cd "$(dirname "$0")/.."
+part=$(mktemp -d)
+trap 'rm -rf "$part"' EXIT
+failed=0
+
+# Lists of calls, in parts of less than 200,000 bytes, each from a history line on.
+awk -v dir="$part" '
+  /^history / && (n == 0 || size > 150000) { n++; size = 0 }
+  { call = $0; sub(/ = .*| =$/, "", call); size += length(call) + 1
+    print call > (dir "/" n ".in"); print $0 > (dir "/" n ".want") }
+' tests/vectors/histories.txt
+lines=0
+for input in "$part"/*.in; do
+  want=${input%.in}.want
+  target/bin/calls <"$input" >"$part/got"
+  lines=$((lines + $(wc -l <"$want")))
+  if ! cmp -s "$part/got" "$want"; then
+    echo "vectors: an answer differs:"
+    diff "$want" "$part/got" | head -6
+    failed=1
+  fi
+done
+echo "vectors: $lines lines of calls compared"
+
+# Map files for the table program.
+if [ -x target/bin/table ]; then
+  files=0
+  for map in tests/vectors/files/*.map; do
+    target/bin/table <"$map" >"$part/got"
+    files=$((files + 1))
+    if ! cmp -s "$part/got" "${map%.map}.out"; then
+      echo "vectors: the table program differs on $map"
+      failed=1
+    fi
+  done
+  echo "vectors: $files map files compared"
+fi
+exit $failed
