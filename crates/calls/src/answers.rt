@@ -228,9 +228,11 @@ pub fn answer(map: Map, line: &[u8]) -> Map {
         same(map, line);
         return map;
     }
-    if text::begins(line, b"file") {
-        file(map);
-        return map;
+    if line.len() == 4 {
+        if text::begins(line, b"file") {
+            file(map);
+            return map;
+        }
     }
     no_call();
     map
