@@ -1,20 +1,35 @@
 -- Lists of calls that are all accepted, one after another, and the splits of a map replayed as calls.
-use Prim.Native.Nat.{ℕ}
+use Prim.Native.Nat.{ℕ, _+_, _-_, _<_, _%_}
+use native.Mathlib.Omega.{arith}
+use native.Mathlib.Numerals.{add-one}
+use native.Mathlib.Nat.{mod-eq-of-lt}
 use mathlib.Core.Path.{_≡_, refl, sym, ap, _∙_}
 use mathlib.Core.Logic.{⊎-elim}
 use mathlib.Core.Bool.{true}
-use mathlib.Core.List.{List, [], _∷_, _++_, map, List·Memᴰ, List·Memᴰ·cases-cons, List·Memᴰ·not-nil}
-use borrow.Author.Tests.{eqb-true, eq-eqb}
-use lib.Dec.{eqb}
+use mathlib.Core.List.{List, [], _∷_, _++_, map, List·Memᴰ, List·Memᴰ·cases-cons, List·Memᴰ·not-nil, Memᴰ·append-right}
+use mathlib.Core.List.List·Memᴰ.{List·Memᴰ·head, List·Memᴰ·tail}
+use borrow.Author.Tests.{eqb-true, eq-eqb, lt-ltb}
+use lib.Dec.{eqb, ltb}
+use lib.ListN.{length, length-append}
+use lib.Seq.{set-append-seam}
 use Rattle.mesh.specs.declared.Split.{Split}
-use Rattle.mesh.proofs.Tests.{and-both, cond-true}
+use Rattle.mesh.specs.declared.Blend.{Blend}
+use Rattle.mesh.specs.Blends.{anchored}
+use Rattle.mesh.proofs.Tests.{either, and-both, and-of, cond-true, cond-false}
+use Rattle.mesh.proofs.Distinct.{Distinct}
+use Rattle.mesh.proofs.Ascending.{OwnAnchors}
+use Rattle.mesh.proofs.Places.{proper-facts}
+use Rattle.mesh.proofs.SoundMaps.{live-distinct, own-anchors}
 use Rattle.mesh.proofs.Few.{map-mem}
 use Rattle.maps.specs.declared.Map.{Map}
-use Rattle.maps.specs.Plain.{Plain}
+use Rattle.maps.specs.Plain.{Plain, meshOf, blends}
+use Rattle.maps.specs.Values.{placeOf}
+use Rattle.maps.specs.Calls.{setPlain}
 use Rattle.maps.specs.Splits.{given, exactNumber, withLine, drawn}
 use Rattle.maps.specs.Record.{recordOf, accepted}
-use Rattle.maps.specs.Histories.{Call, exact, number, Outcome, outcome, byLibrary, byMachine, outcomes, ending}
+use Rattle.maps.specs.Histories.{Call, set, exact, number, Outcome, outcome, byLibrary, byMachine, outcomes, ending}
 use Rattle.maps.specs.Demand.{recorded, linesOf}
+use Rattle.maps.proofs.Readings.{Valued, blends-proper}
 use Rattle.maps.proofs.Reached.{Reached}
 use Rattle.maps.proofs.Following.{outcomes-follow}
 
@@ -81,3 +96,45 @@ splits-drawn (s ∷ ss) P vs e =
       accepted-more (exact s) (map exact ss) P (drawn P s) (rest .0) step (rest .1),
       rw t (ap (λ (l : List Split). s ∷ l) (rest .2)),
     )
+
+-- The place of a blend's own anchor is where the blend stands in the table,
+own-place : (done : List Blend) (B : Blend) (bs : List Blend) → Distinct (done ++ B ∷ bs) → OwnAnchors (done ++ B ∷ bs) →
+    placeOf (done ++ B ∷ bs) (B .across .m) (B .up .m) ≡ length done
+own-place [] B bs d own = cond-true _ _ _ (and-of _ _ (eq-eqb (B .across .m) _ refl) (eq-eqb (B .up .m) _ refl))
+own-place (C ∷ done) B bs d own =
+    let here : List·Memᴰ B (done ++ B ∷ bs) = Memᴰ·append-right done (List·Memᴰ·head refl) in
+    ⊎-elim
+    (λ t.
+    let a = and-both (eqb (C .across .m) (B .across .m)) (eqb (C .up .m) (B .up .m)) t in
+    let same = own C B (List·Memᴰ·head refl) (List·Memᴰ·tail here) (eqb-true _ _ (a .0)) (eqb-true _ _ (a .1)) in
+    absurd (d .0 (rw same here)))
+    (λ f.
+    cond-false _ _ _ f ∙ ap (λ (n : ℕ). n + 1) (own-place done B bs (d .1) (λ X Y mx my. own X Y (List·Memᴰ·tail mx) (List·Memᴰ·tail my))) ∙
+    add-one (length done))
+    (either (anchored (B .across .m) (B .up .m) C))
+
+-- so setting its value puts it there.
+module _ (P : Plain) (valued : Valued P) (done : List Blend) (B : Blend) (bs : List Blend) (is : blends P ≡ done ++ B ∷ bs)
+    (us : List ℕ) (w : ℕ) (ws : List ℕ) (full : length us ≡ length done) (v : ℕ) (lt : v < 65536) where
+  there : placeOf (blends P) (B .across .m - 1 + 1) (B .up .m - 1 + 1) ≡ length done
+  there =
+      let m : List·Memᴰ B (blends P) = rw is (Memᴰ·append-right done (List·Memᴰ·head refl)) in
+      let p = proper-facts (P .w) (P .h) B (blends-proper P valued B m) in
+      let a = p .across in
+      let b = p .up in
+      let x : B .across .m - 1 + 1 ≡ B .across .m = omega arith in
+      let y : B .up .m - 1 + 1 ≡ B .up .m = omega arith in
+      let d : Distinct (done ++ B ∷ bs) = rw is at (live-distinct (P .w) (P .h) (valued .wide .0) (valued .tall .0) (meshOf P)) in
+      let own : OwnAnchors (done ++ B ∷ bs) =
+      rw is at (own-anchors (P .w) (P .h) (valued .wide .0) (valued .tall .0) (meshOf P) (valued .is-sound)) in
+      rw (x, y, is) (own-place done B bs d own)
+
+  within : length done < length (blends P)
+  within = rw (is, length-append) (omega arith)
+
+  pub value-set : byMachine (withValues P (us ++ w ∷ ws)) (set (B .across .m - 1) (B .up .m - 1) v) ≡
+      outcome (number 0) (withValues P (us ++ v ∷ ws))
+  unfolding setPlain
+  value-set =
+      let small : v % 65536 ≡ v = mod-eq-of-lt lt in
+      rw (there, lt-ltb _ _ within, small, ← full, set-append-seam us w ws v)
