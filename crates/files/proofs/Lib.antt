@@ -7,3 +7,4 @@ pub mod Terms
 pub mod Filing
 pub mod Reading
 pub mod GoodFiles
+pub mod FromFile

@@ -15,6 +15,7 @@ pub mod Reached
 pub mod Readings
 pub mod Recording
 pub mod Replay
+pub mod Replayed3
 pub mod Squares
 pub mod Sums
 pub mod Tabled

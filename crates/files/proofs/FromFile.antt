@@ -1,0 +1,138 @@
+-- Demand 3 of lists of calls on a map that was read from a file.
+use Prim.Native.Nat.{ℕ, zero, suc, _+_, _*_, _-_, _/_, _<_}
+use native.Mathlib.Omega.{arith}
+use mathlib.Core.Path.{_≡_, refl, sym, ap, subst, _∙_}
+use mathlib.Core.Bool.{true}
+use mathlib.Core.List.{List, [], _∷_, _++_, map, append-assoc, List·Memᴰ, List·Memᴰ·eq-of-singleton}
+use lib.ListN.{length, getD, length-append}
+use Rattle.mesh.specs.declared.Blend.{Blend}
+use Rattle.mesh.proofs.Tests.{each-mem}
+use Rattle.maps.specs.declared.Map.{Map}
+use Rattle.maps.specs.Plain.{Plain, freshPlain, blends}
+use Rattle.maps.specs.Values.{paired}
+use Rattle.maps.specs.Record.{recordOf, plain, good}
+use Rattle.maps.specs.Histories.{Call, exact, byLibrary, byMachine, outcomes, ending}
+use Rattle.maps.specs.Demand.{leftBy, DemandFrom}
+use Rattle.maps.proofs.Good.{Holds}
+use Rattle.maps.proofs.Readings.{Valued}
+use Rattle.maps.proofs.Reached.{Reached, holds-reached, fresh-reached, Leads, ending-leads}
+use Rattle.maps.proofs.Replayed3.{AcceptedTo, accepted-join, accepted-ends, accepted-more, library-accepts, ending-join, outcomes-join, withValues, splits-drawn, value-set}
+use Rattle.maps.proofs.Demand3.{reached-demand, demand-three}
+use Rattle.maps.proofs.Following.{ending-follows}
+use Rattle.files.specs.File.{wordAt, splitCount, guessed}
+use Rattle.files.specs.Calls.{readFile}
+use Rattle.files.specs.FromFile.{readPlain, setting, fileCalls, AllAccepted, FromFile}
+use Rattle.files.proofs.RoundTrip.{held-values, accepted-file, all-values}
+use Rattle.files.proofs.Reading.{good-replays, good-short}
+
+-- The numbers of a file are numbers of 16 bits.
+module _ (bytes : List ℕ) (small : (b : ℕ) → List·Memᴰ b bytes → b < 256) where
+  word-small : (at : ℕ) → wordAt bytes at < 65536
+  word-small at = omega (arith, byte bytes small at, byte bytes small (at + 1))
+    where
+      byte : (xs : List ℕ) → ((b : ℕ) → List·Memᴰ b xs → b < 256) → (i : ℕ) → getD xs i 0 < 256
+      byte [] f i = omega arith
+      byte (x ∷ xs) f zero = f x (List·Memᴰ.List·Memᴰ·head refl)
+      byte (x ∷ xs) f (suc i) = byte xs (λ b m. f b (List·Memᴰ.List·Memᴰ·tail m)) i
+
+  guessed-small : (v : ℕ) → List·Memᴰ v (guessed bytes .values) → v < 65536
+  unfolding guessed
+  guessed-small v m =
+      let s = splitCount bytes 8 60 in
+      let r = each-mem 0 ((length bytes - 12 - 12 * s) / 10) (λ i. wordAt bytes (16 + 12 * s + 10 * i) ∷ []) v m in
+      rw (List·Memᴰ·eq-of-singleton (r .3)) (word-small (16 + 12 * s + 10 * r .0))
+
+  -- What an accepted file tells is what the map that is read holds, and a map that calls may have reached.
+  module _ (e : readFile bytes .number ≡ 0) where
+    is-good : good (recordOf (guessed bytes)) ≡ true
+    is-good = accepted-file bytes e .0
+
+    told-held : plain (recordOf (guessed bytes)) ≡ guessed bytes
+    told-held = all-values bytes (good-short (guessed bytes) is-good) (accepted-file bytes e .1)
+
+    read-held : readPlain bytes ≡ guessed bytes
+    read-held = ap plain (accepted-file bytes e .2) ∙ told-held
+
+    guessed-holds : Holds (guessed bytes)
+    guessed-holds =
+        record {
+          lines = good-replays (guessed bytes) is-good;
+          counted = rw told-held at (held-values (guessed bytes) (good-short (guessed bytes) is-good));
+        }
+
+    read-reached : Reached (readPlain bytes)
+    read-reached = rw read-held (holds-reached (guessed bytes) guessed-holds guessed-small)
+
+    read-record : recordOf (readPlain bytes) ≡ readFile bytes .map
+    read-record = ap recordOf read-held ∙ sym (accepted-file bytes e .2)
+
+-- Demand 3 holds of every list on a map that was read.
+pub read-demand : (bytes : List ℕ) → readFile bytes .number ≡ 0 → ((b : ℕ) → List·Memᴰ b bytes → b < 256) → (cs : List Call) →
+    DemandFrom (readPlain bytes) cs
+read-demand bytes e small = reached-demand (readPlain bytes) (read-reached bytes small e)
+
+-- Setting the values of a table in order leaves those values, whatever stood there.
+module _ (P : Plain) (valued : Valued P) where
+  values-set : (bs done : List Blend) (us ws vs : List ℕ) → blends P ≡ done ++ bs → length us ≡ length done →
+      length ws ≡ length bs → length vs ≡ length bs → ((v : ℕ) → List·Memᴰ v vs → v < 65536) →
+      AcceptedTo (withValues P (us ++ ws)) (map setting (paired bs vs)) (withValues P (us ++ vs))
+  values-set [] done us [] [] is full a b small = refl
+  values-set [] done us [] (v ∷ vs) is full a b small = absurd (omega arith)
+  values-set [] done us (w ∷ ws) vs is full a b small = absurd (omega arith)
+  values-set (B ∷ bs) done us [] vs is full a b small = absurd (omega arith)
+  values-set (B ∷ bs) done us (w ∷ ws) [] is full a b small = absurd (omega arith)
+  values-set (B ∷ bs) done us (w ∷ ws) (v ∷ vs) is full a b small =
+      let rest =
+      values-set bs (done ++ B ∷ []) (us ++ v ∷ []) ws vs (is ∙ sym (append-assoc done (B ∷ []) bs)) (simp length-append (omega arith))
+      (omega arith) (omega arith) (λ x m. small x (List·Memᴰ.List·Memᴰ·tail m)) in
+      accepted-more (setting (record { multiple = v; of = B })) (map setting (paired bs vs)) (withValues P (us ++ w ∷ ws)) (withValues P (us ++ v ∷ ws)) _
+      (value-set P valued done B bs is us w ws full v (small v (List·Memᴰ.List·Memᴰ·head refl)))
+      (rw (append-assoc us (v ∷ []) ws, append-assoc us (v ∷ []) vs) at rest)
+
+-- So a map's own calls, its splits and then its values, lead from the fresh map to it.
+module _ (P : Plain) (at : Reached P) where
+  abbrev fresh : Plain
+  fresh = freshPlain (P .w) (P .h)
+
+  from-fresh : Reached fresh
+  from-fresh = fresh-reached (P .w) (P .h) (at .holds .lines .across) (at .holds .lines .up)
+
+  calls-lead : AcceptedTo fresh (fileCalls P) P
+  unfolding freshPlain
+  calls-lead =
+      let drawn = splits-drawn (P .splits) fresh [] (at .holds .lines .replays) in
+      let Q = drawn .0 in
+      let ends = accepted-ends (map exact (P .splits)) fresh Q (drawn .1) in
+      let leads : Leads fresh (P .splits) Q = rw (ends, drawn .2) at (ending-leads (map exact (P .splits)) fresh from-fresh) in
+      let same : withValues P (Q .values) ≡ Q = λ i. record { w = sym (leads .wide) i; h = sym (leads .tall) i; splits = sym (leads .more) i; values = Q .values } in
+      let counted : length (Q .values) ≡ length (blends P) =
+      leads .reached .valued .counted ∙ ap (λ (R : Plain). length (blends R)) (sym same) in
+      let set = values-set P (at .valued) (blends P) [] [] (Q .values) (P .values) refl refl counted (at .valued .counted) (at .valued .small) in
+      accepted-join (map exact (P .splits)) (map setting (paired (blends P) (P .values))) fresh Q P (drawn .1)
+      (subst (λ (R : Plain). AcceptedTo R (map setting (paired (blends P) (P .values))) P) same set)
+
+  calls-end : ending byMachine fresh (fileCalls P) ≡ P
+  calls-end = accepted-ends (fileCalls P) fresh P calls-lead
+
+  calls-left : leftBy fresh (fileCalls P) ≡ recordOf P
+  calls-left = ending-follows (fileCalls P) fresh from-fresh ∙ ap recordOf calls-end
+
+  calls-accepted : AllAccepted (recordOf fresh) (fileCalls P)
+  calls-accepted = library-accepts (fileCalls P) fresh P from-fresh calls-lead
+
+-- "Reading a file makes a map of its own: demand 3 holds of lists that start from it too."
+pub from-file : (bytes : List ℕ) → readFile bytes .number ≡ 0 → ((b : ℕ) → List·Memᴰ b bytes → b < 256) → FromFile bytes
+from-file bytes e small =
+    let P = readPlain bytes in
+    let at = read-reached bytes small e in
+    let start = recordOf (freshPlain (P .w) (P .h)) in
+    let left : leftBy (freshPlain (P .w) (P .h)) (fileCalls P) ≡ readFile bytes .map = calls-left P at ∙ read-record bytes small e in
+    record {
+      all-accepted = calls-accepted P at;
+      left = left;
+      outcomes-after = λ cs. outcomes-join byLibrary start (fileCalls P) cs ∙
+          ap (λ (m : Map). outcomes byLibrary start (fileCalls P) ++ outcomes byLibrary m cs) left;
+      left-after = λ cs. ending-join byLibrary start (fileCalls P) cs ∙ ap (λ (m : Map). ending byLibrary m cs) left;
+      whole = λ cs. demand-three (P .w) (P .h) (at .holds .lines .across) (at .holds .lines .up) (fileCalls P ++ cs);
+      own = read-demand bytes e small;
+    }
