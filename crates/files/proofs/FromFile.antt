@@ -11,7 +11,7 @@ use Rattle.maps.specs.declared.Map.{Map}
 use Rattle.maps.specs.Plain.{Plain, freshPlain, blends}
 use Rattle.maps.specs.Values.{paired}
 use Rattle.maps.specs.Record.{recordOf, plain, good}
-use Rattle.maps.specs.Histories.{Call, exact, byLibrary, byMachine, outcomes, ending}
+use Rattle.maps.specs.Histories.{Call, exact, Outcome, byLibrary, byMachine, outcomes, ending}
 use Rattle.maps.specs.Demand.{leftBy, DemandFrom}
 use Rattle.maps.proofs.Good.{Holds}
 use Rattle.maps.proofs.Readings.{Valued}
@@ -21,7 +21,7 @@ use Rattle.maps.proofs.Demand3.{reached-demand, demand-three}
 use Rattle.maps.proofs.Following.{ending-follows}
 use Rattle.files.specs.File.{wordAt, splitCount, guessed}
 use Rattle.files.specs.Calls.{readFile}
-use Rattle.files.specs.FromFile.{readPlain, setting, fileCalls, AllAccepted, FromFile}
+use Rattle.files.specs.FromFile.{readPlain, setting, fileCalls, AllAccepted, FromFile, AnyCall, onMap, writes, payloads, AmongFiles}
 use Rattle.files.proofs.RoundTrip.{held-values, accepted-file, all-values}
 use Rattle.files.proofs.Reading.{good-replays, good-short}
 
@@ -50,7 +50,7 @@ module _ (bytes : List ℕ) (small : (b : ℕ) → List·Memᴰ b bytes → b < 
     told-held : plain (recordOf (guessed bytes)) ≡ guessed bytes
     told-held = all-values bytes (good-short (guessed bytes) is-good) (accepted-file bytes e .1)
 
-    read-held : readPlain bytes ≡ guessed bytes
+    pub read-held : readPlain bytes ≡ guessed bytes
     read-held = ap plain (accepted-file bytes e .2) ∙ told-held
 
     guessed-holds : Holds (guessed bytes)
@@ -60,10 +60,10 @@ module _ (bytes : List ℕ) (small : (b : ℕ) → List·Memᴰ b bytes → b < 
           counted = rw told-held at (held-values (guessed bytes) (good-short (guessed bytes) is-good));
         }
 
-    read-reached : Reached (readPlain bytes)
+    pub read-reached : Reached (readPlain bytes)
     read-reached = rw read-held (holds-reached (guessed bytes) guessed-holds guessed-small)
 
-    read-record : recordOf (readPlain bytes) ≡ readFile bytes .map
+    pub read-record : recordOf (readPlain bytes) ≡ readFile bytes .map
     read-record = ap recordOf read-held ∙ sym (accepted-file bytes e .2)
 
 -- Demand 3 holds of every list on a map that was read.
@@ -97,7 +97,7 @@ module _ (P : Plain) (at : Reached P) where
   from-fresh : Reached fresh
   from-fresh = fresh-reached (P .w) (P .h) (at .holds .lines .across) (at .holds .lines .up)
 
-  calls-lead : AcceptedTo fresh (fileCalls P) P
+  pub calls-lead : AcceptedTo fresh (fileCalls P) P
   unfolding freshPlain
   calls-lead =
       let drawn = splits-drawn (P .splits) fresh [] (at .holds .lines .replays) in
@@ -111,13 +111,13 @@ module _ (P : Plain) (at : Reached P) where
       accepted-join (map exact (P .splits)) (map setting (paired (blends P) (P .values))) fresh Q P (drawn .1)
       (subst (λ (R : Plain). AcceptedTo R (map setting (paired (blends P) (P .values))) P) same set)
 
-  calls-end : ending byMachine fresh (fileCalls P) ≡ P
+  pub calls-end : ending byMachine fresh (fileCalls P) ≡ P
   calls-end = accepted-ends (fileCalls P) fresh P calls-lead
 
-  calls-left : leftBy fresh (fileCalls P) ≡ recordOf P
+  pub calls-left : leftBy fresh (fileCalls P) ≡ recordOf P
   calls-left = ending-follows (fileCalls P) fresh from-fresh ∙ ap recordOf calls-end
 
-  calls-accepted : AllAccepted (recordOf fresh) (fileCalls P)
+  pub calls-accepted : AllAccepted (recordOf fresh) (fileCalls P)
   calls-accepted = library-accepts (fileCalls P) fresh P from-fresh calls-lead
 
 -- "Reading a file makes a map of its own: demand 3 holds of lists that start from it too."
@@ -136,3 +136,17 @@ from-file bytes e small =
       whole = λ cs. demand-three (P .w) (P .h) (at .holds .lines .across) (at .holds .lines .up) (fileCalls P ++ cs);
       own = read-demand bytes e small;
     }
+
+-- Writes and payloads leave the map that they got, so they are left out of a list and it answers and ends as before.
+pub among-files : (cs : List AnyCall) (m : Map) → AmongFiles m cs
+among-files [] m = record { same-outcomes = refl; same-left = refl }
+among-files (onMap c ∷ cs) m =
+    let rest = among-files cs (byLibrary m c .next) in
+    record {
+      same-outcomes = ap (λ (l : List (Outcome Map)). byLibrary m c ∷ l) (rest .same-outcomes);
+      same-left = rest .same-left;
+    }
+among-files (writes buffer ∷ cs) m =
+    let rest = among-files cs m in record { same-outcomes = rest .same-outcomes; same-left = rest .same-left }
+among-files (payloads bytes at ∷ cs) m =
+    let rest = among-files cs m in record { same-outcomes = rest .same-outcomes; same-left = rest .same-left }

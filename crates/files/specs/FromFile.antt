@@ -1,15 +1,17 @@
--- Document 01, "Histories": lists of calls on a map that was read from a file.
+-- Document 01, "Histories": lists of calls on a map that was read from a file, and lists with writing and payloads among them.
 use Prim.Native.Nat.{ℕ, _-_}
 use mathlib.Core.Path.{_≡_}
-use mathlib.Core.List.{List, _++_, map, List·Memᴰ}
+use mathlib.Core.List.{List, [], _∷_, _++_, map, List·Memᴰ}
+use Rattle.mesh.specs.Range.{joined}
 use Rattle.mesh.specs.Weight.{Term}
 use Rattle.maps.specs.declared.Map.{Map}
 use Rattle.maps.specs.Plain.{Plain, freshPlain, blends}
 use Rattle.maps.specs.Values.{paired}
 use Rattle.maps.specs.Record.{recordOf, plain}
-use Rattle.maps.specs.Histories.{Call, set, exact, number, Outcome, byLibrary, outcomes, ending}
+use Rattle.maps.specs.Histories.{Call, set, exact, Answer, number, Outcome, outcome, byLibrary, outcomes, ending}
 use Rattle.maps.specs.Demand.{leftBy, DemandFrom, Demand3}
-use Rattle.files.specs.Calls.{readFile}
+use Rattle.files.specs.declared.Written.{Written}
+use Rattle.files.specs.Calls.{written, after, readFile, payloadNumber, payloadAt}
 
 -- what a map that was read holds
 abbrev pub readPlain : List ℕ → Plain
@@ -42,3 +44,54 @@ pub record FromFile (bytes : List ℕ) : Type 0 where
   -- of which demand 3 holds; and it holds of the list on its own.
   pub whole : (cs : List Call) → let P = readPlain bytes in Demand3 (P .w) (P .h) (fileCalls P ++ cs)
   pub own : (cs : List Call) → DemandFrom (readPlain bytes) cs
+
+-- "Writing and asking for a record's payload change no map, so they may come anywhere between these calls": a call of such a list, on the map,
+-- a write of it to a lent buffer, or a payload at a byte place of lent bytes.
+pub data AnyCall : Type 0 where
+  onMap : Call → AnyCall
+  writes : List ℕ → AnyCall
+  payloads : List ℕ → ℕ → AnyCall
+
+-- What it answers: a write, its number and length and what the buffer then holds; a payload, its number and that part of the bytes.
+pub data AnyAnswer : Type 0 where
+  answered : Answer → AnyAnswer
+  wrote : Written → List ℕ → AnyAnswer
+  part : ℕ → List ℕ → AnyAnswer
+
+pub record AnyOutcome : Type 0 where
+  pub answer : AnyAnswer
+  pub next : Map
+
+abbrev pub anyOutcome : AnyAnswer → Map → AnyOutcome
+anyOutcome a m = record { answer = a; next = m }
+
+-- The calls of the library: each step is the definition that the call's public contract cites.
+abbrev pub byAny : Map → AnyCall → AnyOutcome
+byAny m (onMap c) = let o = byLibrary m c in anyOutcome (answered (o .answer)) (o .next)
+byAny m (writes buffer) = anyOutcome (wrote (written m buffer) (after m buffer)) m
+byAny m (payloads bytes at) = anyOutcome (part (payloadNumber bytes at) (payloadAt bytes at)) m
+
+abbrev pub anyOutcomes : Map → List AnyCall → List AnyOutcome
+anyOutcomes m [] = []
+anyOutcomes m (c ∷ cs) = byAny m c ∷ anyOutcomes (byAny m c .next) cs
+
+abbrev pub anyEnding : Map → List AnyCall → Map
+anyEnding m [] = m
+anyEnding m (c ∷ cs) = anyEnding (byAny m c .next) cs
+
+-- the history that such a list holds, and the outcomes of its calls
+abbrev pub onMaps : List AnyCall → List Call
+onMaps [] = []
+onMaps (onMap c ∷ cs) = c ∷ onMaps cs
+onMaps (writes buffer ∷ cs) = onMaps cs
+onMaps (payloads bytes at ∷ cs) = onMaps cs
+
+abbrev pub ofMap : AnyAnswer → Map → List (Outcome Map)
+ofMap (answered a) m = outcome a m ∷ []
+ofMap (wrote w buffer) m = []
+ofMap (part n bytes) m = []
+
+-- "demand 3 holds as before": the calls on the map answer and leave it as if the others were not there.
+pub record AmongFiles (m : Map) (cs : List AnyCall) : Type 0 where
+  pub same-outcomes : joined (λ (o : AnyOutcome). ofMap (o .answer) (o .next)) (anyOutcomes m cs) ≡ outcomes byLibrary m (onMaps cs)
+  pub same-left : anyEnding m cs ≡ ending byLibrary m (onMaps cs)
