@@ -7,3 +7,5 @@ pub mod Terms
 pub mod Filing
 pub mod Reading
 pub mod GoodFiles
+pub mod Texts
+pub mod TableLines

@@ -1,3 +1,4 @@
 pub mod File
 pub mod Calls
 pub mod Inner
+pub mod Listing
