@@ -9,3 +9,4 @@ pub mod Reading
 pub mod GoodFiles
 pub mod Texts
 pub mod TableLines
+pub mod TableText

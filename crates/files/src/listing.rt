@@ -1,6 +1,7 @@
 // The table of a map file as text: what the table program prints.
 use crate::Written;
 use crate::read;
+use maps::Map;
 use maps::record::open;
 use mesh::Blend;
 use mesh::Table;
@@ -11,9 +12,11 @@ ghost use Prim.Native.Nat.{ℕ, _+_, _%_, _≤_, _<_};
 ghost use lib.ListN.{length};
 ghost use Rattle.mesh.specs.Range.{joined};
 ghost use Rattle.mesh.specs.Bytes.{Proper};
+ghost use mathlib.Core.Bool.{true};
+ghost use Rattle.maps.specs.Record.{plain, good};
 ghost use Rattle.files.specs.File.{put};
 ghost use Rattle.files.specs.Inner.{Listed, Puts, terms};
-ghost use Rattle.files.specs.Listing.{digits, coordinate, spaced, ended, knots, line, refusal, listed, listedAfter};
+ghost use Rattle.files.specs.Listing.{digits, coordinate, spaced, ended, knots, line, tableText, refusal, listed, listedAfter};
 
 // The byte of a number's last digit.
 fn digit(n: usize) -> u8
@@ -137,6 +140,17 @@ fn put_refusal(out: &mut [u8])
     out[10] = b'\n';
 }
 
+// Puts the table of a good map.
+fn put_map(out: &mut [u8], map: Map) -> usize
+    requires { ⌜ (good map ≡ true) × (65536 ≤ length (now out)) ⌝ }
+    ensures { λ r. ⌜ Puts (now (out .entry)) 0 (tableText (plain map)) (now (out .exit)) r ⌝ }
+{
+    let values = map.values;
+    let opened = open(map);
+    let table = opened.table;
+    put_table(out, table, values)
+}
+
 // Writes the table of a map file as text into a lent buffer, or the line of a refusal: refused with 12.
 pub fn list(bytes: &[u8], out: &mut [u8]) -> Written
     ensures { λ r. ⌜ (r ≡ listed (now (bytes .entry)) (now (out .entry))) × (now (out .exit) ≡ listedAfter (now (bytes .entry)) (now (out .entry))) ⌝ }
@@ -156,10 +170,7 @@ pub fn list(bytes: &[u8], out: &mut [u8]) -> Written
         };
     }
     let map = file.map;
-    let values = map.values;
-    let opened = open(map);
-    let table = opened.table;
-    let length = put_table(out, table, values);
+    let length = put_map(out, map);
     Written {
         number: 0,
         length: length,

@@ -1,50 +1,53 @@
-use borrow.Author.Needs.{needs}
+-- `listing::list` meets its contract: a short buffer, a refusal, or the table of the map that is read.
 use native.Mathlib.Omega.{arith}
 use borrow.Author.Needs.{needs}
+use Rattle.files.proofs.TableText.{read-good, list-short, list-refused, list-table}
 use Rattle.files.proofs.listing.list.Statement.{statement}
 use Rattle.files.proofs.listing.list.Tie as tie
 use Rattle.files.proofs.listing.list.Reads as reads
 use Rattle.files.proofs.listing.list.Lts as lts
+use Rattle.files.proofs.listing.put_map.Reads as put-map-reads
 use Rattle.files.proofs.listing.put_refusal.Reads as put-refusal-reads
-use Rattle.files.proofs.listing.put_table.Reads as put-table-reads
 use Rattle.files.proofs.read.Reads as read-reads
-use Rattle.maps.proofs.record.open.Reads as open-reads
 
--- src/listing.rt:138:9
 returns : tie.Need-returns
-returns c = ?
+returns c = list-short _ _ (c .if1 .taken)
 
--- src/listing.rt:143:9
 read-requires : tie.Need-read-requires
 read-requires c κs = search needs
 
--- src/listing.rt:145:9
 put-refusal-requires : tie.Need-put-refusal-requires
 put-refusal-requires c κs = search needs
 
--- src/listing.rt:146:9
 same-length : tie.Need-same-length
 same-length c = search needs
 
--- src/listing.rt:146:9
 returns-2 : tie.Need-returns-2
-returns-2 c = ?
+returns-2 c =
+    let put = c .before .before in
+    let at = put .before .before in
+    let r = at .before .before in
+    let big = r .before in
+    list-refused _ _ (big .if1 .left) (r .read .ensures) (at .if2 .taken) (put .put-refusal .ensures)
 
--- src/listing.rt:153:9
-open-requires : tie.Need-open-requires
-open-requires c κs = search needs
+put-map-requires : tie.Need-put-map-requires
+put-map-requires c κs =
+    let at = c .before .before in
+    let r = at .before .before in
+    let big = r .before in
+    let start = big .before .before .before in
+    (read-good (start .args .bytes .now) (r .read .ensures) (at .if2 .left), big .if1 .left)
 
--- src/listing.rt:155:9
-put-table-requires : tie.Need-put-table-requires
-put-table-requires c κs = ?
-
--- src/listing.rt:134:1
 same-length-2 : tie.Need-same-length-2
 same-length-2 c = search needs
 
--- src/listing.rt:134:1
 returns-3 : tie.Need-returns-3
-returns-3 c = ?
+returns-3 c =
+    let put = c .before .before in
+    let at = put .before .before .before in
+    let r = at .before .before in
+    let big = r .before in
+    list-table _ _ (big .if1 .left) (r .read .ensures) (at .if2 .left) (put .put-map .ensures)
 
 pub list-spec : {M : Type 1} → statement M
 list-spec =
@@ -55,7 +58,6 @@ list-spec =
     put-refusal-requires
     same-length
     returns-2
-    open-requires
-    put-table-requires
+    put-map-requires
     same-length-2
     returns-3)
