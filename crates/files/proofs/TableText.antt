@@ -7,8 +7,8 @@ use mathlib.Core.Logic.{⊎-elim}
 use mathlib.Core.Bool.{true, false, _&&_}
 use mathlib.Core.List.{List, _++_}
 use borrow.Author.Tests.{lt-ltb, le-ltb, eq-eqb, eqb-true}
-use lib.Dec.{eqb}
-use lib.ListN.{length}
+use lib.Dec.{eqb, ltb}
+use lib.ListN.{length, length-append}
 use Rattle.mesh.specs.Range.{joined}
 use Rattle.mesh.specs.Sound.{table}
 use Rattle.mesh.proofs.Tests.{either, and-both, false-of}
@@ -76,3 +76,13 @@ module _ (bytes out : List ℕ) where
       list-table z p =
           let t : eqb (readFile bytes .number) 0 ≡ true = eq-eqb (readFile bytes .number) 0 (ap (λ (x : Changed). x .number) (sym e) ∙ z) in
           list-puts (rw (t, ← e) p)
+
+  -- the buffer holds as many bytes as the answer says
+  pub list-fits : {w : Written} {left : List ℕ} → w ≡ listed bytes out → left ≡ listedAfter bytes out → w .length ≤ length left
+  unfolding listed listedAfter
+  list-fits {w} {left} p q =
+      ⊎-elim (λ (t : ltb (length out) 65536 ≡ true). let z : w .length ≡ 0 = ap (λ (x : Written). x .length) p ∙ rw t in omega (arith, z))
+      (λ (f : ltb (length out) 65536 ≡ false).
+      let z : w .length ≡ length (listing bytes) = ap (λ (x : Written). x .length) p ∙ rw f in
+      rw (q, f, z, length-append) (omega arith))
+      (either (ltb (length out) 65536))

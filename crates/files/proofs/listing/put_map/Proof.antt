@@ -17,9 +17,11 @@ put-table-requires : tie.Need-put-table-requires
 put-table-requires c κs =
     let o = c .before .before in
     let start = o .before .before .before in
-    let m = start .args .map in
-    (hand-listed m (o .«open» .ensures) (start .pre .0) (simp length-map at (start .good .1 .0 .1 .1 .1 .1 .1 .0 .1 .0 .1))
-    (simp length-map at (start .good .1 .0 .1 .1 .1 .1 .1 .1 .0 .1 .0 .1)), start .pre .1)
+    let m = start .args .map in (
+      hand-listed m (o .«open» .ensures) (start .pre .0) (simp length-map at (start .good .1 .0 .1 .1 .1 .1 .1 .0 .1 .0 .1))
+          (simp length-map at (start .good .1 .0 .1 .1 .1 .1 .1 .1 .0 .1 .0 .1)),
+      start .pre .1,
+    )
 
 same-length : tie.Need-same-length
 same-length c = search needs
