@@ -8,3 +8,6 @@ pub mod Filing
 pub mod Reading
 pub mod GoodFiles
 pub mod FromFile
+pub mod Texts
+pub mod TableLines
+pub mod TableText

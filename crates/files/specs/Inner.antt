@@ -1,7 +1,8 @@
 -- What the functions that put and take a file work on. Only contracts of functions that the crate keeps to itself cite this file.
-use Prim.Native.Nat.{ℕ, _≤_}
+use Prim.Native.Nat.{ℕ, _+_, _≤_}
+use mathlib.Core.Path.{_≡_}
 use mathlib.Core.List.{List, [], _∷_, _++_}
-use lib.ListN.{take}
+use lib.ListN.{length, take}
 use Rattle.mesh.specs.declared.Table.{Table}
 use Rattle.mesh.specs.Range.{joined}
 use Rattle.mesh.specs.Sound.{blendsOf}
@@ -9,7 +10,7 @@ use Rattle.mesh.specs.Bytes.{AllProper}
 use Rattle.mesh.specs.Weight.{Term}
 use Rattle.maps.specs.declared.Map.{Map}
 use Rattle.maps.specs.Values.{paired}
-use Rattle.files.specs.File.{entry, head, splitEntry, valueEntry, tail}
+use Rattle.files.specs.File.{entry, put, head, splitEntry, valueEntry, tail}
 
 -- the entry of a value at an anchor, by its numbers
 abbrev pub valueNumbers : ℕ → ℕ → ℕ → List ℕ
@@ -28,3 +29,8 @@ terms t values = paired (blendsOf t) (take (t .count) values)
 abbrev pub filed : Map → Table → List ℕ
 filed m t =
     head (m .w) (m .h) ++ joined splitEntry (take (m .count) (m .splits)) ++ joined valueEntry (terms t (m .values)) ++ tail
+
+-- a text is put over bytes from a place on, and `next` is the place after it
+pub record Puts (before : List ℕ) (at : ℕ) (text after : List ℕ) (next : ℕ) : Type 0 where
+  pub is : after ≡ put before at text
+  pub ends : next ≡ at + length text

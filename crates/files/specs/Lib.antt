@@ -2,3 +2,4 @@ pub mod File
 pub mod Calls
 pub mod Inner
 pub mod FromFile
+pub mod Listing

@@ -1,5 +1,6 @@
 // Map files: the third of the three layers.
 pub mod bytes;
+pub mod listing;
 mod put;
 mod take;
 

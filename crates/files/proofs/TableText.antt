@@ -1,0 +1,88 @@
+-- What listing a file's table answers and leaves.
+use Prim.Native.Nat.{ℕ, _≤_, _<_}
+use native.Mathlib.Omega.{arith}
+use native.Mathlib.Nat.{zero-add}
+use mathlib.Core.Path.{_≡_, sym, ap, _∙_}
+use mathlib.Core.Logic.{⊎-elim}
+use mathlib.Core.Bool.{true, false, _&&_}
+use mathlib.Core.List.{List, _++_}
+use borrow.Author.Tests.{lt-ltb, le-ltb, eq-eqb, eqb-true}
+use lib.Dec.{eqb, ltb}
+use lib.ListN.{length, length-append}
+use Rattle.mesh.specs.Range.{joined}
+use Rattle.mesh.specs.Sound.{table}
+use Rattle.mesh.proofs.Tests.{either, and-both, false-of}
+use Rattle.maps.specs.declared.Map.{Map}
+use Rattle.maps.specs.declared.Changed.{Changed}
+use Rattle.maps.specs.declared.record.Opened.{Opened}
+use Rattle.maps.specs.Plain.{blends}
+use Rattle.maps.specs.Record.{recordOf, bare, plain, good, opened}
+use Rattle.maps.proofs.InHand.{table-blends, table-count}
+use Rattle.files.specs.declared.Written.{Written}
+use Rattle.files.specs.File.{fileOf, guessed, sameBytes, put}
+use Rattle.files.specs.Calls.{readFile}
+use Rattle.files.specs.Inner.{Listed, Puts, terms}
+use Rattle.files.specs.Listing.{ended, line, tableText, refusal, listing, listed, listedAfter}
+use Rattle.files.proofs.Filing.{ready}
+
+-- a good map's table, in hand, has the map's text
+module _ (m : Map) {o : Opened} (e : o ≡ opened m) (g : good m ≡ true) where
+  opened-good : o ≡ record { good = true; table = table (blends (bare m)) }
+  unfolding opened
+  opened-good = e ∙ rw g
+
+  pub hand-listed : length (m .splits) ≡ 60 → length (m .values) ≡ 1024 → Listed (o .table)
+  hand-listed places full = ready m e (ap (λ (x : Opened). x .good) opened-good) places full .listed
+
+  pub hand-text : ended (o .table .count) ++ joined line (terms (o .table) (m .values)) ≡ tableText (plain m)
+  unfolding plain
+  hand-text = rw (opened-good, table-blends, table-count)
+
+-- a map that is read is good
+pub read-good : (bytes : List ℕ) {r : Changed} → r ≡ readFile bytes → r .number ≡ 0 → good (r .map) ≡ true
+unfolding readFile
+read-good bytes {r} e z =
+    ⊎-elim (λ (t : good m && sameBytes bytes (fileOf (plain m)) ≡ true). rw (e, t) (and-both (good m) _ t .0))
+    (λ (f : good m && sameBytes bytes (fileOf (plain m)) ≡ false).
+    let n : 11 ≡ 0 = rw (e, f) at z in
+    absurd (omega (arith, n)))
+    (either (good m && sameBytes bytes (fileOf (plain m))))
+  where
+    m : Map
+    m = recordOf (guessed bytes)
+
+module _ (bytes out : List ℕ) where
+  abbrev outcome : ℕ → ℕ → List ℕ → Type 0
+  outcome number long left = (_≡_ {A = Written} (record { number = number; length = long }) (listed bytes out)) × (left ≡ listedAfter bytes out)
+
+  pub list-short : length out < 65536 → outcome 12 0 out
+  unfolding listed listedAfter
+  list-short lt = let s = lt-ltb (length out) 65536 lt in (rw s, rw s)
+
+  module _ (room : 65536 ≤ length out) {left : List ℕ} where
+    list-puts : {long : ℕ} → Puts out 0 (listing bytes) left long → outcome 0 long left
+    unfolding listed listedAfter
+    list-puts p = let s = le-ltb (length out) 65536 room in (rw (s, p .ends, zero-add), rw (s, p .is, zero-add))
+
+    module _ {r : Changed} (e : r ≡ readFile bytes) where
+      pub list-refused : (r .number ≡ 0 → ⊥) → left ≡ put out 0 refusal → outcome 0 11 left
+      unfolding listing
+      list-refused ne p =
+          let f : eqb (readFile bytes .number) 0 ≡ false = false-of _ (λ t. ne (rw e (eqb-true _ _ t))) in
+          list-puts (rw f (record { is = p; ends = omega arith }))
+
+      pub list-table : r .number ≡ 0 → {long : ℕ} → Puts out 0 (tableText (plain (r .map))) left long → outcome 0 long left
+      unfolding listing
+      list-table z p =
+          let t : eqb (readFile bytes .number) 0 ≡ true = eq-eqb (readFile bytes .number) 0 (ap (λ (x : Changed). x .number) (sym e) ∙ z) in
+          list-puts (rw (t, ← e) p)
+
+  -- the buffer holds as many bytes as the answer says
+  pub list-fits : {w : Written} {left : List ℕ} → w ≡ listed bytes out → left ≡ listedAfter bytes out → w .length ≤ length left
+  unfolding listed listedAfter
+  list-fits {w} {left} p q =
+      ⊎-elim (λ (t : ltb (length out) 65536 ≡ true). let z : w .length ≡ 0 = ap (λ (x : Written). x .length) p ∙ rw t in omega (arith, z))
+      (λ (f : ltb (length out) 65536 ≡ false).
+      let z : w .length ≡ length (listing bytes) = ap (λ (x : Written). x .length) p ∙ rw f in
+      rw (q, f, z, length-append) (omega arith))
+      (either (ltb (length out) 65536))

@@ -1,0 +1,63 @@
+-- `listing::list` meets its contract: a short buffer, a refusal, or the table of the map that is read.
+use native.Mathlib.Omega.{arith}
+use borrow.Author.Needs.{needs}
+use Rattle.files.proofs.TableText.{read-good, list-short, list-refused, list-table}
+use Rattle.files.proofs.listing.list.Statement.{statement}
+use Rattle.files.proofs.listing.list.Tie as tie
+use Rattle.files.proofs.listing.list.Reads as reads
+use Rattle.files.proofs.listing.list.Lts as lts
+use Rattle.files.proofs.listing.put_map.Reads as put-map-reads
+use Rattle.files.proofs.listing.put_refusal.Reads as put-refusal-reads
+use Rattle.files.proofs.read.Reads as read-reads
+
+returns : tie.Need-returns
+returns c = list-short _ _ (c .if1 .taken)
+
+read-requires : tie.Need-read-requires
+read-requires c κs = search needs
+
+put-refusal-requires : tie.Need-put-refusal-requires
+put-refusal-requires c κs = search needs
+
+same-length : tie.Need-same-length
+same-length c = search needs
+
+returns-2 : tie.Need-returns-2
+returns-2 c =
+    let put = c .before .before in
+    let at = put .before .before in
+    let r = at .before .before in
+    let big = r .before in
+    list-refused _ _ (big .if1 .left) (r .read .ensures) (at .if2 .taken) (put .put-refusal .ensures)
+
+put-map-requires : tie.Need-put-map-requires
+put-map-requires c κs =
+    let at = c .before .before in
+    let r = at .before .before in
+    let big = r .before in
+    let start = big .before .before .before in
+    (read-good (start .args .bytes .now) (r .read .ensures) (at .if2 .left), big .if1 .left)
+
+same-length-2 : tie.Need-same-length-2
+same-length-2 c = search needs
+
+returns-3 : tie.Need-returns-3
+returns-3 c =
+    let put = c .before .before in
+    let at = put .before .before .before in
+    let r = at .before .before in
+    let big = r .before in
+    list-table _ _ (big .if1 .left) (r .read .ensures) (at .if2 .left) (put .put-map .ensures)
+
+pub list-spec : {M : Type 1} → statement M
+list-spec =
+    tie.close
+    (tie.spec
+    returns
+    read-requires
+    put-refusal-requires
+    same-length
+    returns-2
+    put-map-requires
+    same-length-2
+    returns-3)

@@ -1,0 +1,53 @@
+-- `listing::put_line` meets its contract: two triples and the value in a row.
+use native.Mathlib.Omega.{arith}
+use borrow.Author.Needs.{needs}
+use Rattle.files.specs.Listing.{knots, ended, line}
+use Rattle.files.proofs.Texts.{first-room, two-room, next-room, third-room, puts-three}
+use Rattle.files.proofs.listing.put_line.Statement.{statement}
+use Rattle.files.proofs.listing.put_line.Tie as tie
+use Rattle.files.proofs.listing.put_line.Reads as reads
+use Rattle.files.proofs.listing.put_line.Lts as lts
+use Rattle.files.proofs.listing.put_ended.Reads as put-ended-reads
+use Rattle.files.proofs.listing.put_knots.Reads as put-knots-reads
+
+put-knots-requires : tie.Need-put-knots-requires
+unfolding line
+put-knots-requires c κs =
+    let start = c .before .before .before .before in
+    let a = start .args in
+    first-room (a .out .now) (a .at) (knots (a .blend .across)) (knots (a .blend .up)) (two-room (a .out .now) (a .at) (knots (a .blend .across)) (knots (a .blend .up)) (ended (a .value)) (start .pre))
+
+put-knots-requires-2 : tie.Need-put-knots-requires-2
+unfolding line
+put-knots-requires-2 c κs =
+    let first = c .before .before .before in
+    let start = first .before .before .before .before .before in
+    let a = start .args in
+    next-room (a .out .now) (a .at) (knots (a .blend .across)) (knots (a .blend .up)) (two-room (a .out .now) (a .at) (knots (a .blend .across)) (knots (a .blend .up)) (ended (a .value)) (start .pre)) (first .put-knots .ensures)
+
+put-ended-requires : tie.Need-put-ended-requires
+unfolding line
+put-ended-requires c κs =
+    let second = c .before .before .before in
+    let first = second .before .before .before .before in
+    let start = first .before .before .before .before .before in
+    let a = start .args in
+    third-room (a .out .now) (a .at) (knots (a .blend .across)) (knots (a .blend .up)) (ended (a .value)) (start .pre) (first .put-knots .ensures) (second .put-knots2 .ensures)
+
+same-length : tie.Need-same-length
+same-length c = search needs
+
+returns : tie.Need-returns
+unfolding line
+returns c =
+    let third = c .before .before in
+    let second = third .before .before .before .before in
+    let first = second .before .before .before .before in
+    let start = first .before .before .before .before .before in
+    let a = start .args in
+    puts-three (a .out .now) (a .at) (knots (a .blend .across)) (knots (a .blend .up)) (ended (a .value)) (start .pre) (first .put-knots .ensures) (second .put-knots2 .ensures) (third .put-ended .ensures)
+
+pub put-line-spec : {M : Type 1} → statement M
+put-line-spec =
+    tie.close
+    (tie.spec put-knots-requires put-knots-requires-2 put-ended-requires same-length returns)

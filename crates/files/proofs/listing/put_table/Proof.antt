@@ -1,0 +1,152 @@
+-- `listing::put_table` meets its contract. The invariant: the lines of the first i blends are put after the first line.
+use borrow.Author.Needs.{needs}
+use native.Mathlib.Omega.{arith}
+use Prim.Native.Nat.{_+_, _*_, _-_, _≤_}
+use mathlib.Core.Path.{_≡_, _∙_}
+use lib.ListN.{length, getD, length-map, length-append}
+use Rattle.mesh.specs.Sound.{none}
+use Rattle.files.specs.Inner.{terms}
+use Rattle.files.specs.Listing.{ended, line}
+use Rattle.files.proofs.Terms.{term, terms-length, terms-at, terms-rise}
+use Rattle.files.proofs.Texts.{puts-then}
+use Rattle.files.proofs.TableLines.{Rows, rows-none, rows-length, rows-room, rows-more, rows-done, rows-fit, ended-short, line-short}
+use Rattle.files.proofs.listing.put_table.Statement.{statement}
+use Rattle.files.proofs.listing.put_table.Tie as tie
+use Rattle.files.proofs.listing.put_table.Reads as reads
+use Rattle.files.proofs.listing.put_table.Lts as lts
+use Rattle.files.proofs.listing.put_ended.Reads as put-ended-reads
+use Rattle.files.proofs.listing.put_line.Reads as put-line-reads
+use Rattle.files.proofs.listing.wide.Reads as wide-reads
+
+abbrev Inv-loop : tie.InvT-loop
+Inv-loop out₀ table values count at₀ i₀ out at i = Rows line 42 (terms table values) out₀ at₀ i out at
+
+abbrev μ-loop : tie.MeasureT-loop
+μ-loop out₀ table values count at₀ i₀ out at i = count - i
+
+places : (c : tie.Start Inv-loop μ-loop) → length (c .args .t2 .blends) ≡ 1024
+places c = simp length-map at (c .good .1 .0 .1 .1 .1 .0 .1 .0 .1)
+
+counted : (c : tie.Start Inv-loop μ-loop) → length (terms (c .args .t2) (c .args .t3)) ≡ c .args .t2 .count
+counted c = terms-length (c .args .t2) (c .args .t3) (c .pre .0) (places c) (c .good .1 .1 .0 .1 .0 .1)
+
+-- there is room for all lines after the first one
+room : (c : tie.After-put-ended Inv-loop μ-loop) →
+    let a = c .before .before .before .args in
+    c .put-ended .result + 42 * length (terms (a .t2) (a .t3)) ≤ length (c .put-ended .last .0)
+room c =
+    let start = c .before .before .before in
+    let first = ended-short (start .args .t2 .count) (omega (arith, start .pre .0 .few)) in
+    omega (arith, counted start, first, c .put-ended .ensures .ends, c .put-ended .kept .0, start .pre .0 .few, start .pre .1)
+
+-- the term of a place is the one in hand, and its line is short
+in-hand : (c : tie.After-wide Inv-loop μ-loop) →
+    let at = c .before .before .before in
+    let a = at .before .before .before .before .before .before .args in
+    getD (terms (a .t2) (a .t3)) (at .loop .i) (term none 0) ≡ term (getD (a .t2 .blends) (at .loop .i) none) (c .wide .result)
+in-hand c =
+    let at = c .before .before .before in
+    let start = at .before .before .before .before .before .before in
+    let a = start .args in
+    terms-at (a .t2) (a .t3) (start .pre .0) (places start) (start .good .1 .1 .0 .1 .0 .1) (at .loop .i) (c .before .before .loop-test .taken) (term none 0) ∙
+    rw (← c .wide .ensures .0)
+
+short : (c : tie.After-wide Inv-loop μ-loop) →
+    let at = c .before .before .before in
+    let a = at .before .before .before .before .before .before .args in
+    length (line (getD (terms (a .t2) (a .t3)) (at .loop .i) (term none 0))) ≤ 42
+short c =
+    let at = c .before .before .before in
+    let start = at .before .before .before .before .before .before in
+    let a = start .args in
+    rw (in-hand c)
+    (line-short _ (terms-rise (a .t2) (a .t3) (start .pre .0) (places start) (start .good .1 .1 .0 .1 .0 .1) (at .loop .i) (c .before .before .loop-test .taken)) (c .wide .ensures .1))
+
+put-ended-requires : tie.Need-put-ended-requires Inv-loop μ-loop
+put-ended-requires c κs =
+    let start = c .before .before in
+    let first = ended-short (start .args .t2 .count) (omega (arith, start .pre .0 .few)) in
+    omega (arith, first, start .pre .1)
+
+loop-holds : tie.Need-loop-holds Inv-loop μ-loop
+loop-holds c = rows-none line 42 _ _ _
+
+mul-blend : tie.Need-mul-blend Inv-loop μ-loop
+mul-blend c =
+    let start = c .before .before .before .before .before .before .before in omega (arith, start .pre .0 .few)
+
+element-copy-out-blend : tie.Need-element-copy-out-blend Inv-loop μ-loop
+element-copy-out-blend c =
+    let start = c .before .before .before .before .before .before .before in omega (arith, start .pre .0 .few)
+
+mul-wide : tie.Need-mul-wide Inv-loop μ-loop
+mul-wide c =
+    let start = c .before .before .before .before .before .before .before .before in omega (arith, start .pre .0 .few)
+
+array-read-wide : tie.Need-array-read-wide Inv-loop μ-loop
+array-read-wide c =
+    let start = c .before .before .before .before .before .before .before .before in omega (arith, start .pre .0 .few)
+
+wide-requires : tie.Need-wide-requires Inv-loop μ-loop
+wide-requires c κs = search needs
+
+put-line-requires : tie.Need-put-line-requires Inv-loop μ-loop
+put-line-requires c κs =
+    let wide = c .before in
+    let at = wide .before .before .before in
+    let first = at .before .before .before in
+    let start = first .before .before .before in
+    rw (in-hand wide) at
+    (rows-room line 42 _ _ _ (room first) (at .loop .inv) (term none 0) (rw (counted start) (wide .before .before .loop-test .taken)) (short wide))
+
+add-i : tie.Need-add-i Inv-loop μ-loop
+add-i c = omega arith
+
+loop-less : tie.Need-loop-less Inv-loop μ-loop
+loop-less c = omega arith
+
+loop-again : tie.Need-loop-again Inv-loop μ-loop
+loop-again c =
+    let put = c .before .before in
+    let wide = put .before .before in
+    let at = wide .before .before .before in
+    let first = at .before .before .before in
+    let start = first .before .before .before in
+    rows-more line 42 _ _ _ (room first) (at .loop .inv) (term none 0) (rw (counted start) (wide .before .before .loop-test .taken)) (short wide)
+    (rw (in-hand wide) (put .put-line .ensures))
+
+same-length : tie.Need-same-length Inv-loop μ-loop
+same-length c =
+    let at = c .before in
+    let first = at .before .before .before in
+    rows-length line 42 _ _ _ (room first) (at .loop .inv) ∙ first .put-ended .kept .0
+
+returns : tie.Need-returns Inv-loop μ-loop
+returns c =
+    let at = c .before in
+    let first = at .before .before .before in
+    let start = first .before .before .before in
+    let rows = rows-done line 42 _ _ _ (room first) (at .loop .inv) (omega (arith, counted start)) in
+    puts-then (start .args .out .now) 0 (ended (start .args .t2 .count)) _
+    (rw length-append (omega (arith, rows-fit line 42 _ _ _ (room first) (at .loop .inv) (omega (arith, counted start)), first .put-ended .ensures .ends, first .put-ended .kept .0)))
+    (first .put-ended .ensures) rows
+
+pub put-table-spec : {M : Type 1} → statement M
+put-table-spec =
+    tie.close
+    (tie.spec
+    Inv-loop
+    μ-loop
+    put-ended-requires
+    loop-holds
+    mul-blend
+    element-copy-out-blend
+    mul-wide
+    array-read-wide
+    wide-requires
+    put-line-requires
+    add-i
+    loop-less
+    loop-again
+    same-length
+    returns)

@@ -1,0 +1,178 @@
+// The table of a map file as text: what the table program prints.
+use crate::Written;
+use crate::read;
+use maps::Map;
+use maps::record::open;
+use mesh::Blend;
+use mesh::Table;
+use mesh::Triple;
+ghost use mathlib.Core.Path.{_≡_};
+ghost use mathlib.Core.List.{[], _∷_, _++_};
+ghost use Prim.Native.Nat.{ℕ, _+_, _%_, _≤_, _<_};
+ghost use lib.ListN.{length};
+ghost use Rattle.mesh.specs.Range.{joined};
+ghost use Rattle.mesh.specs.Bytes.{Proper};
+ghost use mathlib.Core.Bool.{true};
+ghost use Rattle.maps.specs.Record.{plain, good};
+ghost use Rattle.files.specs.File.{put};
+ghost use Rattle.files.specs.Inner.{Listed, Puts, terms};
+ghost use Rattle.files.specs.Listing.{digits, coordinate, spaced, ended, knots, line, tableText, refusal, listed, listedAfter};
+
+// The byte of a number's last digit.
+fn digit(n: usize) -> u8
+    ensures { λ r. ⌜ r ≡ 48 + n % 10 ⌝ }
+{
+    (48 + n % 10) as u8
+}
+
+// Puts a byte. Each function here that puts a text returns the place after it.
+fn put_byte(out: &mut [u8], at: usize, byte: u8) -> usize
+    requires { ⌜ at + 1 ≤ length (now out) ⌝ }
+    ensures { λ r. ⌜ Puts (now (out .entry)) at (byte ∷ []) (now (out .exit)) r ⌝ }
+{
+    out[at] = byte;
+    at + 1
+}
+
+// Puts a number in base ten.
+fn put_digits(out: &mut [u8], at: usize, n: usize) -> usize
+    requires { ⌜ at + length (digits n) ≤ length (now out) ⌝ }
+    ensures { λ r. ⌜ Puts (now (out .entry)) at (digits n) (now (out .exit)) r ⌝ }
+{
+    let byte = digit(n);
+    if n < 10 {
+        return put_byte(out, at, byte);
+    }
+    let last = put_digits(out, at, n / 10);
+    put_byte(out, last, byte)
+}
+
+// Puts a number and the end of its line.
+fn put_ended(out: &mut [u8], at: usize, n: usize) -> usize
+    requires { ⌜ at + length (ended n) ≤ length (now out) ⌝ }
+    ensures { λ r. ⌜ Puts (now (out .entry)) at (ended n) (now (out .exit)) r ⌝ }
+{
+    let end = put_digits(out, at, n);
+    put_byte(out, end, b'\n')
+}
+
+// Puts the coordinate of a knot.
+fn put_coordinate(out: &mut [u8], at: usize, knot: usize) -> usize
+    requires { ⌜ at + length (coordinate knot) ≤ length (now out) ⌝ }
+    ensures { λ r. ⌜ Puts (now (out .entry)) at (coordinate knot) (now (out .exit)) r ⌝ }
+{
+    if knot == 0 {
+        let next = put_byte(out, at, b'-');
+        return put_byte(out, next, b'1');
+    }
+    put_digits(out, at, knot - 1)
+}
+
+// Puts the coordinate of a knot and a blank.
+fn put_spaced(out: &mut [u8], at: usize, knot: usize) -> usize
+    requires { ⌜ at + length (spaced knot) ≤ length (now out) ⌝ }
+    ensures { λ r. ⌜ Puts (now (out .entry)) at (spaced knot) (now (out .exit)) r ⌝ }
+{
+    let end = put_coordinate(out, at, knot);
+    put_byte(out, end, b' ')
+}
+
+// Puts the coordinates of a triple, a blank after each.
+fn put_knots(out: &mut [u8], at: usize, triple: Triple) -> usize
+    requires { ⌜ at + length (knots triple) ≤ length (now out) ⌝ }
+    ensures { λ r. ⌜ Puts (now (out .entry)) at (knots triple) (now (out .exit)) r ⌝ }
+{
+    let second = put_spaced(out, at, triple.l);
+    let third = put_spaced(out, second, triple.m);
+    put_spaced(out, third, triple.r)
+}
+
+// Puts the line of a blend and its value.
+fn put_line(out: &mut [u8], at: usize, blend: Blend, value: usize) -> usize
+    requires { ⌜ at + length (line (record { multiple = value; of = blend })) ≤ length (now out) ⌝ }
+    ensures { λ r. ⌜ Puts (now (out .entry)) at (line (record { multiple = value; of = blend })) (now (out .exit)) r ⌝ }
+{
+    let across = blend.across;
+    let up = blend.up;
+    let second = put_knots(out, at, across);
+    let third = put_knots(out, second, up);
+    put_ended(out, third, value)
+}
+
+fn wide(x: u16) -> usize
+    ensures { λ r. ⌜ (r ≡ x) × (r < 65536) ⌝ }
+{
+    x as usize
+}
+
+// Puts the number of a table's blends, then a line for each.
+fn put_table(out: &mut [u8], table: Table, values: [u16; 1024]) -> usize
+    requires { ⌜ Listed table × (65536 ≤ length (now out)) ⌝ }
+    ensures { λ r. ⌜ Puts (now (out .entry)) 0 (ended (table .count) ++ joined line (terms table values)) (now (out .exit)) r ⌝ }
+{
+    let count = table.count;
+    let mut at = put_ended(out, 0, count);
+    let mut i = 0;
+    while i < count {
+        let blend = table.blends[i];
+        let value = wide(values[i]);
+        at = put_line(out, at, blend, value);
+        i += 1;
+    }
+    at
+}
+
+// Puts the line of a refusal.
+fn put_refusal(out: &mut [u8])
+    requires { ⌜ 11 ≤ length (now out) ⌝ }
+    ensures { λ _. ⌜ now (out .exit) ≡ put (now (out .entry)) 0 refusal ⌝ }
+{
+    out[0] = b'r';
+    out[1] = b'e';
+    out[2] = b'f';
+    out[3] = b'u';
+    out[4] = b's';
+    out[5] = b'e';
+    out[6] = b'd';
+    out[7] = b' ';
+    out[8] = b'1';
+    out[9] = b'1';
+    out[10] = b'\n';
+}
+
+// Puts the table of a good map.
+fn put_map(out: &mut [u8], map: Map) -> usize
+    requires { ⌜ (good map ≡ true) × (65536 ≤ length (now out)) ⌝ }
+    ensures { λ r. ⌜ Puts (now (out .entry)) 0 (tableText (plain map)) (now (out .exit)) r ⌝ }
+{
+    let values = map.values;
+    let opened = open(map);
+    let table = opened.table;
+    put_table(out, table, values)
+}
+
+// Writes the table of a map file as text into a lent buffer, or the line of a refusal: refused with 12.
+pub fn list(bytes: &[u8], out: &mut [u8]) -> Written
+    ensures { λ r. ⌜ (r ≡ listed (now (bytes .entry)) (now (out .entry))) × (now (out .exit) ≡ listedAfter (now (bytes .entry)) (now (out .entry))) ⌝ }
+{
+    if out.len() < 65536 {
+        return Written {
+            number: 12,
+            length: 0,
+        };
+    }
+    let file = read(bytes);
+    if file.number != 0 {
+        put_refusal(out);
+        return Written {
+            number: 0,
+            length: 11,
+        };
+    }
+    let map = file.map;
+    let length = put_map(out, map);
+    Written {
+        number: 0,
+        length: length,
+    }
+}
