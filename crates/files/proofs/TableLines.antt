@@ -1,10 +1,10 @@
 -- A table's text: lines of at most 42 bytes, put in a row one by one.
-use Prim.Native.Nat.{ℕ, _+_, _*_, _-_, _/_, _%_, _≤_, _<_}
+use Prim.Native.Nat.{ℕ, _+_, _*_, _-_, _/_, _≤_, _<_}
 use native.Mathlib.Omega.{arith}
 use native.Mathlib.Nat.{mul-le-mul-left}
-use mathlib.Core.Path.{_≡_, refl, sym, ap, _∙_}
+use mathlib.Core.Path.{_≡_, ap, _∙_}
 use mathlib.Core.Logic.{⊎-elim}
-use mathlib.Core.List.{List, [], _∷_, _++_}
+use mathlib.Core.List.{List, _++_}
 use borrow.Author.Tests.{ltb-true, ltb-false, eqb-true, eqb-false}
 use lib.Dec.{ltb, eqb}
 use lib.ListN.{length, take, getD, length-append}
@@ -15,7 +15,7 @@ use Rattle.mesh.specs.Range.{joined}
 use Rattle.mesh.specs.Bytes.{Rises, Proper}
 use Rattle.mesh.proofs.Tests.{either}
 use Rattle.files.specs.Inner.{Puts}
-use Rattle.files.specs.Listing.{digits, coordinate, spaced, ended, knots, line}
+use Rattle.files.specs.Listing.{digits, spaced, ended, knots, line}
 use Rattle.files.proofs.Putting.{put-none, put-length, joined-more}
 use Rattle.files.proofs.Texts.{puts-then, one-digit, more-digits, outer-coordinate, inner-coordinate}
 

@@ -13,7 +13,7 @@ use Rattle.maps.specs.Values.{paired}
 use Rattle.files.specs.declared.Written.{Written}
 use Rattle.files.specs.Calls.{readFile}
 
--- a number in base ten, the highest digit first; a number has fewer digits after its first than it counts
+-- A number in base ten, the highest digit first. The first argument bounds how many digits may follow: no more than the number counts.
 unfoldable pub digitsBy : ℕ → ℕ → List ℕ
 digitsBy zero n = (48 + n % 10) ∷ []
 digitsBy (suc more) n = let front = digitsBy more (n / 10) in cond (ltb n 10) [] front ++ ((48 + n % 10) ∷ [])

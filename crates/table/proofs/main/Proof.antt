@@ -7,11 +7,6 @@ use lib.Seq.{length-take-le}
 use Rattle.files.proofs.TableText.{list-fits}
 use Rattle.table.proofs.main.Statement.{statement}
 use Rattle.table.proofs.main.Tie as tie
-use Rattle.table.proofs.main.Reads as reads
-use Rattle.table.proofs.main.Lts as lts
-use Rattle.files.proofs.listing.list.Reads as list-reads
-use Rattle.io.proofs.read_full.Reads as read-full-reads
-use Rattle.io.proofs.write_all.Reads as write-all-reads
 
 slice-aggregate-read-full : tie.Need-slice-aggregate-read-full
 slice-aggregate-read-full c = search needs

@@ -1,11 +1,10 @@
 -- `listing::put_digits` meets its contract: the digits before the last are those of a tenth. The measure is the number.
 use borrow.Author.Needs.{needs}
 use native.Mathlib.Omega.{arith}
-use Prim.Native.Nat.{ℕ, _<_}
+use Prim.Native.Nat.{ℕ, _+_, _/_, _%_, _<_}
 use borrow.Fn.Kinds.{In}
 use borrow.Fn.PlainCycle.{Measures, is, falls, and}
 use mathlib.Core.List.{[], _∷_}
-use Prim.Native.Nat.{_/_, _%_, _+_}
 use Rattle.files.specs.Listing.{digits}
 use Rattle.files.proofs.Texts.{first-room, next-room, puts-then, one-digit, more-digits}
 use Rattle.files.proofs.listing.put_digits.Reads as put-digits

@@ -1,14 +1,8 @@
 -- `listing::list` meets its contract: a short buffer, a refusal, or the table of the map that is read.
-use native.Mathlib.Omega.{arith}
 use borrow.Author.Needs.{needs}
 use Rattle.files.proofs.TableText.{read-good, list-short, list-refused, list-table}
 use Rattle.files.proofs.listing.list.Statement.{statement}
 use Rattle.files.proofs.listing.list.Tie as tie
-use Rattle.files.proofs.listing.list.Reads as reads
-use Rattle.files.proofs.listing.list.Lts as lts
-use Rattle.files.proofs.listing.put_map.Reads as put-map-reads
-use Rattle.files.proofs.listing.put_refusal.Reads as put-refusal-reads
-use Rattle.files.proofs.read.Reads as read-reads
 
 returns : tie.Need-returns
 returns c = list-short _ _ (c .if1 .taken)

@@ -1,13 +1,10 @@
 -- `listing::put_byte` meets its contract: one store is a splice.
-use native.Mathlib.Omega.{arith}
 use borrow.Author.Needs.{needs}
 use mathlib.Core.Path.{refl}
 use mathlib.Core.List.{[], _∷_}
 use lib.Seq.{sets-eq}
 use Rattle.files.proofs.listing.put_byte.Statement.{statement}
 use Rattle.files.proofs.listing.put_byte.Tie as tie
-use Rattle.files.proofs.listing.put_byte.Reads as reads
-use Rattle.files.proofs.listing.put_byte.Lts as lts
 
 slice-write-out : tie.Need-slice-write-out
 slice-write-out c = search needs

@@ -1,14 +1,9 @@
 -- `listing::put_coordinate` meets its contract: two bytes for the outer knot, the digits of any other.
-use native.Mathlib.Omega.{arith}
 use borrow.Author.Needs.{needs}
 use mathlib.Core.List.{[], _∷_}
 use Rattle.files.proofs.Texts.{first-room, next-room, puts-then, outer-coordinate, inner-coordinate}
 use Rattle.files.proofs.listing.put_coordinate.Statement.{statement}
 use Rattle.files.proofs.listing.put_coordinate.Tie as tie
-use Rattle.files.proofs.listing.put_coordinate.Reads as reads
-use Rattle.files.proofs.listing.put_coordinate.Lts as lts
-use Rattle.files.proofs.listing.put_byte.Reads as put-byte-reads
-use Rattle.files.proofs.listing.put_digits.Reads as put-digits-reads
 
 put-byte-requires : tie.Need-put-byte-requires
 put-byte-requires c κs =

@@ -1,15 +1,10 @@
 -- `listing::put_ended` meets its contract: the digits, then a byte.
-use native.Mathlib.Omega.{arith}
 use borrow.Author.Needs.{needs}
 use mathlib.Core.List.{[], _∷_}
 use Rattle.files.specs.Listing.{digits}
 use Rattle.files.proofs.Texts.{first-room, next-room, puts-then}
 use Rattle.files.proofs.listing.put_ended.Statement.{statement}
 use Rattle.files.proofs.listing.put_ended.Tie as tie
-use Rattle.files.proofs.listing.put_ended.Reads as reads
-use Rattle.files.proofs.listing.put_ended.Lts as lts
-use Rattle.files.proofs.listing.put_byte.Reads as put-byte-reads
-use Rattle.files.proofs.listing.put_digits.Reads as put-digits-reads
 
 put-digits-requires : tie.Need-put-digits-requires
 put-digits-requires c κs =

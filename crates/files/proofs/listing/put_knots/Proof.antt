@@ -1,13 +1,9 @@
 -- `listing::put_knots` meets its contract: three coordinates in a row.
-use native.Mathlib.Omega.{arith}
 use borrow.Author.Needs.{needs}
 use Rattle.files.specs.Listing.{spaced, knots}
 use Rattle.files.proofs.Texts.{first-room, two-room, next-room, third-room, puts-three}
 use Rattle.files.proofs.listing.put_knots.Statement.{statement}
 use Rattle.files.proofs.listing.put_knots.Tie as tie
-use Rattle.files.proofs.listing.put_knots.Reads as reads
-use Rattle.files.proofs.listing.put_knots.Lts as lts
-use Rattle.files.proofs.listing.put_spaced.Reads as put-spaced-reads
 
 put-spaced-requires : tie.Need-put-spaced-requires
 unfolding knots

@@ -1,14 +1,9 @@
 -- `listing::put_line` meets its contract: two triples and the value in a row.
-use native.Mathlib.Omega.{arith}
 use borrow.Author.Needs.{needs}
 use Rattle.files.specs.Listing.{knots, ended, line}
 use Rattle.files.proofs.Texts.{first-room, two-room, next-room, third-room, puts-three}
 use Rattle.files.proofs.listing.put_line.Statement.{statement}
 use Rattle.files.proofs.listing.put_line.Tie as tie
-use Rattle.files.proofs.listing.put_line.Reads as reads
-use Rattle.files.proofs.listing.put_line.Lts as lts
-use Rattle.files.proofs.listing.put_ended.Reads as put-ended-reads
-use Rattle.files.proofs.listing.put_knots.Reads as put-knots-reads
 
 put-knots-requires : tie.Need-put-knots-requires
 unfolding line

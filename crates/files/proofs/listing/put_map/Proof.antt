@@ -1,14 +1,9 @@
 -- `listing::put_map` meets its contract: the table in hand has the map's text.
-use native.Mathlib.Omega.{arith}
 use borrow.Author.Needs.{needs}
 use lib.ListN.{length-map}
 use Rattle.files.proofs.TableText.{hand-listed, hand-text}
 use Rattle.files.proofs.listing.put_map.Statement.{statement}
 use Rattle.files.proofs.listing.put_map.Tie as tie
-use Rattle.files.proofs.listing.put_map.Reads as reads
-use Rattle.files.proofs.listing.put_map.Lts as lts
-use Rattle.files.proofs.listing.put_table.Reads as put-table-reads
-use Rattle.maps.proofs.record.open.Reads as open-reads
 
 open-requires : tie.Need-open-requires
 open-requires c κs = search needs

@@ -6,8 +6,6 @@ use lib.Seq.{sets-eq}
 use Rattle.files.specs.Listing.{refusal}
 use Rattle.files.proofs.listing.put_refusal.Statement.{statement}
 use Rattle.files.proofs.listing.put_refusal.Tie as tie
-use Rattle.files.proofs.listing.put_refusal.Reads as reads
-use Rattle.files.proofs.listing.put_refusal.Lts as lts
 
 slice-write-out : tie.Need-slice-write-out
 slice-write-out c = search needs

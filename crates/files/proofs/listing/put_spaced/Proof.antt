@@ -1,15 +1,10 @@
 -- `listing::put_spaced` meets its contract: the coordinate, then a byte.
-use native.Mathlib.Omega.{arith}
 use borrow.Author.Needs.{needs}
 use mathlib.Core.List.{[], _∷_}
 use Rattle.files.specs.Listing.{coordinate}
 use Rattle.files.proofs.Texts.{first-room, next-room, puts-then}
 use Rattle.files.proofs.listing.put_spaced.Statement.{statement}
 use Rattle.files.proofs.listing.put_spaced.Tie as tie
-use Rattle.files.proofs.listing.put_spaced.Reads as reads
-use Rattle.files.proofs.listing.put_spaced.Lts as lts
-use Rattle.files.proofs.listing.put_byte.Reads as put-byte-reads
-use Rattle.files.proofs.listing.put_coordinate.Reads as put-coordinate-reads
 
 put-coordinate-requires : tie.Need-put-coordinate-requires
 put-coordinate-requires c κs =

@@ -12,11 +12,6 @@ use Rattle.files.proofs.Texts.{puts-then}
 use Rattle.files.proofs.TableLines.{Rows, rows-none, rows-length, rows-room, rows-more, rows-done, rows-fit, ended-short, line-short}
 use Rattle.files.proofs.listing.put_table.Statement.{statement}
 use Rattle.files.proofs.listing.put_table.Tie as tie
-use Rattle.files.proofs.listing.put_table.Reads as reads
-use Rattle.files.proofs.listing.put_table.Lts as lts
-use Rattle.files.proofs.listing.put_ended.Reads as put-ended-reads
-use Rattle.files.proofs.listing.put_line.Reads as put-line-reads
-use Rattle.files.proofs.listing.wide.Reads as wide-reads
 
 abbrev Inv-loop : tie.InvT-loop
 Inv-loop out₀ table values count at₀ i₀ out at i = Rows line 42 (terms table values) out₀ at₀ i out at
