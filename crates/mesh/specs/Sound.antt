@@ -1,11 +1,11 @@
 -- Document 01, "Blends": a sound map; and what the functions on tables of blends answer.
-use Prim.Native.Nat.{ℕ, _+_, _-_}
+use Prim.Native.Nat.{ℕ, _+_, _-_, _*_}
 use mathlib.Core.Bool.{Bool, true, false, cond, _&&_, not}
 use mathlib.Core.List.{List, [], _∷_, _++_}
 use lib.Dec.{leb, eqb}
 use lib.ListN.{length, take, replicate}
 use Rattle.mesh.specs.Range.{every, all, any, only}
-use Rattle.mesh.specs.Triple.{triple, rising, spans, between}
+use Rattle.mesh.specs.Triple.{triple, rising, spans, stepsIn, between}
 use Rattle.mesh.specs.Lines.{meshOf, allowed}
 use Rattle.mesh.specs.Blends.{blend, same, isCut, refine, firstFour}
 use Rattle.mesh.specs.declared.Blend.{Blend}
@@ -32,6 +32,14 @@ noneNested bs = all (λ B. all (λ C. not (nested B C)) bs) bs
 -- "A map is sound when …", of its sides and its live blends
 unfoldable pub sound : ℕ → ℕ → List Blend → Bool
 sound w h bs = fourEverywhere w h bs && noneNested bs
+
+-- how many unit squares of the domain lie in a blend's support; and in those of some blends, added up
+abbrev pub area : ℕ → ℕ → Blend → ℕ
+area w h B = stepsIn w (B .across) * stepsIn h (B .up)
+
+abbrev pub areas : ℕ → ℕ → List Blend → ℕ
+areas w h [] = 0
+areas w h (B ∷ bs) = area w h B + areas w h bs
 
 -- both triples rise and lie within −1 to side + 1
 abbrev pub proper : ℕ → ℕ → Blend → Bool
