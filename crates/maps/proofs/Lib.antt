@@ -6,6 +6,7 @@ pub mod Filling
 pub mod Following
 pub mod Gentle
 pub mod Good
+pub mod Handed
 pub mod InHand
 pub mod Index
 pub mod Longer

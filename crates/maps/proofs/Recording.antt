@@ -281,7 +281,7 @@ module _ {m : Map} {t : Table} (g : GoodMap m t) (L : Lines) (e : L ≡ linesOf 
   unfolding given plain
   given-number = rw e
 
-  chosen-lines : chosen (held L) s ≡ chosen (plain m) s
+  pub chosen-lines : chosen (held L) s ≡ chosen (plain m) s
   unfolding chosen candidate containing plain
   chosen-lines = rw e
 

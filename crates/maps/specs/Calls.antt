@@ -13,6 +13,7 @@ use Rattle.mesh.specs.Sound.{none}
 use Rattle.maps.specs.declared.Map.{Map}
 use Rattle.maps.specs.declared.Shape.{Shape}
 use Rattle.maps.specs.declared.Changed.{Changed}
+use Rattle.maps.specs.declared.WithTable.{WithTable}
 use Rattle.maps.specs.declared.Placed.{Placed}
 use Rattle.maps.specs.declared.Reading.{Reading}
 use Rattle.maps.specs.declared.Weight.{Weight}
@@ -20,10 +21,14 @@ use Rattle.maps.specs.declared.Weights.{Weights}
 use Rattle.maps.specs.Plain.{Plain, freshPlain, blends}
 use Rattle.maps.specs.Values.{readingAt, inDomain, corner, weightAt, over, placeOf}
 use Rattle.maps.specs.Splits.{exactNumber, given, chosen, drawn}
-use Rattle.maps.specs.Record.{recordOf, plain, good}
+use Rattle.maps.specs.Record.{recordOf, plain, good, opened}
 
 abbrev pub changed : ℕ → Map → Changed
 changed n m = record { number = n; map = m }
+
+-- An answer with the table of the map handed back.
+abbrev pub withTable : Changed → WithTable
+withTable c = record { number = c .number; map = c .map; table = opened (c .map) .table }
 
 -- Fresh map: 1 for a side outside 1 to 128, with the fresh 1 by 1 map.
 unfoldable pub freshMap : ℕ → ℕ → Changed

@@ -1,12 +1,14 @@
 // Maps: a pump's lines and values, and the calls on them. The second of the three layers.
 mod calls;
 mod carry;
+mod changes;
 pub mod record;
 mod sameness;
 mod splits;
 mod values;
 
 use mesh::Split;
+use mesh::Table;
 ghost use mathlib.Core.Path.{_≡_};
 ghost use Rattle.mesh.specs.Lines.{allowedSide};
 ghost use Rattle.maps.specs.Plain.{freshPlain};
@@ -87,6 +89,13 @@ pub struct Shape {
 pub struct Changed {
     pub number: usize,
     pub map: Map,
+}
+
+// A number, the map that the call hands back, and the table of its live blends; an empty one where its record is not good.
+pub struct WithTable {
+    pub number: usize,
+    pub map: Map,
+    pub table: Table,
 }
 
 // A number, and the blend and value at a table place.

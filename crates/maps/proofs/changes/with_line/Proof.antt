@@ -1,8 +1,8 @@
--- `maps::calls::with_line` meets its contract: the split goes behind the others, and the values are carried.
+-- `maps::changes::with_line` meets its contract: the split goes behind the others, and the values are carried.
 use borrow.Author.Needs.{needs}
 use Rattle.maps.proofs.Recording.{GoodMap, good-map, in-table, new-few, new-proper, drawn-record}
-use Rattle.maps.proofs.calls.with_line.Statement.{statement}
-use Rattle.maps.proofs.calls.with_line.Tie as tie
+use Rattle.maps.proofs.changes.with_line.Statement.{statement}
+use Rattle.maps.proofs.changes.with_line.Tie as tie
 
 old-map : (c : tie.Start) → GoodMap (c .args .map) (c .args .old)
 old-map c =
