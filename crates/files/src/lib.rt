@@ -1,6 +1,7 @@
 // Map files: the third of the three layers.
 pub mod bytes;
 pub mod listing;
+pub mod over;
 mod put;
 mod take;
 
@@ -11,9 +12,11 @@ use crate::take::taken;
 use maps::Changed;
 use maps::Map;
 use maps::record::open;
+use mesh::Table;
 ghost use mathlib.Core.Path.{_≡_};
 ghost use Rattle.maps.specs.Plain.{freshPlain};
-ghost use Rattle.maps.specs.Record.{recordOf};
+ghost use mathlib.Core.Bool.{true};
+ghost use Rattle.maps.specs.Record.{recordOf, good, opened};
 ghost use Rattle.maps.specs.Calls.{changed};
 ghost use Rattle.files.specs.Calls.{written, after, readFile};
 
@@ -34,7 +37,14 @@ pub fn write(map: Map, buffer: &mut [u8]) -> Written
             length: 0,
         };
     }
-    let table = opened.table;
+    put_whole(buffer, map, opened.table)
+}
+
+// Puts the file of a good map whose table is in hand: refused with 12.
+pub(crate) fn put_whole(buffer: &mut [u8], map: Map, table: Table) -> Written
+    requires { ⌜ (good map ≡ true) × (table ≡ opened map .table) ⌝ }
+    ensures { λ r. ⌜ (r ≡ written map (now (buffer .entry))) × (now (buffer .exit) ≡ after map (now (buffer .entry))) ⌝ }
+{
     let length = 12 + 12 * map.count + 10 * table.count;
     if buffer.len() < length {
         return Written {
@@ -50,7 +60,7 @@ pub fn write(map: Map, buffer: &mut [u8]) -> Written
 }
 
 // The fresh 1 by 1 map, with 11.
-fn refused() -> Changed
+pub(crate) fn refused() -> Changed
     ensures { λ r. ⌜ r ≡ changed 11 (recordOf (freshPlain 1 1)) ⌝ }
 {
     let fresh = Map::fresh(1, 1);

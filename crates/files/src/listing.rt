@@ -140,7 +140,7 @@ fn put_refusal(out: &mut [u8])
 }
 
 // Puts the table of a good map.
-fn put_map(out: &mut [u8], map: Map) -> usize
+pub(crate) fn put_map(out: &mut [u8], map: Map) -> usize
     requires { ⌜ (good map ≡ true) × (65536 ≤ length (now out)) ⌝ }
     ensures { λ r. ⌜ Puts (now (out .entry)) 0 (tableText (plain map)) (now (out .exit)) r ⌝ }
 {
