@@ -41,30 +41,32 @@ module _ (m : Map) {o : Opened} (e : o ≡ opened m) where
   pub not-good : o .good ≡ false → good m ≡ false
   not-good f = sym same-good ∙ f
 
-  module _ (t : o .good ≡ true) where
-    its-table : o .table ≡ table (blends (bare m))
-    unfolding opened
-    its-table = let g : good m ≡ true = sym same-good ∙ t in ap (λ (x : Opened). x .table) e ∙ rw g
+  pub in-hand : o .good ≡ true → (good m ≡ true) × (o .table ≡ opened m .table)
+  in-hand t = (sym same-good ∙ t, ap (λ (x : Opened). x .table) e)
 
-    pub ready : length (m .splits) ≡ 60 → length (m .values) ≡ 1024 → Ready m (o .table)
-    unfolding recordOf plain fileOf
-    ready places room =
-        let good? : good m ≡ true = sym same-good ∙ t in
-        let g = good-facts m places room good? in
-        let lines : length (plain m .splits) ≡ m .count = ap (λ (x : Map). x .count) (g .is-record) in
-        let blends-in : length (blends (plain m)) ≡ o .table .count = rw (its-table, table-count, g .same-blends) in
-        record {
-          is-good = good?;
-          few = g .few;
-          listed =
-              record {
-                few = rw (← blends-in) (g .is-short);
-                rise = λ B mem. proper-of (m .w) (m .h) B (g .across .1) (g .up .1)
-                    (all-at (proper (m .w) (m .h)) (blendsOf (o .table)) (rw its-table (hand-proper (g .hand))) B mem);
-              };
-          is-file = rw (its-table, table-blends, table-count);
-          size = omega (arith, file-length (plain m) (g .counted));
-        }
+module _ (m : Map) (t : Table) (good? : good m ≡ true) (its : t ≡ opened m .table) where
+  its-table : t ≡ table (blends (bare m))
+  unfolding opened
+  its-table = its ∙ rw good?
+
+  pub ready : length (m .splits) ≡ 60 → length (m .values) ≡ 1024 → Ready m t
+  unfolding recordOf plain fileOf
+  ready places room =
+      let g = good-facts m places room good? in
+      let lines : length (plain m .splits) ≡ m .count = ap (λ (x : Map). x .count) (g .is-record) in
+      let blends-in : length (blends (plain m)) ≡ t .count = rw (its-table, table-count, g .same-blends) in
+      record {
+        is-good = good?;
+        few = g .few;
+        listed =
+            record {
+              few = rw (← blends-in) (g .is-short);
+              rise = λ B mem. proper-of (m .w) (m .h) B (g .across .1) (g .up .1)
+                  (all-at (proper (m .w) (m .h)) (blendsOf t) (rw its-table (hand-proper (g .hand))) B mem);
+            };
+        is-file = rw (its-table, table-blends, table-count);
+        size = omega (arith, file-length (plain m) (g .counted));
+      }
 
 -- what `write` answers and leaves
 module _ (m : Map) (buffer : List ℕ) where

@@ -1,7 +1,7 @@
 -- The table that a changing call hands back with its map: of the map as it came on a refusal, else of the new one.
 use Prim.Native.Nat.{ℕ, _+_, _<_}
-use mathlib.Core.Path.{_≡_, sym, ap, _∙_}
-use mathlib.Core.Bool.{true, false, not}
+use mathlib.Core.Path.{_≡_, refl, sym, ap, _∙_}
+use mathlib.Core.Bool.{Bool, true, false, cond, not}
 use mathlib.Core.List.{List, [], _∷_}
 use lib.ListN.{length, set}
 use Rattle.mesh.specs.declared.Split.{Split}
@@ -9,7 +9,8 @@ use Rattle.mesh.specs.declared.Lines.{Lines}
 use Rattle.mesh.specs.declared.Table.{Table}
 use Rattle.mesh.specs.Sound.{table}
 use Rattle.mesh.proofs.Tests.{true-not-false, cond-true, cond-false}
-use borrow.Author.Tests.{lt-ltb}
+use borrow.Author.Tests.{lt-ltb, eqb-true}
+use lib.Dec.{ltb, eqb}
 use Rattle.maps.specs.declared.Map.{Map}
 use Rattle.maps.specs.declared.Changed.{Changed}
 use Rattle.maps.specs.declared.WithTable.{WithTable}
@@ -18,11 +19,11 @@ use Rattle.maps.specs.declared.splits.Found.{Found}
 use Rattle.maps.specs.Plain.{Plain, blends}
 use Rattle.maps.specs.Values.{placeOf}
 use Rattle.maps.specs.Splits.{given, exactNumber, chosen, drawn}
-use Rattle.maps.specs.Record.{recordOf, plain, opened}
-use Rattle.maps.specs.Calls.{changed, withTable, setPlain, setValue}
+use Rattle.maps.specs.Record.{recordOf, plain, good, opened}
+use Rattle.maps.specs.Calls.{changed, withTable, setPlain, setValue, exactSplit, drawnFirst, lengthenedSplit}
 use Rattle.maps.specs.Inner.{linesOf, held, found}
 use Rattle.maps.proofs.Replay.{opened-table}
-use Rattle.maps.proofs.Good.{Holds, record-good, set-holds, drawn-holds}
+use Rattle.maps.proofs.Good.{Holds, record-good, GoodFacts, good-facts, set-holds, drawn-holds}
 use Rattle.maps.proofs.InHand.{hand-sides}
 use Rattle.maps.proofs.Longest.{chosen-exact}
 use Rattle.maps.proofs.Recording.{GoodMap, live-table, passed, set-some, chosen-lines}
@@ -80,3 +81,33 @@ module _ {m : Map} {t : Table} (g : GoodMap m t) where
 -- the same answer without its table
 pub without : (w : WithTable) (c : Changed) → w ≡ withTable c → changed (w .number) (w .map) ≡ c
 without w c is = ap (λ (w : WithTable). changed (w .number) (w .map)) is
+
+-- A changing call on a good record leaves a good one.
+module _ (m : Map) (places : length (m .splits) ≡ 60) (room : length (m .values) ≡ 1024) (y : good m ≡ true) where
+  facts : GoodFacts m
+  facts = good-facts m places room y
+
+  either-good : (b : Bool) (x : Changed) (n : ℕ) → (b ≡ true → good (x .map) ≡ true) → good (cond b x (changed n m) .map) ≡ true
+  either-good true x n f = f refl
+  either-good false x n f = y
+
+  drawn-good : (s : Split) → exactNumber (plain m) s ≡ 0 → good (recordOf (drawn (plain m) s)) ≡ true
+  drawn-good s z = record-good (drawn-holds (facts .holds) s z) .0
+
+  pub set-good : (i j v : ℕ) → good (setValue m i j v .map) ≡ true
+  unfolding setValue
+  set-good i j v =
+      rw y (either-good (ltb (placeOf (blends (plain m)) (i + 1) (j + 1)) (length (blends (plain m)))) _ 9 (λ e. record-good (set-holds (facts .holds) i j v) .0))
+
+  pub exact-good : (s : Split) → good (exactSplit m s .map) ≡ true
+  unfolding exactSplit
+  exact-good s = rw y (either-good (eqb (exactNumber (plain m) s) 0) _ _ (λ e. drawn-good s (eqb-true _ _ e)))
+
+  first-good : (s : Split) → given (plain m) s ≡ 0 → (cs : List Split) → chosen (plain m) s ≡ cs → good (drawnFirst m (plain m) cs .map) ≡ true
+  unfolding plain
+  first-good s z [] e = y
+  first-good s z (c ∷ cs) e = drawn-good c (chosen-exact (plain m) (facts .across .0) (facts .up .0) s c cs z e)
+
+  pub lengthened-good : (s : Split) → good (lengthenedSplit m s .map) ≡ true
+  unfolding lengthenedSplit
+  lengthened-good s = rw y (either-good (eqb (given (plain m) s) 0) _ _ (λ e. first-good s (eqb-true _ _ e) (chosen (plain m) s) refl))

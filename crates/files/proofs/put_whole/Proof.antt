@@ -1,41 +1,40 @@
+-- `put_whole` meets its contract: a buffer that is too short is refused, else the file is put.
 use borrow.Author.Needs.{needs}
 use native.Mathlib.Omega.{arith}
-use borrow.Author.Needs.{needs}
+use mathlib.Core.Path.{ap, _∙_}
+use lib.ListN.{length-map}
+use Rattle.files.specs.File.{put}
+use Rattle.files.proofs.Filing.{Ready, ready, write-short, write-whole}
 use Rattle.files.proofs.put_whole.Statement.{statement}
 use Rattle.files.proofs.put_whole.Tie as tie
-use Rattle.files.proofs.put_whole.Reads as reads
-use Rattle.files.proofs.put_whole.Lts as lts
-use Rattle.files.proofs.put.put_file.Reads as put-file-reads
 
--- src/lib.rt:48:23
+in-hand : (c : tie.Start) → Ready (c .args .map) (c .args .table)
+in-hand c =
+    ready (c .args .map) (c .args .table) (c .pre .0) (c .pre .1)
+    (simp length-map at (c .good .0 .1 .1 .1 .1 .1 .0 .1 .0 .1))
+    (simp length-map at (c .good .0 .1 .1 .1 .1 .1 .1 .0 .1 .0 .1))
+
 mul-length : tie.Need-mul-length
 mul-length c = ?
 
--- src/lib.rt:48:18
 add-length : tie.Need-add-length
 add-length c = ?
 
--- src/lib.rt:48:40
 mul-length-2 : tie.Need-mul-length-2
 mul-length-2 c = ?
 
--- src/lib.rt:48:18
 add-length-2 : tie.Need-add-length-2
 add-length-2 c = ?
 
--- src/lib.rt:50:9
 returns : tie.Need-returns
 returns c = ?
 
--- src/lib.rt:55:5
 put-file-requires : tie.Need-put-file-requires
 put-file-requires c κs = ?
 
--- src/lib.rt:44:1
 same-length : tie.Need-same-length
 same-length c = search needs
 
--- src/lib.rt:44:1
 returns-2 : tie.Need-returns-2
 returns-2 c = ?
 
