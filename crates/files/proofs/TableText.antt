@@ -23,6 +23,8 @@ use Rattle.files.specs.File.{fileOf, guessed, sameBytes, put}
 use Rattle.files.specs.Calls.{readFile}
 use Rattle.files.specs.Inner.{Listed, Puts, terms}
 use Rattle.files.specs.Listing.{ended, line, tableText, refusal, listing, listed, listedAfter}
+use Rattle.files.specs.Over.{shortOf, textNumber, textAfter, textCount}
+use Rattle.files.proofs.Refusals.{second-says, third-says, left-so, given-so}
 use Rattle.files.proofs.Filing.{ready}
 
 -- a good map's table, in hand, has the map's text
@@ -32,24 +34,11 @@ module _ (m : Map) {o : Opened} (e : o ≡ opened m) (g : good m ≡ true) where
   opened-good = e ∙ rw g
 
   pub hand-listed : length (m .splits) ≡ 60 → length (m .values) ≡ 1024 → Listed (o .table)
-  hand-listed places full = ready m e (ap (λ (x : Opened). x .good) opened-good) places full .listed
+  hand-listed places full = ready m (o .table) g (ap (λ (x : Opened). x .table) e) places full .listed
 
   pub hand-text : ended (o .table .count) ++ joined line (terms (o .table) (m .values)) ≡ tableText (plain m)
   unfolding plain
   hand-text = rw (opened-good, table-blends, table-count)
-
--- a map that is read is good
-pub read-good : (bytes : List ℕ) {r : Changed} → r ≡ readFile bytes → r .number ≡ 0 → good (r .map) ≡ true
-unfolding readFile
-read-good bytes {r} e z =
-    ⊎-elim (λ (t : good m && sameBytes bytes (fileOf (plain m)) ≡ true). rw (e, t) (and-both (good m) _ t .0))
-    (λ (f : good m && sameBytes bytes (fileOf (plain m)) ≡ false).
-    let n : 11 ≡ 0 = rw (e, f) at z in
-    absurd (omega (arith, n)))
-    (either (good m && sameBytes bytes (fileOf (plain m))))
-  where
-    m : Map
-    m = recordOf (guessed bytes)
 
 module _ (bytes out : List ℕ) where
   abbrev outcome : ℕ → ℕ → List ℕ → Type 0
@@ -86,3 +75,31 @@ module _ (bytes out : List ℕ) where
       let z : w .length ≡ length (listing bytes) = ap (λ (x : Written). x .length) p ∙ rw f in
       rw (q, f, z, length-append) (omega arith))
       (either (ltb (length out) 65536))
+
+-- the same text without the line of a refusal
+module _ (bytes out : List ℕ) where
+  abbrev Told : ℕ → List ℕ → ℕ → Type 0
+  Told n left count = (n ≡ textNumber bytes out) × (left ≡ textAfter bytes out) × (count ≡ textCount bytes out)
+
+  pub text-refused : (readFile bytes .number ≡ 0 → ⊥) → Told (readFile bytes .number) out 0
+  unfolding textNumber textAfter textCount
+  text-refused ne =
+      let says : readFile bytes .number ≡ textNumber bytes out = second-says 0 (readFile bytes .number) (shortOf 65536 out) refl ne in
+      (says, left-so _ _ says ne, left-so 0 _ says ne)
+
+  module _ (z : readFile bytes .number ≡ 0) where
+    says : shortOf 65536 out ≡ textNumber bytes out
+    unfolding textNumber
+    says = third-says 0 (readFile bytes .number) (shortOf 65536 out) refl z
+
+    pub text-short : length out < 65536 → Told 12 out 0
+    unfolding textAfter textCount
+    text-short lt =
+        let s : 12 ≡ textNumber bytes out = rw (lt-ltb (length out) 65536 lt) at says in
+        (s, left-so _ _ s (λ e. absurd (omega (arith, e))), left-so 0 _ s (λ e. absurd (omega (arith, e))))
+
+    pub text-put : 65536 ≤ length out → {left : List ℕ} {long : ℕ} → Puts out 0 (tableText (plain (readFile bytes .map))) left long → Told 0 left long
+    unfolding textAfter textCount
+    text-put room p =
+        let s : 0 ≡ textNumber bytes out = rw (le-ltb (length out) 65536 room) at says in
+        (s, rw zero-add at (p .is) ∙ given-so _ _ s refl, rw zero-add at (p .ends) ∙ given-so _ _ s refl)

@@ -1,7 +1,7 @@
 -- The whole record at a byte place: its size, and where there is none.
 use Prim.Native.Nat.{ℕ, _+_, _-_, _≤_}
 use native.Mathlib.Omega.{arith}
-use mathlib.Core.Path.{_≡_}
+use mathlib.Core.Path.{_≡_, sym, _∙_}
 use mathlib.Core.Logic.{⊎-elim}
 use mathlib.Core.Bool.{true, false, cond, _&&_}
 use mathlib.Core.List.{List}
@@ -10,7 +10,7 @@ use lib.Dec.{leb}
 use lib.ListN.{length, take, drop}
 use Rattle.mesh.proofs.Tests.{either, and-both, false-of}
 use Rattle.files.specs.File.{wordAt}
-use Rattle.files.specs.Calls.{whole, payloadAt}
+use Rattle.files.specs.Calls.{whole, payloadNumber, payloadAt}
 
 pub record Whole (bytes : List ℕ) (at : ℕ) : Type 0 where
   pub start : at + 2 ≤ length bytes
@@ -53,6 +53,15 @@ module _ (bytes : List ℕ) (at : ℕ) where
       record { found = t; is = s; more = omega (arith, w .size); fits = omega (arith, w .end) })
       (λ f. absurd (ne (rw f at e)))
       (either (whole bytes at))
+
+-- the number of a payload tells whether a whole record is there
+module _ (bytes : List ℕ) (at n : ℕ) (is : n ≡ payloadNumber bytes at) where
+  pub no-payload : (n ≡ 0 → ⊥) → whole bytes at ≡ false
+  no-payload ne = false-of _ (λ t. ne (is ∙ rw t))
+
+  pub some-payload : n ≡ 0 → Whole bytes at
+  some-payload z =
+      ⊎-elim (λ t. whole-says bytes at t) (λ f. let e : 11 ≡ 0 = sym (rw f at is) ∙ z in absurd (omega (arith, e))) (either (whole bytes at))
 
 -- the part between the end of the kind and the end of the record
 pub payload-part : {bytes : List ℕ} {at size : ℕ} → Sized bytes at size →

@@ -172,8 +172,11 @@ pub fn reading(bytes: &[u8], u: usize, v: usize, litres: &mut usize) -> usize
     }
     let map = file.map;
     let answer = map.reading(u, v);
+    if answer.number != 0 {
+        return answer.number;
+    }
     *litres = answer.litres;
-    answer.number
+    0
 }
 
 // Puts an entry of the weights.
@@ -230,10 +233,13 @@ pub fn same<'a>(one: &'a [u8], two: &'a [u8], yes: &mut usize) -> usize
     let map = left.map;
     let other = right.map;
     let answer = map.same(other);
+    if answer.number != 0 {
+        return answer.number;
+    }
     if answer.yes {
         *yes = 1;
     }
-    answer.number
+    0
 }
 
 // Whether bytes are a map file: refused with 11.

@@ -1,6 +1,7 @@
 -- `listing::list` meets its contract: a short buffer, a refusal, or the table of the map that is read.
 use borrow.Author.Needs.{needs}
-use Rattle.files.proofs.TableText.{read-good, list-short, list-refused, list-table}
+use Rattle.files.proofs.Changing.{taken-good}
+use Rattle.files.proofs.TableText.{list-short, list-refused, list-table}
 use Rattle.files.proofs.listing.list.Statement.{statement}
 use Rattle.files.proofs.listing.list.Tie as tie
 
@@ -30,7 +31,7 @@ put-map-requires c κs =
     let r = at .before .before in
     let big = r .before in
     let start = big .before .before .before in
-    (read-good (start .args .bytes .now) (r .read .ensures) (at .if2 .left), big .if1 .left)
+    (taken-good (start .args .bytes .now) (r .read .ensures) (at .if2 .left), big .if1 .left)
 
 same-length-2 : tie.Need-same-length-2
 same-length-2 c = search needs

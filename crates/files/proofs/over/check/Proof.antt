@@ -1,19 +1,17 @@
+-- `over::check` meets its contract: it is the number of reading.
 use borrow.Author.Needs.{needs}
-use native.Mathlib.Omega.{arith}
-use borrow.Author.Needs.{needs}
+use mathlib.Core.Path.{ap}
+use Rattle.maps.specs.declared.Changed.{Changed}
+use Rattle.files.specs.Over.{checkNumber}
 use Rattle.files.proofs.over.check.Statement.{statement}
 use Rattle.files.proofs.over.check.Tie as tie
-use Rattle.files.proofs.over.check.Reads as reads
-use Rattle.files.proofs.over.check.Lts as lts
-use Rattle.files.proofs.read.Reads as read-reads
 
--- src/over.rt:241:9
 read-requires : tie.Need-read-requires
 read-requires c κs = search needs
 
--- src/over.rt:238:1
 returns : tie.Need-returns
-returns c = ?
+unfolding checkNumber
+returns c = ap (λ (r : Changed). r .number) (c .read .ensures)
 
 pub check-spec : {M : Type 1} → statement M
 check-spec = tie.close (tie.spec read-requires returns)

@@ -1,27 +1,35 @@
+-- `over::payload_place` meets its contract: the part that `payload` hands back begins four bytes on.
 use borrow.Author.Needs.{needs}
 use native.Mathlib.Omega.{arith}
-use borrow.Author.Needs.{needs}
+use mathlib.Core.Path.{ap, sym, _∙_}
+use lib.ListN.{length}
+use Rattle.files.specs.Over.{payloadFrom, payloadCount}
+use Rattle.files.proofs.Whole.{Whole, whole-of, no-payload, some-payload}
 use Rattle.files.proofs.over.payload_place.Statement.{statement}
 use Rattle.files.proofs.over.payload_place.Tie as tie
-use Rattle.files.proofs.over.payload_place.Reads as reads
-use Rattle.files.proofs.over.payload_place.Lts as lts
-use Rattle.files.proofs.bytes.payload.Reads as payload-reads
 
--- src/over.rt:251:9
 payload-requires : tie.Need-payload-requires
 payload-requires c κs = search needs
 
--- src/over.rt:255:9
 returns : tie.Need-returns
-returns c = ?
+unfolding payloadFrom payloadCount
+returns c =
+    let part = c .before .payload in
+    let e = no-payload _ _ _ (part .ensures .1) (c .if1 .taken) in
+    (part .ensures .1, rw e, ap length (part .ensures .0))
 
--- src/over.rt:257:13
+found : (c : tie.Else1) → let a = c .before .before .before .before .args in Whole (a .bytes .now) (a .at)
+found c = some-payload _ _ _ (c .before .payload .ensures .1) (c .if1 .left)
+
 add-from : tie.Need-add-from
-add-from c = ?
+add-from c = omega (arith, found c)
 
--- src/over.rt:246:1
 returns-2 : tie.Need-returns-2
-returns-2 c = ?
+unfolding payloadFrom payloadCount
+returns-2 c =
+    let part = c .before .payload in
+    let e = whole-of _ _ (found c) in
+    (sym (c .if1 .left) ∙ part .ensures .1, rw e, ap length (part .ensures .0))
 
 pub payload-place-spec : {M : Type 1} → statement M
 payload-place-spec = tie.close (tie.spec payload-requires returns add-from returns-2)

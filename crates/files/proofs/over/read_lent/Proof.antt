@@ -1,32 +1,28 @@
+-- `over::read_lent` meets its contract: where fewer bytes are lent there is no file.
 use borrow.Author.Needs.{needs}
-use native.Mathlib.Omega.{arith}
-use borrow.Author.Needs.{needs}
+use borrow.Author.Tests.{le-leb, lt-leb}
+use mathlib.Core.Path.{sym, ap, _∙_}
+use lib.Seq.{length-take-le}
+use Rattle.mesh.proofs.Tests.{cond-true, cond-false}
+use Rattle.files.specs.Calls.{readFile}
+use Rattle.files.proofs.Changing.{no-bytes}
 use Rattle.files.proofs.over.read_lent.Statement.{statement}
 use Rattle.files.proofs.over.read_lent.Tie as tie
-use Rattle.files.proofs.over.read_lent.Reads as reads
-use Rattle.files.proofs.over.read_lent.Lts as lts
-use Rattle.files.proofs.read.Reads as read-reads
-use Rattle.files.proofs.refused.Reads as refused-reads
 
--- src/over.rt:33:9
 refused-requires : tie.Need-refused-requires
 refused-requires c κs = search needs
 
--- src/over.rt:33:9
 returns : tie.Need-returns
-returns c = ?
+returns c = c .refused .ensures ∙ sym (ap readFile (cond-false _ _ _ (lt-leb _ _ (c .before .if1 .taken))) ∙ no-bytes)
 
--- src/over.rt:35:10
 slice-aggregate-read : tie.Need-slice-aggregate-read
-slice-aggregate-read c = ?
+slice-aggregate-read c = sym (length-take-le _ _ (c .before .if1 .left))
 
--- src/over.rt:35:5
 read-requires : tie.Need-read-requires
 read-requires c κs = search needs
 
--- src/over.rt:29:1
 returns-2 : tie.Need-returns-2
-returns-2 c = ?
+returns-2 c = c .read .ensures ∙ ap readFile (sym (cond-true _ _ _ (le-leb _ _ (c .before .before .if1 .left))))
 
 pub read-lent-spec : {M : Type 1} → statement M
 read-lent-spec =

@@ -1,35 +1,32 @@
+-- `over::replace` meets its contract: the call's own refusal, 12, or the new file.
 use borrow.Author.Needs.{needs}
-use native.Mathlib.Omega.{arith}
-use borrow.Author.Needs.{needs}
+use Rattle.files.proofs.Changing.{own-refusal, too-short, in-place}
 use Rattle.files.proofs.over.replace.Statement.{statement}
 use Rattle.files.proofs.over.replace.Tie as tie
-use Rattle.files.proofs.over.replace.Reads as reads
-use Rattle.files.proofs.over.replace.Lts as lts
-use Rattle.files.proofs.put_whole.Reads as put-whole-reads
 
--- src/over.rt:46:9
 returns : tie.Need-returns
-returns c = ?
+returns c = let a = c .before .before .before .args in own-refusal (a .next) (a .buffer .now) (a .used .now) (c .if1 .taken)
 
--- src/over.rt:50:9
 put-whole-requires : tie.Need-put-whole-requires
 put-whole-requires c κs = search needs
 
--- src/over.rt:52:9
 same-length : tie.Need-same-length
 same-length c = search needs
 
--- src/over.rt:52:9
 returns-2 : tie.Need-returns-2
-returns-2 c = ?
+returns-2 c =
+    let put = c .before .before .before .before in
+    let a = put .before .before .before .before .before .before .before .args in
+    too-short (a .next) (a .buffer .now) (a .used .now) (put .before .before .before .before .if1 .left) (put .put-whole .result) _ (put .put-whole .ensures .0) (put .put-whole .ensures .1) (c .if2 .taken)
 
--- src/over.rt:39:1
 same-length-2 : tie.Need-same-length-2
 same-length-2 c = search needs
 
--- src/over.rt:39:1
 returns-3 : tie.Need-returns-3
-returns-3 c = ?
+returns-3 c =
+    let put = c .before .before .before .before in
+    let a = put .before .before .before .before .before .before .before .args in
+    in-place (a .next) (a .buffer .now) (a .used .now) (put .before .before .before .before .if1 .left) (put .put-whole .result) _ (put .put-whole .ensures .0) (put .put-whole .ensures .1) (c .if2 .left)
 
 pub replace-spec : {M : Type 1} → statement M
 replace-spec =

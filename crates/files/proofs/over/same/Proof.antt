@@ -1,42 +1,55 @@
+-- `over::same` meets its contract: the refusals in their order, else whether the maps are the same.
 use borrow.Author.Needs.{needs}
-use native.Mathlib.Omega.{arith}
-use borrow.Author.Needs.{needs}
+use mathlib.Core.Path.{ap, _∙_}
+use Rattle.maps.specs.declared.Changed.{Changed}
+use Rattle.maps.specs.declared.Same.{Same}
+use Rattle.maps.specs.Sameness.{sameness}
+use Rattle.files.proofs.Asking.{same-refused, same-second, same-own, same-given}
 use Rattle.files.proofs.over.same.Statement.{statement}
 use Rattle.files.proofs.over.same.Tie as tie
-use Rattle.files.proofs.over.same.Reads as reads
-use Rattle.files.proofs.over.same.Lts as lts
-use Rattle.files.proofs.read.Reads as read-reads
-use Rattle.maps.proofs.Map.same.Reads as same-reads
 
--- src/over.rt:220:9
 read-requires : tie.Need-read-requires
 read-requires c κs = search needs
 
--- src/over.rt:222:9
 returns : tie.Need-returns
-returns c = ?
+returns c =
+    let file = c .before .before .read in
+    let a = c .before .before .before .before .before .args in
+    rw (file .ensures) (same-refused (a .one .now) (a .two .now) (rw (file .ensures) at (c .if1 .taken)))
 
--- src/over.rt:224:9
 read-requires-2 : tie.Need-read-requires-2
 read-requires-2 c κs = search needs
 
--- src/over.rt:226:9
 returns-2 : tie.Need-returns-2
-returns-2 c = ?
+returns-2 c =
+    let right = c .before .before .read2 in
+    let else = c .before .before .before in
+    let left = else .before .before .read in
+    let a = c .before .before .before .before .before .before .before .before .args in
+    rw (right .ensures) (same-second (a .one .now) (a .two .now) (rw (left .ensures) at (else .if1 .left)) (rw (right .ensures) at (c .if2 .taken)))
 
--- src/over.rt:230:9
 same-requires : tie.Need-same-requires
 same-requires c κs = search needs
 
--- src/over.rt:216:1
 returns-3 : tie.Need-returns-3
-returns-3 c = ?
+returns-3 c =
+    let answer = c .before .before .same in
+    let second = c .before .before .before .before .before in
+    let right = second .before .before .read2 in
+    let first = second .before .before .before in
+    let left = first .before .before .read in
+    let a = c .before .before .before .before .before .before .before .before .before .before .before .before .before .args in
+    rw (answer .ensures, left .ensures, right .ensures)
+    (same-own (a .one .now) (a .two .now) (rw (left .ensures) at (first .if1 .left)) (rw (right .ensures) at (second .if2 .left))
+    (rw (answer .ensures, left .ensures, right .ensures) at (c .if3 .taken)))
 
--- src/over.rt:216:1
 returns-4 : tie.Need-returns-4
 returns-4 c = ?
+
+returns-5 : tie.Need-returns-5
+returns-5 c = ?
 
 pub same-spec : {M : Type 1} → statement M
 same-spec =
     tie.close
-    (tie.spec read-requires returns read-requires-2 returns-2 same-requires returns-3 returns-4)
+    (tie.spec read-requires returns read-requires-2 returns-2 same-requires returns-3 returns-4 returns-5)

@@ -1,50 +1,55 @@
+-- `over::set` meets its contract: the bytes are no file, or the call on their map ends as `replace` says.
 use borrow.Author.Needs.{needs}
-use native.Mathlib.Omega.{arith}
-use borrow.Author.Needs.{needs}
+use mathlib.Core.Path.{sym, ap, _∙_}
+use Rattle.maps.specs.declared.Changed.{Changed}
+use Rattle.maps.specs.Calls.{withTable, setValue}
+use Rattle.maps.proofs.Handed.{set-good}
+use Rattle.files.proofs.Changing.{taken-good, taken-places, taken-room, handed, Left, change-refused, change-done}
 use Rattle.files.proofs.over.set.Statement.{statement}
 use Rattle.files.proofs.over.set.Tie as tie
-use Rattle.files.proofs.over.set.Reads as reads
-use Rattle.files.proofs.over.set.Lts as lts
-use Rattle.files.proofs.over.read_lent.Reads as read-lent-reads
-use Rattle.files.proofs.over.replace.Reads as replace-reads
-use Rattle.maps.proofs.Map.set_with_table.Reads as set-with-table-reads
 
--- src/over.rt:81:9
 read-lent-requires : tie.Need-read-lent-requires
 read-lent-requires c κs = search needs
 
--- src/over.rt:83:9
 same-length : tie.Need-same-length
 same-length c = search needs
 
--- src/over.rt:83:9
 returns : tie.Need-returns
-returns c = ?
+returns c =
+    let read = c .before .before in
+    let a = read .before .before .before .before .args in
+    let l = change-refused (λ m. setValue m (a .m) (a .n) (a .value)) (a .buffer .now) (a .used .now) (read .read-lent .result .number) (ap (λ (c : Changed). c .number) (read .read-lent .ensures)) (c .if1 .taken) in
+    (l .is-number, l .is-bytes, l .is-used)
 
--- src/over.rt:86:9
 set-with-table-requires : tie.Need-set-with-table-requires
 set-with-table-requires c κs = search needs
 
--- src/over.rt:87:5
 replace-requires : tie.Need-replace-requires
-replace-requires c κs = ?
+replace-requires c κs =
+    let call = c .before .before in
+    let else = call .before .before in
+    let file = else .before .before .read-lent in
+    let a = else .before .before .before .before .before .before .args in
+    let z = else .if1 .left in
+    handed (call .set-with-table .result) _ (call .set-with-table .ensures)
+    (set-good (file .result .map) (taken-places _ (file .ensures) z) (taken-room _ (file .ensures) z) (taken-good _ (file .ensures) z) (a .m) (a .n) (a .value))
 
--- src/over.rt:75:1
 same-length-2 : tie.Need-same-length-2
 same-length-2 c = search needs
 
--- src/over.rt:75:1
 returns-2 : tie.Need-returns-2
-returns-2 c = ?
+returns-2 c =
+    let end = c .before .before .replace in
+    let call = c .before .before .before .before .before in
+    let else = call .before .before in
+    let file = else .before .before .read-lent in
+    let a = else .before .before .before .before .before .before .args in
+    let z = sym (ap (λ (r : Changed). r .number) (file .ensures)) ∙ else .if1 .left in
+    let w = call .set-with-table .ensures ∙ ap (λ (r : Changed). withTable (setValue (r .map) (a .m) (a .n) (a .value))) (file .ensures) in
+    let l = change-done (λ m. setValue m (a .m) (a .n) (a .value)) (a .buffer .now) (a .used .now) z (call .set-with-table .result) w (end .result) (end .ensures .0) _ _ (end .ensures .1) (end .ensures .2) in
+    (l .is-number, l .is-bytes, l .is-used)
 
 pub set-spec : {M : Type 1} → statement M
 set-spec =
     tie.close
-    (tie.spec
-    read-lent-requires
-    same-length
-    returns
-    set-with-table-requires
-    replace-requires
-    same-length-2
-    returns-2)
+    (tie.spec read-lent-requires same-length returns set-with-table-requires replace-requires same-length-2 returns-2)

@@ -1,34 +1,28 @@
+-- `over::text` meets its contract: the refusals in their order, else the text as `put_map` puts it.
 use borrow.Author.Needs.{needs}
-use native.Mathlib.Omega.{arith}
-use borrow.Author.Needs.{needs}
+use Rattle.files.proofs.Changing.{taken-good}
+use Rattle.files.proofs.TableText.{text-refused, text-short, text-put}
 use Rattle.files.proofs.over.text.Statement.{statement}
 use Rattle.files.proofs.over.text.Tie as tie
-use Rattle.files.proofs.over.text.Reads as reads
-use Rattle.files.proofs.over.text.Lts as lts
-use Rattle.files.proofs.listing.put_map.Reads as put-map-reads
-use Rattle.files.proofs.read.Reads as read-reads
 
--- src/over.rt:267:9
 read-requires : tie.Need-read-requires
 read-requires c κs = search needs
 
--- src/over.rt:269:9
 returns : tie.Need-returns
-returns c = ?
+returns c =
+    let file = c .before .before .read in
+    let a = c .before .before .before .before .before .args in
+    rw (file .ensures) (text-refused (a .bytes .now) (a .out .now) (rw (file .ensures) at (c .if1 .taken)))
 
--- src/over.rt:272:9
 returns-2 : tie.Need-returns-2
 returns-2 c = ?
 
--- src/over.rt:275:14
 put-map-requires : tie.Need-put-map-requires
 put-map-requires c κs = ?
 
--- src/over.rt:262:1
 same-length : tie.Need-same-length
 same-length c = search needs
 
--- src/over.rt:262:1
 returns-3 : tie.Need-returns-3
 returns-3 c = ?
 
