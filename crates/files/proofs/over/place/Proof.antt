@@ -1,50 +1,75 @@
+-- `over::place` meets its contract: each return is what the tests before it decide.
 use borrow.Author.Needs.{needs}
 use native.Mathlib.Omega.{arith}
-use borrow.Author.Needs.{needs}
+use Prim.Native.Nat.{ℕ}
+use mathlib.Core.Path.{refl}
+use Rattle.maps.specs.declared.Placed.{Placed}
+use Rattle.maps.specs.Calls.{tablePlace}
+use Rattle.files.specs.File.{word}
+use Rattle.files.specs.Over.{shapeBytes, placeBytes, placeNumber, placeAfter}
+use Rattle.files.proofs.Putting.{put-then}
+use Rattle.files.proofs.Answers.{Call, not-read, not-answered, too-short, is-put}
 use Rattle.files.proofs.over.place.Statement.{statement}
 use Rattle.files.proofs.over.place.Tie as tie
-use Rattle.files.proofs.over.place.Reads as reads
-use Rattle.files.proofs.over.place.Lts as lts
-use Rattle.files.proofs.bytes.put_word.Reads as put-word-reads
-use Rattle.files.proofs.over.put_shape.Reads as put-shape-reads
-use Rattle.files.proofs.read.Reads as read-reads
-use Rattle.maps.proofs.Map.place.Reads as place-reads
 
--- src/over.rt:146:9
+-- what is asked of the map
+abbrev asked : ℕ → Call Placed
+asked i = record { answer = λ m. tablePlace m i; number = λ p. p .number; bytes = placeBytes; size = 14 }
+
 read-requires : tie.Need-read-requires
 read-requires c κs = search needs
 
--- src/over.rt:148:9
 returns : tie.Need-returns
-returns c = ?
+unfolding placeNumber placeAfter
+returns c =
+    let r = c .before .before in
+    let a = r .before .before .before .args in
+    not-read (asked (a .i)) _ _ (r .read .ensures) (c .if1 .taken)
 
--- src/over.rt:151:9
 place-requires : tie.Need-place-requires
 place-requires c κs = search needs
 
--- src/over.rt:153:9
 returns-2 : tie.Need-returns-2
-returns-2 c = ?
+unfolding placeNumber placeAfter
+returns-2 c =
+    let p = c .before .before in
+    let i = p .before .before in
+    let r = i .before .before in
+    let a = r .before .before .before .args in
+    not-answered (asked (a .i)) _ _ (r .read .ensures) (i .if1 .left) (p .place .ensures) (c .if2 .taken)
 
--- src/over.rt:156:9
 returns-3 : tie.Need-returns-3
-returns-3 c = ?
+unfolding placeNumber placeAfter
+returns-3 c =
+    let j = c .before in
+    let p = j .before .before in
+    let i = p .before .before in
+    let r = i .before .before in
+    let a = r .before .before .before .args in
+    too-short (asked (a .i)) _ _ (r .read .ensures) (i .if1 .left) (p .place .ensures) (j .if2 .left) (c .if3 .taken)
 
--- src/over.rt:159:5
 put-shape-requires : tie.Need-put-shape-requires
 put-shape-requires c κs = search needs
 
--- src/over.rt:160:5
 put-word-requires : tie.Need-put-word-requires
 put-word-requires c κs = search needs
 
--- src/over.rt:143:1
 same-length : tie.Need-same-length
 same-length c = search needs
 
--- src/over.rt:143:1
 returns-4 : tie.Need-returns-4
-returns-4 c = ?
+unfolding placeNumber placeAfter
+returns-4 c =
+    let second = c .before .before in
+    let first = second .before .before .before .before in
+    let k = first .before .before .before in
+    let j = k .before in
+    let p = j .before .before in
+    let i = p .before .before in
+    let r = i .before .before in
+    let a = r .before .before .before .args in
+    is-put (asked (a .i)) _ (a .out .now) (r .read .ensures) (i .if1 .left) (p .place .ensures) (j .if2 .left) (k .if3 .left)
+    (put-then (a .out .now) 0 (shapeBytes (p .place .result .blend)) (word (p .place .result .value)) 12 (first .put-shape .ensures) (second .put-word .ensures) refl (omega (arith, k .if3 .left)))
 
 pub place-spec : {M : Type 1} → statement M
 place-spec =

@@ -1,21 +1,35 @@
-use borrow.Author.Needs.{needs}
-use native.Mathlib.Omega.{arith}
+-- `over::signed_word` meets its contract: a coordinate below 0, and one that is not.
+use mathlib.Core.Path.{sym, subst, _∙_}
+use native.Mathlib.Nat.{lt-of-le-of-lt}
+use lib.IntN.{ℤ, natAbs}
+use lib.Dec.{lit<}
+use lib.Signed.{natAbs-le}
+use mir.Syntax.{w64}
+use mir.Val.{Fits, toZ, ofZ}
+use mir.ValLaws.{toZ-ofZ}
+use Rattle.files.proofs.Answers.{below, not-below}
 use Rattle.files.proofs.over.signed_word.Statement.{statement}
 use Rattle.files.proofs.over.signed_word.Tie as tie
-use Rattle.files.proofs.over.signed_word.Reads as reads
-use Rattle.files.proofs.over.signed_word.Lts as lts
 
--- src/over.rt:127:9
 returns : tie.Need-returns
-returns c = ?
+returns c =
+    let s = c .before in
+    below (s .args .z) (rw (toZ-ofZ w64 (s .args .z) (s .fits .z)) at (c .if1 .taken))
 
--- src/over.rt:129:5
 cast-result : tie.Need-cast-result
-cast-result c = ?
+cast-result c =
+    let s = c .before in
+    let z = s .args .z in
+    let e = toZ-ofZ w64 z (s .fits .z) in (
+      not-below (toZ w64 (ofZ w64 z)) (c .if1 .left) .0,
+      subst (λ (z : ℤ). Fits w64 (natAbs z)) (sym e) (record { fits = lt-of-le-of-lt (natAbs-le z (s .fits .z .sfits)) (lit< tt) }),
+    )
 
--- src/over.rt:123:1
 returns-2 : tie.Need-returns-2
-returns-2 c = ?
+returns-2 c =
+    let s = c .before in
+    let z = s .args .z in
+    not-below (toZ w64 (ofZ w64 z)) (c .if1 .left) .1 ∙ rw (toZ-ofZ w64 z (s .fits .z))
 
 pub signed-word-spec : {M : Type 1} → statement M
 signed-word-spec = tie.close (tie.spec returns cast-result returns-2)

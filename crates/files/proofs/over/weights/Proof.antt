@@ -1,97 +1,110 @@
+-- `over::weights` meets its contract: each return is what the tests before it decide.
 use borrow.Author.Needs.{needs}
-use native.Mathlib.Omega.{arith}
+use Prim.Native.Nat.{ℕ}
+use lib.ListN.{length-map}
+use Rattle.maps.specs.declared.Weights.{Weights}
+use Rattle.maps.specs.Calls.{weights}
+use Rattle.files.specs.Over.{weightsBytes, weightsNumber, weightsAfter}
+use Rattle.files.proofs.Answers.{Call, not-read, not-answered, too-short, is-put, four-put}
 use Rattle.files.proofs.over.weights.Statement.{statement}
 use Rattle.files.proofs.over.weights.Tie as tie
-use Rattle.files.proofs.over.weights.Reads as reads
-use Rattle.files.proofs.over.weights.Lts as lts
-use Rattle.files.proofs.over.put_weight.Reads as put-weight-reads
-use Rattle.files.proofs.read.Reads as read-reads
-use Rattle.maps.proofs.Map.weights.Reads as weights-reads
 
-abbrev Inv-loop : tie.InvT-loop
-Inv-loop bytes u v out₀ four i₀ out i = ?
+-- what is asked of the map
+abbrev asked : ℕ → ℕ → Call Weights
+asked u v = record { answer = λ m. weights m u v; number = λ w. w .number; bytes = weightsBytes; size = 64 }
 
-abbrev μ-loop : tie.MeasureT-loop
-μ-loop bytes u v out₀ four i₀ out i = ?
+read-requires : tie.Need-read-requires
+read-requires c κs = search needs
 
--- src/over.rt:194:9
-read-requires : tie.Need-read-requires Inv-loop μ-loop
-read-requires c κs = ?
+returns : tie.Need-returns
+unfolding weightsNumber weightsAfter
+returns c =
+    let r = c .before .before in
+    let a = r .before .before .before .args in
+    not-read (asked (a .u) (a .v)) _ _ (r .read .ensures) (c .if1 .taken)
 
--- src/over.rt:196:9
-returns : tie.Need-returns Inv-loop μ-loop
-returns c = ?
+weights-requires : tie.Need-weights-requires
+weights-requires c κs = search needs
 
--- src/over.rt:199:16
-weights-requires : tie.Need-weights-requires Inv-loop μ-loop
-weights-requires c κs = ?
+returns-2 : tie.Need-returns-2
+unfolding weightsNumber weightsAfter
+returns-2 c =
+    let w = c .before in
+    let i = w .before .before in
+    let r = i .before .before in
+    let a = r .before .before .before .args in
+    not-answered (asked (a .u) (a .v)) _ _ (r .read .ensures) (i .if1 .left) (w .weights .ensures) (c .if2 .taken)
 
--- src/over.rt:201:9
-returns-2 : tie.Need-returns-2 Inv-loop μ-loop
-returns-2 c = ?
+returns-3 : tie.Need-returns-3
+unfolding weightsNumber weightsAfter
+returns-3 c =
+    let j = c .before in
+    let w = j .before in
+    let i = w .before .before in
+    let r = i .before .before in
+    let a = r .before .before .before .args in
+    too-short (asked (a .u) (a .v)) _ _ (r .read .ensures) (i .if1 .left) (w .weights .ensures) (j .if2 .left) (c .if3 .taken)
 
--- src/over.rt:204:9
-returns-3 : tie.Need-returns-3 Inv-loop μ-loop
-returns-3 c = ?
+element-copy-out-first : tie.Need-element-copy-out-first
+element-copy-out-first c = search needs
 
--- src/over.rt:207:5
-loop-holds : tie.Need-loop-holds Inv-loop μ-loop
-loop-holds c = ?
+element-copy-out-second : tie.Need-element-copy-out-second
+element-copy-out-second c = search needs
 
--- src/over.rt:208:17
-mul-e : tie.Need-mul-e Inv-loop μ-loop
-mul-e c = ?
+element-copy-out-third : tie.Need-element-copy-out-third
+element-copy-out-third c = search needs
 
--- src/over.rt:208:17
-element-copy-out-e : tie.Need-element-copy-out-e Inv-loop μ-loop
-element-copy-out-e c = ?
+element-copy-out-fourth : tie.Need-element-copy-out-fourth
+element-copy-out-fourth c = search needs
 
--- src/over.rt:209:25
-mul-put-weight : tie.Need-mul-put-weight Inv-loop μ-loop
-mul-put-weight c = ?
+put-weight-requires : tie.Need-put-weight-requires
+put-weight-requires c κs = search needs
 
--- src/over.rt:209:9
-put-weight-requires : tie.Need-put-weight-requires Inv-loop μ-loop
-put-weight-requires c κs = ?
+put-weight-requires-2 : tie.Need-put-weight-requires-2
+put-weight-requires-2 c κs = search needs
 
--- src/over.rt:210:9
-add-i : tie.Need-add-i Inv-loop μ-loop
-add-i c = ?
+put-weight-requires-3 : tie.Need-put-weight-requires-3
+put-weight-requires-3 c κs = search needs
 
--- src/over.rt:207:5
-loop-less : tie.Need-loop-less Inv-loop μ-loop
-loop-less c = ?
+put-weight-requires-4 : tie.Need-put-weight-requires-4
+put-weight-requires-4 c κs = search needs
 
--- src/over.rt:207:5
-loop-again : tie.Need-loop-again Inv-loop μ-loop
-loop-again c = ?
+same-length : tie.Need-same-length
+same-length c = search needs
 
--- src/over.rt:190:1
-same-length : tie.Need-same-length Inv-loop μ-loop
-same-length c = ?
-
--- src/over.rt:190:1
-returns-4 : tie.Need-returns-4 Inv-loop μ-loop
-returns-4 c = ?
+returns-4 : tie.Need-returns-4
+unfolding weightsNumber weightsAfter
+returns-4 c =
+    let fourth = c .before .before in
+    let third = fourth .before .before .before .before in
+    let second = third .before .before .before .before in
+    let first = second .before .before .before .before in
+    let k = first .before .before .before .before .before .before in
+    let j = k .before in
+    let w = j .before in
+    let i = w .before .before in
+    let r = i .before .before in
+    let a = r .before .before .before .args in
+    is-put (asked (a .u) (a .v)) _ (a .out .now) (r .read .ensures) (i .if1 .left) (w .weights .ensures) (j .if2 .left) (k .if3 .left)
+    (four-put (w .weights .result .entries) (a .out .now) (simp length-map at (w .weights .ok .1 .1 .1 .0 .1 .0 .1)) (k .if3 .left)
+    (first .put-weight .ensures) (second .put-weight2 .ensures) (third .put-weight3 .ensures) (fourth .put-weight4 .ensures))
 
 pub weights-spec : {M : Type 1} → statement M
 weights-spec =
     tie.close
     (tie.spec
-    Inv-loop
-    μ-loop
     read-requires
     returns
     weights-requires
     returns-2
     returns-3
-    loop-holds
-    mul-e
-    element-copy-out-e
-    mul-put-weight
+    element-copy-out-first
+    element-copy-out-second
+    element-copy-out-third
+    element-copy-out-fourth
     put-weight-requires
-    add-i
-    loop-less
-    loop-again
+    put-weight-requires-2
+    put-weight-requires-3
+    put-weight-requires-4
     same-length
     returns-4)
