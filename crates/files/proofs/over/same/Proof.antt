@@ -1,9 +1,12 @@
 -- `over::same` meets its contract: the refusals in their order, else whether the maps are the same.
 use borrow.Author.Needs.{needs}
-use mathlib.Core.Path.{ap, _∙_}
+use mathlib.Core.Path.{_≡_, ap, _∙_}
+use mathlib.Core.Bool.{cond}
 use Rattle.maps.specs.declared.Changed.{Changed}
 use Rattle.maps.specs.declared.Same.{Same}
 use Rattle.maps.specs.Sameness.{sameness}
+use Rattle.files.specs.Calls.{readFile}
+use Rattle.files.specs.Over.{sameNumber, sameYes}
 use Rattle.files.proofs.Asking.{same-refused, same-second, same-own, same-given}
 use Rattle.files.proofs.over.same.Statement.{statement}
 use Rattle.files.proofs.over.same.Tie as tie
@@ -43,11 +46,26 @@ returns-3 c =
     (same-own (a .one .now) (a .two .now) (rw (left .ensures) at (first .if1 .left)) (rw (right .ensures) at (second .if2 .left))
     (rw (answer .ensures, left .ensures, right .ensures) at (c .if3 .taken)))
 
+-- both files are read and the call is not refused: the answer tells
+told : (c : tie.Else3) → let a = c .before .before .before .before .before .before .before .before .before .before .before .before .before .args in
+    (0 ≡ sameNumber (a .one .now) (a .two .now)) × (cond (c .before .before .same .result .yes) 1 0 ≡ sameYes (a .one .now) (a .two .now))
+told c =
+    let answer = c .before .before .same in
+    let second = c .before .before .before .before .before in
+    let right = second .before .before .read2 in
+    let first = second .before .before .before in
+    let left = first .before .before .read in
+    let a = c .before .before .before .before .before .before .before .before .before .before .before .before .before .args in
+    let is = answer .ensures ∙ ap (λ (r : Changed). sameness (r .map) (right .result .map)) (left .ensures) ∙
+    ap (λ (r : Changed). sameness (readFile (a .one .now) .map) (r .map)) (right .ensures) in
+    same-given (a .one .now) (a .two .now) (rw (left .ensures) at (first .if1 .left)) (rw (right .ensures) at (second .if2 .left)) (answer .result .number) (answer .result .yes)
+    (c .if3 .left) (ap (λ (r : Same). r .number) is) (ap (λ (r : Same). r .yes) is)
+
 returns-4 : tie.Need-returns-4
-returns-4 c = ?
+returns-4 c = rw (c .if4 .taken) at (told (c .before))
 
 returns-5 : tie.Need-returns-5
-returns-5 c = ?
+returns-5 c = rw (c .if4 .left) at (told (c .before))
 
 pub same-spec : {M : Type 1} → statement M
 same-spec =

@@ -15,16 +15,29 @@ returns c =
     rw (file .ensures) (text-refused (a .bytes .now) (a .out .now) (rw (file .ensures) at (c .if1 .taken)))
 
 returns-2 : tie.Need-returns-2
-returns-2 c = ?
+returns-2 c =
+    let else = c .before in
+    let file = else .before .before .read in
+    let a = c .before .before .before .before .before .before .args in
+    text-short (a .bytes .now) (a .out .now) (rw (file .ensures) at (else .if1 .left)) (c .if2 .taken)
 
 put-map-requires : tie.Need-put-map-requires
-put-map-requires c κs = ?
+put-map-requires c κs =
+    let room = c .before .before in
+    let else = room .before in
+    (taken-good _ (else .before .before .read .ensures) (else .if1 .left), room .if2 .left)
 
 same-length : tie.Need-same-length
 same-length c = search needs
 
 returns-3 : tie.Need-returns-3
-returns-3 c = ?
+returns-3 c =
+    let put = c .before .before .put-map in
+    let room = c .before .before .before .before .before in
+    let else = room .before in
+    let file = else .before .before .read in
+    let a = c .before .before .before .before .before .before .before .before .before .before .before .args in
+    text-put (a .bytes .now) (a .out .now) (rw (file .ensures) at (else .if1 .left)) (room .if2 .left) (rw (file .ensures) at (put .ensures))
 
 pub text-spec : {M : Type 1} → statement M
 text-spec =
