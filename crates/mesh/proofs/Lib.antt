@@ -19,7 +19,7 @@ pub mod SoundMaps
 pub mod AtMost
 pub mod Cutting
 pub mod Drawing
-pub mod Counting
-pub mod Judging
+pub mod Reading
 pub mod Refining
+pub mod Fitted
 pub mod SingleSteps

@@ -4,8 +4,9 @@
 
 pub mod blends;
 mod cut;
-mod judge;
+pub mod judge;
 pub mod points;
+mod read;
 mod steps;
 
 // One axis of a blend: its three knots, rising.
@@ -43,8 +44,14 @@ pub struct Table {
     pub blends: [Blend; 1024],
 }
 
-// Whether the blends are those of a sound map, and if so their table; else an empty one.
+// Whether a table holds the blends, each at an anchor of its own, and if so that table; else an empty one.
 pub struct Refined {
+    pub fits: bool,
+    pub table: Table,
+}
+
+// Whether the blends are those of a sound map, and if so their table; else an empty one.
+pub struct Judged {
     pub sound: bool,
     pub table: Table,
 }

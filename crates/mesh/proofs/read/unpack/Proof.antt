@@ -1,8 +1,8 @@
--- `mesh::judge::unpack` meets its contract.
+-- `mesh::read::unpack` meets its contract.
 use mathlib.Core.Path.{refl}
 use Rattle.mesh.specs.Bytes.{unpacked}
-use Rattle.mesh.proofs.judge.unpack.Statement.{statement}
-use Rattle.mesh.proofs.judge.unpack.Tie as tie
+use Rattle.mesh.proofs.read.unpack.Statement.{statement}
+use Rattle.mesh.proofs.read.unpack.Tie as tie
 
 returns : tie.Need-returns
 unfolding unpacked
