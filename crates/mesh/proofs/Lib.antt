@@ -23,3 +23,4 @@ pub mod Counting
 pub mod Judging
 pub mod Refining
 pub mod SingleSteps
+pub mod Quadrants
