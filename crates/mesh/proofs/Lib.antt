@@ -24,3 +24,4 @@ pub mod Judging
 pub mod Refining
 pub mod SingleSteps
 pub mod Quadrants
+pub mod Area

@@ -2,7 +2,7 @@
 -- least four lie over it; and where exactly four lie over every square, no anchor lies strictly inside another blend's support.
 use Prim.Native.Nat.{ℕ, _+_, _*_, _-_, _≤_, _<_}
 use native.Mathlib.Omega.{arith}
-use mathlib.Core.Path.{_≡_, refl, sym, ap, subst, _∙_}
+use mathlib.Core.Path.{_≡_, refl, sym, ap, _∙_}
 use mathlib.Core.Logic.{_⊎_, inl, inr, ⊎-elim}
 use mathlib.Core.Bool.{Bool, true, false, cond, _&&_, _||_, not, or-true}
 use mathlib.Core.List.{List, [], _∷_, List·Memᴰ, List·Memᴰ·not-nil, List·Memᴰ·eq-of-singleton}
@@ -27,7 +27,7 @@ use Rattle.mesh.proofs.Order.{by-cutting, left-itself, left-front, Risi
 use Rattle.mesh.proofs.Fresh.{firstFour-rises}
 use Rattle.mesh.proofs.SoundMaps.{live-left, live-proper}
 
--- what a test counts; two tests at once; and the entries of a list that pass a test
+-- what a test counts, alone and with another; and the entries of a list that pass it
 abbrev pub ones : Bool → ℕ
 ones b = cond b 1 0
 
@@ -56,7 +56,7 @@ module _ {ℓ} {A : Type ℓ} (test : A → Bool) where
       single (z ∷ u ∷ ys) m n l = absurd (omega arith)
 
 -- the unit step from knot x lies in l to m, the lower part of a triple, or in m to r, its upper part
-abbrev pub lies : Side → ℕ → Triple → Bool
+abbrev lies : Side → ℕ → Triple → Bool
 lies lower x t = within (t .l) (t .m) x
 lies upper x t = within (t .m) (t .r) x
 
@@ -100,13 +100,13 @@ first-lies : (p : Side) (s x : ℕ) → OnSide s x → lies p x (first p s) ≡ 
 first-lies lower s x on = within-of 1 (s + 1) x (on .0) (omega arith)
 first-lies upper s x on = within-of 1 (s + 1) x (on .0) (omega arith)
 
--- a knot that can't cut and lies strictly between the ends is the middle
+-- a knot that cannot cut and lies strictly between the ends is the middle
 middle-at : (z : ℕ) (t : Triple) → (Inside z t → ⊥) → t .l < z → z < t .r → z ≡ t .m
 middle-at z t clear lo hi =
     ⊎-elim (λ e. eqb-true z (t .m) e) (λ e. absurd (clear (record { lo = lo; hi = hi; off = eqb-false z (t .m) e }))) (either (eqb z (t .m)))
 
 -- Where the middle of t lies strictly inside u, one of the steps beside it lies in the same part of both. It is a step of the side where
--- the lines at its two ends don't cut u.
+-- the lines at its two ends do not cut u.
 module _ (s : ℕ) (t u : Triple) (pos : 1 ≤ s) (rt : RisesIn s t) (ru : RisesIn s u) (lo : u .l < t .m) (hi : t .m < u .r) where
   abbrev Beside : Type 0
   Beside = (p : Side) × (x : ℕ) × OnSide s x × (lies p x t ≡ true) × (lies p x u ≡ true)
@@ -149,10 +149,10 @@ module _ (s : ℕ) (t u : Triple) (pos : 1 ≤ s) (rt : RisesIn s t) (ru : Rises
       (either (leb (t .m) (u .m)))
 
 -- the unit square whose low corner is at knots (x, y) lies in a quadrant of the blend
-abbrev pub quadrant : Side → Side → ℕ → ℕ → Blend → Bool
+abbrev quadrant : Side → Side → ℕ → ℕ → Blend → Bool
 quadrant p q x y B = lies p x (B .across) && lies q y (B .up)
 
-abbrev pub inQuadrant : Side → Side → ℕ → ℕ → List Blend → ℕ
+abbrev inQuadrant : Side → Side → ℕ → ℕ → List Blend → ℕ
 inQuadrant p q x y bs = length (only (quadrant p q x y) bs)
 
 -- a square of the support lies in one quadrant
@@ -225,17 +225,21 @@ module _ (w h : ℕ) (hw : 1 ≤ w) (hh : 1 ≤ h) (M : Mesh) (x y : ℕ) (onx :
       inQuadrant upper lower x y (live w h M) + inQuadrant upper upper x y (live w h M)
   parts = four-quadrants x y (live w h M) (λ B m. proper-rises w h B (live-proper w h hw hh M B m))
 
+  shares : (1 ≤ inQuadrant lower lower x y (live w h M)) × (1 ≤ inQuadrant lower upper x y (live w h M)) ×
+      (1 ≤ inQuadrant upper lower x y (live w h M)) × (1 ≤ inQuadrant upper upper x y (live w h M))
+  shares = (in-each lower lower, in-each lower upper, in-each upper lower, in-each upper upper)
+
   pub four-or-more : 4 ≤ length (only (overSquare x y) (live w h M))
-  four-or-more = omega (arith, parts, in-each lower lower, in-each lower upper, in-each upper lower, in-each upper upper)
+  four-or-more = omega (arith, parts, shares)
 
   module _ (four : length (only (overSquare x y) (live w h M)) ≡ 4) where
     one-in-each : (p q : Side) → inQuadrant p q x y (live w h M) ≡ 1
-    one-in-each lower lower = omega (arith, parts, in-each lower lower, in-each lower upper, in-each upper lower, in-each upper upper)
-    one-in-each lower upper = omega (arith, parts, in-each lower lower, in-each lower upper, in-each upper lower, in-each upper upper)
-    one-in-each upper lower = omega (arith, parts, in-each lower lower, in-each lower upper, in-each upper lower, in-each upper upper)
-    one-in-each upper upper = omega (arith, parts, in-each lower lower, in-each lower upper, in-each upper lower, in-each upper upper)
+    one-in-each lower lower = omega (arith, parts, shares)
+    one-in-each lower upper = omega (arith, parts, shares)
+    one-in-each upper lower = omega (arith, parts, shares)
+    one-in-each upper upper = omega (arith, parts, shares)
 
-    pub one-quadrant : (p q : Side) (B C : Blend) → List·Memᴰ B (live w h M) → List·Memᴰ C (live w h M) →
+    one-quadrant : (p q : Side) (B C : Blend) → List·Memᴰ B (live w h M) → List·Memᴰ C (live w h M) →
         quadrant p q x y B ≡ true → quadrant p q x y C ≡ true → B ≡ C
     one-quadrant p q B C mB mC e f = one-passes (quadrant p q x y) B C (live w h M) mB mC e f (one-in-each p q)
 
