@@ -23,3 +23,5 @@ pub mod Reading
 pub mod Refining
 pub mod Fitted
 pub mod SingleSteps
+pub mod Quadrants
+pub mod Area
