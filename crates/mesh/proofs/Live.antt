@@ -16,7 +16,7 @@ pub use Rattle.mesh.proofs.Cuts.{proper-rises}
 use Rattle.mesh.proofs.Cuts.{proper-facts, proper-of, proper-within}
 use Rattle.mesh.proofs.Order.{comes-rises, comes-within, Rising, LeftOf, SameMembers, leavesOf-left, left-leavesOf, finer-leaves}
 use Rattle.mesh.proofs.Tables.{once-mem, mem-once, once-distinct, order-mem, mem-order, order-distinct}
-use Rattle.mesh.proofs.Places.{proper-anchored, sound-own, own-says, own-of}
+use Rattle.mesh.proofs.Places.{proper-anchored, sound-own, own-says}
 use Rattle.mesh.proofs.Ascending.{OwnAnchors, order-ascending, ascending-unique}
 
 -- what is left of a proper blend is proper

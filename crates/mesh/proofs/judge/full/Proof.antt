@@ -14,9 +14,6 @@ use Rattle.mesh.specs.declared.Blend.{Blend}
 use Rattle.mesh.proofs.Entries.{left-turn, left-none}
 use Rattle.mesh.proofs.judge.full.Statement.{statement}
 use Rattle.mesh.proofs.judge.full.Tie as tie
-use Rattle.mesh.proofs.judge.full.Reads as reads
-use Rattle.mesh.proofs.judge.full.Lts as lts
-use Rattle.mesh.proofs.judge.steps_in.Reads as steps-in-reads
 
 product-most : (a b : ℕ) → a ≤ 128 → b ≤ 128 → a * b ≤ 16384
 product-most a b p q = le-trans (mul-le-mul-right b p) (mul-le-mul-left 128 q)
@@ -35,42 +32,34 @@ abbrev μ-loop : tie.MeasureT-loop
 long : (c : tie.Start Inv-loop μ-loop) → length (c .args .t1 .blends) ≡ 1024
 long c = simp length-map at (c .good .0 .1 .1 .1 .0 .1 .0 .1)
 
--- src/judge.rt:40:9
 returns : tie.Need-returns Inv-loop μ-loop
 unfolding full
 returns c = rw (lt-leb (c .before .args .w) 128 (omega arith))
 
--- src/judge.rt:43:9
 returns-2 : tie.Need-returns-2 Inv-loop μ-loop
 unfolding full
 returns-2 c =
     let a = c .before .before .args in
     rw (lt-leb (a .h) 128 (omega arith), and-false (leb (a .w) 128))
 
--- src/judge.rt:47:9
 returns-3 : tie.Need-returns-3 Inv-loop μ-loop
 unfolding full
 returns-3 c =
     let a = c .before .before .before .args in
     rw (lt-leb (a .t1 .count) 1024 (omega arith), and-false (leb (a .w) 128 && leb (a .h) 128))
 
--- src/judge.rt:51:5
 loop-holds : tie.Need-loop-holds Inv-loop μ-loop
 loop-holds c = search needs
 
--- src/judge.rt:52:17
 mul-x : tie.Need-mul-x Inv-loop μ-loop
 mul-x c = search needs
 
--- src/judge.rt:52:17
 element-copy-out-x : tie.Need-element-copy-out-x Inv-loop μ-loop
 element-copy-out-x c = search needs
 
--- src/judge.rt:53:16
 steps-in-requires : tie.Need-steps-in-requires Inv-loop μ-loop
 steps-in-requires c κs = search needs
 
--- src/judge.rt:53:40
 steps-in-requires-2 : tie.Need-steps-in-requires-2 Inv-loop μ-loop
 steps-in-requires-2 c κs = search needs
 
@@ -95,23 +84,18 @@ turn c =
     let n = long s in
     rw (left-turn (s .args .t1 .blends) (s .args .t1 .count) (c .before .before .before .before .loop .k) (omega arith) none (omega arith), added c)
 
--- src/judge.rt:53:16
 mul-sum : tie.Need-mul-sum Inv-loop μ-loop
 mul-sum c = record { fits = omega (arith, added-most c) }
 
--- src/judge.rt:53:9
 add-sum : tie.Need-add-sum Inv-loop μ-loop
 add-sum c = record { fits = omega (arith, added-most c) }
 
--- src/judge.rt:54:9
 add-k : tie.Need-add-k Inv-loop μ-loop
 add-k c = search needs
 
--- src/judge.rt:51:5
 loop-less : tie.Need-loop-less Inv-loop μ-loop
 loop-less c = search needs
 
--- src/judge.rt:51:5
 loop-again : tie.Need-loop-again Inv-loop μ-loop
 loop-again c = (omega (arith, added-most c), omega (arith, turn c))
 
@@ -120,15 +104,12 @@ domain c =
     let a = c .before .before .before .before .before .args in
     product-most (a .w) (a .h) (omega arith) (omega arith)
 
--- src/judge.rt:56:17
 mul-result : tie.Need-mul-result Inv-loop μ-loop
 mul-result c = record { fits = omega (arith, domain c) }
 
--- src/judge.rt:56:12
 mul-result-2 : tie.Need-mul-result-2 Inv-loop μ-loop
 mul-result-2 c = record { fits = omega (arith, domain c) }
 
--- src/judge.rt:36:1
 returns-4 : tie.Need-returns-4 Inv-loop μ-loop
 unfolding full
 returns-4 c =
