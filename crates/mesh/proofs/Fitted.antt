@@ -3,21 +3,22 @@ use Prim.Native.Nat.{_≤_}
 use mathlib.Core.Path.{_≡_, sym, ap, _∙_}
 use mathlib.Core.Logic.{⊎-elim}
 use mathlib.Core.Bool.{true, false, _&&_}
-use mathlib.Core.List.{List, []}
+use mathlib.Core.List.{List}
 use borrow.Author.Tests.{le-leb, leb-true}
 use lib.Dec.{leb}
 use lib.ListN.{length}
 use Rattle.mesh.specs.Lines.{mesh}
 use Rattle.mesh.specs.Blends.{live}
-use Rattle.mesh.specs.Sound.{sound, table, full, ownAnchors, fitted, answer}
+use Rattle.mesh.specs.Sound.{sound, table, full, ownAnchors, fitted}
 use Rattle.mesh.specs.declared.Split.{Split}
 use Rattle.mesh.specs.declared.Lines.{Lines}
 use Rattle.mesh.specs.declared.Blend.{Blend}
 use Rattle.mesh.specs.declared.Refined.{Refined}
-use Rattle.mesh.proofs.Tests.{either, true-not-false, and-both, and-of, false-of, cond-true, cond-false}
+use Rattle.mesh.proofs.Tests.{either, true-not-false, and-both, and-of, false-of, cond-true}
 use Rattle.mesh.proofs.Drawing.{Allowed}
 use Rattle.mesh.proofs.Places.{own-of}
 use Rattle.mesh.proofs.SoundMaps.{own-anchors}
+use Rattle.mesh.proofs.AtMost.{at-most}
 use Rattle.mesh.proofs.Area.{by-area}
 use Rattle.mesh.proofs.Refining.{table-blends, table-count}
 
@@ -41,28 +42,22 @@ fits-held bs r e f =
       is-table = ap (λ (x : Refined). x .table) (e ∙ cond-true _ _ _ t);
     }
 
--- on lines within range, and any splits of their sides
-module _ {L : Lines} (sides : Allowed L) (splits : List Split) where
-  abbrev pub lives : List Blend
+-- On lines within range, and any splits of their sides, no more than sixty:
+module _ {L : Lines} (sides : Allowed L) (splits : List Split) (sixty : length splits ≤ 60) where
+  abbrev lives : List Blend
   lives = live (L .w) (L .h) (mesh (L .w) (L .h) splits)
 
-  pub unsound-answer : sound (L .w) (L .h) lives ≡ false → answer (L .w) (L .h) lives ≡ record { sound = false; table = table [] }
-  unfolding answer
-  unsound-answer e = rw e
-
   module _ {r : Refined} (e : r ≡ fitted lives) where
-    -- Where a table does not hold the live blends, they make no sound map that it holds;
-    pub unfit-answer : r .fits ≡ false → answer (L .w) (L .h) lives ≡ record { sound = false; table = table [] }
-    unfolding answer
-    unfit-answer f =
-        cond-false _ _ _
-        (false-of _ (λ t.
-        let b = and-both (sound (L .w) (L .h) lives) (leb (length lives) 1024) t in
-        let own = own-of lives (own-anchors (L .w) (L .h) (sides .across .0) (sides .up .0) (mesh (L .w) (L .h) splits) (b .0)) in
-        true-not-false _ (and-of _ _ own (b .1)) (sym (fits-test lives r e) ∙ f)))
+    -- where a table does not hold the live blends, they make no sound map;
+    pub unfit-unsound : r .fits ≡ false → sound (L .w) (L .h) lives ≡ false
+    unfit-unsound f =
+        false-of _ (λ s.
+        let own = own-of lives (own-anchors (L .w) (L .h) (sides .across .0) (sides .up .0) (mesh (L .w) (L .h) splits) s) in
+        let few = at-most (L .w) (L .h) (sides .across .0) (sides .up .0) (sides .up .1) splits sixty s in
+        true-not-false _ (and-of _ _ own (le-leb (length lives) 1024 few)) (sym (fits-test lives r e) ∙ f))
 
     -- else their areas decide.
-    full-sound : r .fits ≡ true → full (L .w) (L .h) (r .table) ≡ sound (L .w) (L .h) lives
+    pub full-sound : r .fits ≡ true → full (L .w) (L .h) (r .table) ≡ sound (L .w) (L .h) lives
     unfolding full
     full-sound f =
         let held = fits-held lives r e f in
@@ -70,13 +65,3 @@ module _ {L : Lines} (sides : Allowed L) (splits : List Split) where
         let high = le-leb (L .h) 128 (sides .up .1) in
         rw (held .is-table, table-blends lives, table-count lives, wide, high, le-leb (length lives) 1024 (held .few))
         (sym (by-area (L .w) (L .h) (sides .across .0) (sides .up .0) splits))
-
-    pub full-answer : r .fits ≡ true → full (L .w) (L .h) (r .table) ≡ true → answer (L .w) (L .h) lives ≡ record { sound = true; table = r .table }
-    unfolding answer
-    full-answer f q =
-        let held = fits-held lives r e f in
-        rw (← held .is-table)
-        (cond-true _ _ _ (and-of _ _ (sym (full-sound f) ∙ q) (le-leb (length lives) 1024 (held .few))))
-
-    pub unfull-answer : r .fits ≡ true → full (L .w) (L .h) (r .table) ≡ false → answer (L .w) (L .h) lives ≡ record { sound = false; table = table [] }
-    unfull-answer f q = unsound-answer (sym (full-sound f) ∙ q)
