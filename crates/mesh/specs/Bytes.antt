@@ -2,7 +2,7 @@
 use Prim.Native.Nat.{ℕ, _+_, _*_, _/_, _%_, _<_, _≤_}
 use mathlib.Core.Path.{_≡_}
 use mathlib.Core.Bool.{Bool, true, false, cond, _&&_, _||_, not}
-use mathlib.Core.List.{List, [], _∷_}
+use mathlib.Core.List.{List, [], _∷_, List·Memᴰ}
 use lib.Dec.{ltb, leb, eqb}
 use lib.ListN.{length, getD, set, replicate}
 use Rattle.mesh.specs.Range.{each}
@@ -39,12 +39,15 @@ pub record ProperIn (w h : ℕ) (B : Blend) : Type 0 where
   pub across : RisesIn w (B .across)
   pub up : RisesIn h (B .up)
 
--- the knots of the longest side are 0 to 130: a triple rises within them, and both of a blend do
+-- the knots of the longest side are 0 to 130: a triple rises within them, both of a blend do, and those of all of some blends
 abbrev pub Rises : Triple → Type 0
 Rises t = RisesIn 128 t
 
 abbrev pub Proper : Blend → Type 0
 Proper B = ProperIn 128 128 B
+
+abbrev pub AllProper : List Blend → Type 0
+AllProper bs = (B : Blend) → List·Memᴰ B bs → Proper B
 
 -- Blends by their anchors: the place of an anchor holds 0, or the support of the blend that has it.
 abbrev pub place : Blend → ℕ
