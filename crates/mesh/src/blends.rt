@@ -49,7 +49,7 @@ pub fn refine(lines: Lines, old: Table) -> Refined
     let mut levels = [0u8; 17161];
     draw_lines(lines, 0, &mut uprights);
     draw_lines(lines, 1, &mut levels);
-    let mut places = [0u64; 17161];
+    let mut places = [0u32; 17161];
     cut_all(&uprights, &levels, old, &mut places);
     if places[0] != 0 {
         return refusal();

@@ -94,24 +94,24 @@ fn upper_half(z: usize, x: Triple) -> Triple
 }
 
 // Keeps a blend at its anchor's place.
-pub(crate) fn keep_blend(places: &mut [u64], x: Blend)
+pub(crate) fn keep_blend(places: &mut [u32], x: Blend)
     requires { ⌜ Square (now places) × Proper x ⌝ }
     ensures { λ _. ⌜ now (places .exit) ≡ keep (now (places .entry)) x ⌝ }
 {
     let a = x.across;
     let u = x.up;
     let place = a.m * 131 + u.m;
-    let packed = ((a.l * 256 + a.r) * 256 + u.l) * 256 + u.r;
+    let packed = (((a.l * 256 + a.r) * 256 + u.l) * 256 + u.r) as u32;
     let old = places[place];
     if old == 0 {
-        places[place] = packed as u64;
-    } else if old != packed as u64 {
+        places[place] = packed;
+    } else if old != packed {
         places[0] = 1;
     }
 }
 
 // Cuts a blend by uprights and hands the halves to the level cuts. `tried` tells that no level cuts the blend.
-fn cut_across(uprights: &[u8], levels: &[u8], x: Blend, tried: bool, places: &mut [u64])
+fn cut_across(uprights: &[u8], levels: &[u8], x: Blend, tried: bool, places: &mut [u32])
     requires { ⌜ Square (now uprights) × Square (now levels) × Square (now places) × Proper x ×
         (tried ≡ true → cutter (bytesMesh (now uprights) (now levels)) level x ≡ 0) ⌝ }
     ensures { λ _. ⌜ ((f : ℕ) → size x ≤ f → now (places .exit) ≡
@@ -151,7 +151,7 @@ fn cut_across(uprights: &[u8], levels: &[u8], x: Blend, tried: bool, places: &mu
 }
 
 // Cuts a blend by levels and hands the halves back to the upright cuts. `tried` tells that no upright cuts the blend.
-fn cut_up(uprights: &[u8], levels: &[u8], x: Blend, tried: bool, places: &mut [u64])
+fn cut_up(uprights: &[u8], levels: &[u8], x: Blend, tried: bool, places: &mut [u32])
     requires { ⌜ Square (now uprights) × Square (now levels) × Square (now places) × Proper x ×
         (tried ≡ true → cutter (bytesMesh (now uprights) (now levels)) upright x ≡ 0) ⌝ }
     ensures { λ _. ⌜ ((f : ℕ) → size x ≤ f → now (places .exit) ≡
@@ -225,7 +225,7 @@ pub(crate) fn proper_table(table: Table, w: usize, h: usize) -> bool
 }
 
 // Cuts every blend of a table to the end and keeps what is left.
-pub(crate) fn cut_all(uprights: &[u8], levels: &[u8], table: Table, places: &mut [u64])
+pub(crate) fn cut_all(uprights: &[u8], levels: &[u8], table: Table, places: &mut [u32])
     requires { ⌜ Square (now uprights) × Square (now levels) × Square (now places) × (table .count ≤ 1024) ×
         (all (proper 128 128) (blendsOf table) ≡ true) ⌝ }
     ensures { λ _. ⌜ now (places .exit) ≡

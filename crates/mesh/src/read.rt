@@ -9,7 +9,7 @@ ghost use Rattle.mesh.specs.Sound.{none};
 ghost use Rattle.mesh.specs.Bytes.{Square, unpacked, walk, listed, refused};
 
 // The blend that a place holds, taken apart.
-fn unpack(m: usize, n: usize, c: u64) -> Blend
+fn unpack(m: usize, n: usize, c: u32) -> Blend
     ensures { λ r. ⌜ r ≡ unpacked m n c ⌝ }
 {
     Blend {
@@ -47,7 +47,7 @@ pub(crate) fn refusal() -> Refined
 }
 
 // The table of the kept blends; a refusal where they are more than it holds.
-pub(crate) fn read_out(places: &[u64], w: usize, h: usize) -> Refined
+pub(crate) fn read_out(places: &[u32], w: usize, h: usize) -> Refined
     requires { ⌜ Square (now places) × (w ≤ 128) × (h ≤ 128) ⌝ }
     ensures { λ r. ⌜ r ≡ listed (walk w h (now (places .entry))) ⌝ }
 {

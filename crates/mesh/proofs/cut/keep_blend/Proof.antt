@@ -29,6 +29,9 @@ mul-packed-3 c = search needs
 add-packed-3 : tie.Need-add-packed-3
 add-packed-3 c = search needs
 
+cast-packed : tie.Need-cast-packed
+cast-packed c = search needs
+
 mul-old : tie.Need-mul-old
 mul-old c = search needs
 
@@ -77,6 +80,7 @@ keep-blend-spec =
     add-packed-2
     mul-packed-3
     add-packed-3
+    cast-packed
     mul-old
     slice-read-old
     mul-places

@@ -1,12 +1,25 @@
 -- `mesh::read::unpack` meets its contract.
+use borrow.Author.Needs.{needs}
 use mathlib.Core.Path.{refl}
 use Rattle.mesh.specs.Bytes.{unpacked}
 use Rattle.mesh.proofs.read.unpack.Statement.{statement}
 use Rattle.mesh.proofs.read.unpack.Tie as tie
+
+cast-t5 : tie.Need-cast-t5
+cast-t5 c = search needs
+
+cast-t8 : tie.Need-cast-t8
+cast-t8 c = search needs
+
+cast-t12 : tie.Need-cast-t12
+cast-t12 c = search needs
+
+cast-t14 : tie.Need-cast-t14
+cast-t14 c = search needs
 
 returns : tie.Need-returns
 unfolding unpacked
 returns c = refl
 
 pub unpack-spec : {M : Type 1} → statement M
-unpack-spec = tie.close (tie.spec returns)
+unpack-spec = tie.close (tie.spec cast-t5 cast-t8 cast-t12 cast-t14 returns)
