@@ -65,7 +65,7 @@ fn low(side: usize) -> Triple
     Triple {
         l: 0,
         m: 1,
-        r: side + 1,
+        r: (side + 1) as u8,
     }
 }
 
@@ -75,8 +75,8 @@ fn high(side: usize) -> Triple
 {
     Triple {
         l: 1,
-        m: side + 1,
-        r: side + 2,
+        m: (side + 1) as u8,
+        r: (side + 2) as u8,
     }
 }
 

@@ -1,6 +1,7 @@
 // Judging by area whether the live blends of a map make it sound: four over every unit square add up to four times the domain.
 use crate::Table;
 use crate::Triple;
+use crate::knots::wide;
 ghost use mathlib.Core.Path.{_≡_};
 ghost use Prim.Native.Nat.{_≤_, min, max};
 ghost use Rattle.mesh.specs.Triple.{stepsIn};
@@ -24,8 +25,8 @@ fn steps_in(side: usize, x: Triple) -> usize
     requires { ⌜ side ≤ 128 ⌝ }
     ensures { λ r. ⌜ r ≡ stepsIn side x ⌝ }
 {
-    let from = greater(x.l, 1);
-    let to = lesser(x.r, side + 1);
+    let from = greater(wide(x.l), 1);
+    let to = lesser(wide(x.r), side + 1);
     if to <= from {
         return 0;
     }

@@ -5,15 +5,16 @@
 pub mod blends;
 mod cut;
 pub mod judge;
+pub mod knots;
 pub mod points;
 mod read;
 mod steps;
 
 // One axis of a blend: its three knots, rising.
 pub struct Triple {
-    pub l: usize,
-    pub m: usize,
-    pub r: usize,
+    pub l: u8,
+    pub m: u8,
+    pub r: u8,
 }
 
 // A blend: its triples across and up. Its anchor is the two middles, its support the two outer pairs.

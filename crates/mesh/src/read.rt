@@ -10,18 +10,19 @@ ghost use Rattle.mesh.specs.Bytes.{Square, unpacked, walk, listed, refus
 
 // The blend that a place holds, taken apart.
 fn unpack(m: usize, n: usize, c: u32) -> Blend
+    requires { ⌜ (m ≤ 130) × (n ≤ 130) ⌝ }
     ensures { λ r. ⌜ r ≡ unpacked m n c ⌝ }
 {
     Blend {
         across: Triple {
-            l: (c / 16777216) as usize,
-            m: m,
-            r: (c / 65536 % 256) as usize,
+            l: (c / 16777216) as u8,
+            m: m as u8,
+            r: (c / 65536 % 256) as u8,
         },
         up: Triple {
-            l: (c / 256 % 256) as usize,
-            m: n,
-            r: (c % 256) as usize,
+            l: (c / 256 % 256) as u8,
+            m: n as u8,
+            r: (c % 256) as u8,
         },
     }
 }

@@ -1,0 +1,32 @@
+// Knots: bytes where they are kept, numbers where they are calculated with.
+use crate::Blend;
+ghost use mathlib.Core.Path.{_≡_};
+ghost use Rattle.mesh.specs.Bytes as bytes;
+
+pub fn wide(knot: u8) -> usize
+    ensures { λ r. ⌜ r ≡ knot ⌝ }
+{
+    knot as usize
+}
+
+// The place of a blend's anchor among all pairs of knots.
+pub fn place(x: Blend) -> usize
+    ensures { λ r. ⌜ r ≡ bytes.place x ⌝ }
+{
+    wide(x.across.m) * 131 + wide(x.up.m)
+}
+
+fn word(knot: u8) -> u32
+    ensures { λ r. ⌜ r ≡ knot ⌝ }
+{
+    knot as u32
+}
+
+// A blend's support in one number.
+pub(crate) fn pack(x: Blend) -> u32
+    ensures { λ r. ⌜ r ≡ bytes.packed x ⌝ }
+{
+    let a = x.across;
+    let u = x.up;
+    ((word(a.l) * 256 + word(a.r)) * 256 + word(u.l)) * 256 + word(u.r)
+}
