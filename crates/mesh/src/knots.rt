@@ -1,7 +1,8 @@
-// Knots: bytes where they are kept, numbers where they are calculated with.
+// Knots are kept in bytes, since the last is 130, and calculated with as numbers.
 use crate::Blend;
 ghost use mathlib.Core.Path.{_≡_};
-ghost use Rattle.mesh.specs.Bytes as bytes;
+ghost use Prim.Native.Nat.{_+_, _*_};
+ghost use Rattle.mesh.specs.Bytes.{packed};
 
 pub fn wide(knot: u8) -> usize
     ensures { λ r. ⌜ r ≡ knot ⌝ }
@@ -9,9 +10,9 @@ pub fn wide(knot: u8) -> usize
     knot as usize
 }
 
-// The place of a blend's anchor among all pairs of knots.
+// The place of a blend's anchor in a square table, a place for each pair of knots.
 pub fn place(x: Blend) -> usize
-    ensures { λ r. ⌜ r ≡ bytes.place x ⌝ }
+    ensures { λ r. ⌜ r ≡ x .across .m * 131 + x .up .m ⌝ }
 {
     wide(x.across.m) * 131 + wide(x.up.m)
 }
@@ -24,7 +25,7 @@ fn word(knot: u8) -> u32
 
 // A blend's support in one number.
 pub(crate) fn pack(x: Blend) -> u32
-    ensures { λ r. ⌜ r ≡ bytes.packed x ⌝ }
+    ensures { λ r. ⌜ r ≡ packed x ⌝ }
 {
     let a = x.across;
     let u = x.up;
