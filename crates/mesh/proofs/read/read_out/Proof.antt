@@ -1,13 +1,13 @@
--- `mesh::judge::read_out` meets its contract. The invariants: what is read, with the places that are left, is the whole walk.
+-- `mesh::read::read_out` meets its contract. The invariants: what is read, with the places that are left, is the whole walk.
 use borrow.Author.Needs.{needs}
 use native.Mathlib.Omega.{arith}
 use Prim.Native.Nat.{_+_, _-_, _≤_}
 use mathlib.Core.Path.{sym, _∙_}
 use mathlib.Core.Logic.{⊎-elim}
 use Rattle.mesh.specs.Bytes.{walk}
-use Rattle.mesh.proofs.Judging.{rowsLeft, placesLeft, walk-rows, row-begins, row-ends, rows-end-left, place-empty, place-holds, Reading, read-none, read-more, read-full, read-all}
-use Rattle.mesh.proofs.judge.read_out.Statement.{statement}
-use Rattle.mesh.proofs.judge.read_out.Tie as tie
+use Rattle.mesh.proofs.Reading.{rowsLeft, placesLeft, walk-rows, row-begins, row-ends, rows-end-left, place-empty, place-holds, Reading, read-none, read-more, read-full, read-all}
+use Rattle.mesh.proofs.read.read_out.Statement.{statement}
+use Rattle.mesh.proofs.read.read_out.Tie as tie
 
 abbrev Inv-loop2 : tie.InvT-loop2
 Inv-loop2 places w h blends₀ count₀ m n₀ blends count n =
