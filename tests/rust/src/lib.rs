@@ -1,10 +1,12 @@
 //! Tests of the pump map library: the calls of pump.h, answered by an independent model of document 01, by a plain fast
 //! implementation, and by the library itself.
 
+pub mod calls;
+pub mod draw;
 #[cfg(feature = "library")]
 pub mod ffi;
 pub mod model;
-//pub mod plain;
+pub mod plain;
 
 /// The calls of pump.h over slices. The number is handed back; the rest goes where pump.h puts it.
 pub trait Pump: Sync {
@@ -26,7 +28,7 @@ pub trait Pump: Sync {
 /// What is compared with the model.
 pub fn subjects() -> Vec<&'static dyn Pump> {
     vec![
-        //&plain::Plain,plain::Plain,
+        &plain::Plain,
         #[cfg(feature = "library")]
         &ffi::Library,
     ]

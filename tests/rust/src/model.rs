@@ -189,22 +189,18 @@ pub fn first_four(w: i64, h: i64) -> BTreeSet<Blend> {
 
 /// The live blends: every cut blend is replaced by its halves, equal ones kept once, until no line cuts ("Blends").
 pub fn live(lines: &Lines) -> BTreeSet<Blend> {
-    let mut blends = first_four(lines.w, lines.h);
-    loop {
-        let mut next = BTreeSet::new();
-        for blend in &blends {
-            match blend.cuts(lines).next() {
-                Some(halves) => next.extend(halves),
-                None => {
-                    next.insert(*blend);
-                }
+    let mut met = first_four(lines.w, lines.h);
+    let mut left: Vec<Blend> = met.iter().copied().collect();
+    let mut live = BTreeSet::new();
+    while let Some(blend) = left.pop() {
+        match blend.cuts(lines).next() {
+            Some(halves) => left.extend(halves.into_iter().filter(|half| met.insert(*half))),
+            None => {
+                live.insert(blend);
             }
         }
-        if next == blends {
-            return blends;
-        }
-        blends = next;
     }
+    live
 }
 
 /// Whether every unit square lies in exactly four supports and no anchor strictly inside another's support ("Blends").
