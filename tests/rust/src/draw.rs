@@ -82,26 +82,54 @@ pub fn extreme(random: &mut Random, near: usize) -> usize {
     }
 }
 
-/// A split: at a new or an old position, with ends mostly on crossing lines.
+/// A split that is mostly free: of several draws the first that shares no step with a line at its position.
 pub fn split(random: &mut Random, map: &Map, lines: &Lines) -> [usize; 4] {
-    let direction = random.pick(&[UPRIGHT, LEVEL]);
+    let mut drawn = any_split(random, map, lines);
+    for _ in 0..4 {
+        let [direction, position, from, to] = drawn;
+        let (across, along) = sides_of(map, direction);
+        let inside = direction <= 1 && 0 < position && position < across && from < to && to <= along;
+        let shared = |low| lines.has(direction, position as i64, low as i64);
+        if inside && !(from..to).any(shared) || random.chance(15) {
+            break;
+        }
+        drawn = any_split(random, map, lines);
+    }
+    if random.chance(3) {
+        let field = random.below(4);
+        drawn[field] = extreme(random, drawn[field]);
+    }
+    drawn
+}
+
+/// The sides that lines of this direction cross and run along.
+fn sides_of(map: &Map, direction: usize) -> (usize, usize) {
     let (w, h) = (map.w as usize, map.h as usize);
-    let (across, along) = if direction == UPRIGHT { (w, h) } else { (h, w) };
-    let olds: Vec<i64> = map
-        .splits
-        .iter()
-        .filter(|old| old.direction == direction)
-        .map(|old| old.position)
-        .collect();
+    if direction == UPRIGHT {
+        (w, h)
+    } else {
+        (h, w)
+    }
+}
+
+/// A split at a new or an old position, with ends mostly on crossing lines.
+fn any_split(random: &mut Random, map: &Map, lines: &Lines) -> [usize; 4] {
+    let direction = random.pick(&[UPRIGHT, LEVEL]);
+    let (across, along) = sides_of(map, direction);
+    let olds = map.splits.iter().filter(|old| old.direction == direction);
+    let olds: Vec<i64> = olds.map(|old| old.position).collect();
     let mut position = random.below(across + 1);
-    if across > 1 && random.chance(90) {
+    if across > 1 && random.chance(95) {
         position = random.between(1, across - 1);
     }
-    if !olds.is_empty() && random.chance(25) {
+    if !olds.is_empty() && random.chance(30) {
         position = (random.pick(&olds) + random.pick(&[-1, 0, 0, 0, 1])) as usize;
     }
     let (mut from, mut to) = (random.below(along + 1), random.below(along + 1));
-    if position <= across && random.chance(85) {
+    if from > to && random.chance(95) {
+        (from, to) = (to, from);
+    }
+    if random.chance(85) {
         let on_a_line = |end: &usize| lines.crossed_at(direction, position as i64, *end as i64);
         let ends: Vec<usize> = (0..=along).filter(on_a_line).collect();
         let first = random.below(ends.len() - 1);
@@ -111,19 +139,11 @@ pub fn split(random: &mut Random, map: &Map, lines: &Lines) -> [usize; 4] {
             random.between(first + 1, ends.len() - 1)
         };
         (from, to) = (ends[first], ends[second]);
-        if random.chance(20) {
-            (from, to) = (0, along);
-        }
     }
-    if from > to && random.chance(95) {
-        (from, to) = (to, from);
+    if random.chance(10) {
+        (from, to) = (0, along);
     }
-    let mut split = [direction, position, from, to];
-    if random.chance(4) {
-        let field = random.below(4);
-        split[field] = extreme(random, split[field]);
-    }
-    split
+    [direction, position, from, to]
 }
 
 /// A point: in the domain, often on a far side, sometimes outside.
@@ -185,4 +205,22 @@ pub fn call(random: &mut Random, map: &Map, others: &[Vec<u8>]) -> Call {
         }
         _ => Call::Table,
     }
+}
+
+/// A random map, grown by splits and sets on small sides.
+pub fn map(random: &mut Random, largest: usize, tries: usize) -> Map {
+    let (w, h) = (random.between(1, largest), random.between(1, largest));
+    let mut map = Map::fresh(w, h).unwrap();
+    for _ in 0..tries {
+        let [direction, position, from, to] = split(random, &map, &map.lines());
+        let _ = match random.chance(50) {
+            true => map.exact_split(direction, position, from, to),
+            false => map.lengthened_split(direction, position, from, to),
+        };
+        if random.chance(70) {
+            let place = random.below(map.values.len());
+            map.values[place] = random.next() as u16;
+        }
+    }
+    map
 }

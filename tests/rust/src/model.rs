@@ -442,7 +442,7 @@ impl Map {
 }
 
 /// The sum of value times weight, exact, then rounded down ("Values, readings, splits").
-fn reading(table: &[Blend], values: &[u16], u: i64, v: i64) -> i64 {
+pub fn reading(table: &[Blend], values: &[u16], u: i64, v: i64) -> i64 {
     let (numerator, denominator) = sum(table.iter().zip(values).map(|(blend, value)| {
         let (numerator, denominator) = blend.weight(u, v, 1);
         (*value as i128 * numerator, denominator)

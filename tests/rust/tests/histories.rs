@@ -1,31 +1,36 @@
 //! Random histories: every answer of every subject is compared with the model's.
 
-use pump_tests::calls::{compare, Call, Lent};
+use pump_tests::calls::{compare, Call, Lent, Outcome};
 use pump_tests::draw::{self, Random};
 use pump_tests::model::Map;
 use std::collections::BTreeMap;
 
-/// How often each call gave each number.
+/// How often each call gave each number, and how often two maps were the same.
 #[derive(Default)]
-struct Seen(BTreeMap<(&'static str, usize), usize>);
+struct Seen {
+    numbers: BTreeMap<(&'static str, usize), usize>,
+    same: [usize; 2],
+}
 
 impl Seen {
-    fn note(&mut self, call: &'static str, number: usize) {
-        *self.0.entry((call, number)).or_default() += 1;
+    fn note(&mut self, call: &Call, outcome: &Outcome) {
+        *self.numbers.entry((call.name(), outcome.number)).or_default() += 1;
+        if matches!(call, Call::Same(..)) && outcome.number == 0 {
+            self.same[outcome.numbers[0]] += 1;
+        }
     }
 
     fn count(&self, call: &'static str, number: usize) -> usize {
-        self.0.get(&(call, number)).copied().unwrap_or(0)
+        self.numbers.get(&(call, number)).copied().unwrap_or(0)
     }
 
-    /// Every call must have given every number that it can give, and no other.
-    fn assert_all(&self, least: usize) {
-        println!("{:?}", self.0);
-        let can: [(&'static str, &[usize]); 11] = [
-            ("fresh", &[0, 1, 12]),
+    /// Every call must have given every number that it can give, and no other. 1 and 4 have tests of their own. Nobody has
+    /// seen a lengthened split say 8, so that one may be missing.
+    fn assert_all(&self) {
+        let can: [(&'static str, &[usize]); 10] = [
             ("set", &[0, 9, 11]),
-            ("exact", &[0, 3, 4, 5, 6, 7, 8, 11, 12]),
-            ("lengthened", &[0, 3, 4, 5, 6, 7, 11, 12]),
+            ("exact", &[0, 3, 5, 6, 7, 8, 11, 12]),
+            ("lengthened", &[0, 3, 5, 6, 7, 11, 12]),
             ("place", &[0, 9, 11, 12]),
             ("reading", &[0, 10, 11]),
             ("weights", &[0, 10, 11, 12]),
@@ -35,13 +40,17 @@ impl Seen {
             ("table", &[0, 11, 12]),
         ];
         for (call, numbers) in can {
-            for number in 0..=12 {
-                let seen = self.count(call, number);
-                if numbers.contains(&number) {
-                    assert!(seen >= least, "{call} gave {number} only {seen} times");
-                }
+            let counts: Vec<usize> = (0..=12).map(|number| self.count(call, number)).collect();
+            println!("{call:>10} gave 0 to 12: {counts:?}");
+            for (number, count) in counts.into_iter().enumerate() {
+                let may = number == 4 || (call, number) == ("lengthened", 8);
+                assert!(
+                    may || numbers.contains(&number) == (count > 0),
+                    "{call} gave {number} {count} times"
+                );
             }
         }
+        assert!(self.same[0] > 0 && self.same[1] > 0);
     }
 }
 
@@ -52,7 +61,6 @@ fn lend(random: &mut Random, call: &Call, file: &[u8]) -> Lent {
             0 => file.len(),
             1 => file.len() + random.below(60),
             2 => 10_972,
-            3 if matches!(call, Call::Fresh(..)) => random.below(60),
             _ => file.len() + random.between(300, 900),
         };
         let mut lent = Lent::buffer(file, size);
@@ -77,31 +85,24 @@ fn lend(random: &mut Random, call: &Call, file: &[u8]) -> Lent {
     lent
 }
 
-/// One history, from a fresh map. The model's map goes along, for the draws and as a check on the model's own files.
-fn history(random: &mut Random, seen: &mut Seen, (w, h): (usize, usize), length: usize, splits: bool) -> Map {
+/// One history, from a fresh map; any calls, or splits alone. The model's map goes along, for the draws and as a check
+/// on the model's own files.
+fn history(random: &mut Random, seen: &mut Seen, (w, h): (usize, usize), length: usize, splits_alone: bool) -> Map {
     let mut story = vec![];
     let mut map = Map::fresh(w, h).unwrap();
-    let mut others = vec![Map::fresh(w, h).unwrap().write()];
-    let first = Call::Fresh(w, h);
-    let outcome = compare(&first, &Lent::buffer(&[], 60), &String::new);
-    let mut file = outcome.bytes()[..outcome.used].to_vec();
+    let mut file = map.write();
+    let mut others = vec![file.clone()];
     for _ in 0..length {
-        let call = if splits {
-            let split = draw::split(random, &map, &map.lines());
-            if random.chance(50) {
-                Call::Exact(split)
-            } else {
-                Call::Lengthened(split)
-            }
-        } else {
-            draw::call(random, &map, &others)
+        let call = match splits_alone {
+            true if random.chance(50) => Call::Exact(draw::split(random, &map, &map.lines())),
+            true => Call::Lengthened(draw::split(random, &map, &map.lines())),
+            false => draw::call(random, &map, &others),
         };
         let lent = lend(random, &call, &file);
         story.push((call.clone(), lent.bytes.len(), lent.used));
-        let outcome = compare(&call, &lent, &|| {
-            format!("sides {w} by {h}, calls with size and used: {story:?}")
-        });
-        seen.note(call.name(), outcome.number);
+        let tell = || format!("sides {w} by {h}; calls, each with size and used: {story:?}");
+        let outcome = compare(&call, &lent, &tell);
+        seen.note(&call, &outcome);
         if outcome.number != 0 || !call.changes() {
             continue;
         }
@@ -121,15 +122,49 @@ fn history(random: &mut Random, seen: &mut Seen, (w, h): (usize, usize), length:
 #[test]
 fn random_histories() {
     let seed = draw::seed("random_histories");
-    let count = draw::setting("PUMP_COUNT", 1000);
+    let count = draw::setting("PUMP_COUNT", 3000);
     let mut seen = Seen::default();
-    let mut accepted = 0;
+    let (mut accepted, mut drawn) = (0, 0);
     for number in 0..count {
         let mut random = Random(seed ^ number << 32);
-        let sides = draw::sides(&mut random);
-        let length = random.below(50);
+        let (sides, length) = (draw::sides(&mut random), random.below(50));
         accepted += history(&mut random, &mut seen, sides, length, false).splits.len();
+        drawn += length;
     }
-    println!("{count} histories, {accepted} splits accepted");
-    seen.assert_all(1);
+    println!("{count} histories, {drawn} calls, {accepted} splits accepted");
+    if count >= 1000 {
+        seen.assert_all();
+    }
+}
+
+/// Histories long enough to fill a map with 60 splits, on sides that hold them.
+#[test]
+fn full_histories() {
+    let seed = draw::seed("full_histories");
+    let mut seen = Seen::default();
+    for (number, sides) in [(70, 2), (3, 64), (30, 40), (128, 128)].into_iter().enumerate() {
+        let mut random = Random(seed ^ (number as u64) << 32);
+        let map = history(&mut random, &mut seen, sides, 110, true);
+        println!("{sides:?}: {} splits, {} blends", map.splits.len(), map.values.len());
+    }
+    assert!(seen.count("exact", 4) > 0 && seen.count("lengthened", 4) > 0);
+}
+
+/// Fresh maps of all sides, good and bad, in buffers of all sizes around the file's.
+#[test]
+fn fresh_maps() {
+    let mut random = Random(draw::seed("fresh_maps"));
+    let mut seen = Seen::default();
+    for round in 0..2000 {
+        let mut side = || match random.below(4) {
+            0 => draw::extreme(&mut random, 128),
+            _ => random.between(0, 129),
+        };
+        let call = Call::Fresh(side(), side());
+        let mut lent = Lent::buffer(&[], random.pick(&[0, 1, 51, 52, 53, 100]));
+        lent.used = round;
+        let outcome = compare(&call, &lent, &String::new);
+        seen.note(&call, &outcome);
+    }
+    assert!([0, 1, 12].iter().all(|number| seen.count("fresh", *number) > 100));
 }
