@@ -1,6 +1,7 @@
 //! Replays the outside vectors: the lists of calls and the files of the table program.
 
 use pump_tests::model::{Blend, Map, No, Split};
+use pump_tests::{subjects, Pump};
 use std::fmt::Write;
 use std::path::PathBuf;
 
@@ -55,15 +56,65 @@ fn answer(map: &mut Map, words: &[&str]) -> Result<String, No> {
     }
 }
 
-#[test]
-fn model_answers_the_lists_of_calls() {
+/// The same answer from a subject, over the bytes of the map's file.
+fn answer_over_bytes(pump: &dyn Pump, file: &mut Vec<u8>, words: &[&str]) -> Result<String, No> {
+    let n = |at: usize| words[at].parse::<usize>().unwrap();
+    let yes = |number: usize| if number == 0 { Ok(()) } else { Err(number) };
+    let (mut numbers, mut out) = ([0; 2], vec![0; 64]);
+    let fields = |out: &[u8]| -> Vec<String> {
+        out.chunks(2)
+            .map(|pair| i16::from_ne_bytes([pair[0], pair[1]]).to_string())
+            .collect()
+    };
+    let mut used = file.len();
+    file.resize(10_972, 0);
+    let outcome = match words[0] {
+        "set" => pump.set(file, &mut used, n(1), n(2), n(3) as u16),
+        "exact" => pump.exact_split(file, &mut used, [n(1), n(2), n(3), n(4)]),
+        "lengthen" => pump.lengthened_split(file, &mut used, [n(1), n(2), n(3), n(4)]),
+        _ => 0,
+    };
+    file.truncate(used);
+    yes(outcome)?;
+    match words[0] {
+        "set" => Ok("0".into()),
+        "place" => {
+            yes(pump.place(file, n(1), &mut out))?;
+            let value = u16::from_ne_bytes([out[12], out[13]]);
+            Ok(format!("0 {} {value}", fields(&out[..12]).join(" ")))
+        }
+        "reading" => {
+            yes(pump.reading(file, n(1), n(2), &mut numbers[0]))?;
+            Ok(format!("0 {}", numbers[0]))
+        }
+        "weights" => {
+            yes(pump.weights(file, n(1), n(2), &mut out))?;
+            let entries: Vec<String> = out.chunks(16).map(|entry| fields(entry).join(" ")).collect();
+            Ok(format!("0 {}", entries.join(" ; ")))
+        }
+        "same" => {
+            yes(pump.same(file, &from_hex(words[1]), &mut numbers[0]))?;
+            Ok(["0 no", "0 yes"][numbers[0]].into())
+        }
+        "file" => Ok(hex(file)),
+        _ => {
+            let splits = (8..).step_by(12).take_while(|at| file[at + 2] == 2).count();
+            let last = 12 * splits - 4;
+            let blends = (file.len() - 12 - 12 * splits) / 10;
+            Ok(format!("0 {} {} {blends}", file[last + 8], file[last + 10]))
+        }
+    }
+}
+
+/// Goes through the lists of calls; `fresh` starts one, `answer` gives an answer.
+fn lists_of_calls<M>(fresh: impl Fn(usize, usize) -> M, answer: impl Fn(&mut M, &[&str]) -> Result<String, No>) {
     let text = std::fs::read_to_string(vectors().join("histories.txt")).unwrap();
-    let mut map = Map::fresh(1, 1).unwrap();
+    let mut map = fresh(1, 1);
     let (mut calls, mut wrong) = (0, String::new());
     for (at, line) in text.lines().enumerate() {
         let words: Vec<&str> = line.split_whitespace().collect();
         if words[0] == "history" {
-            map = Map::fresh(words[1].parse().unwrap(), words[2].parse().unwrap()).unwrap();
+            map = fresh(words[1].parse().unwrap(), words[2].parse().unwrap());
             continue;
         }
         let (call, want) = line.split_once('=').unwrap();
@@ -78,21 +129,52 @@ fn model_answers_the_lists_of_calls() {
     assert!(calls > 9_000);
 }
 
-#[test]
-fn model_prints_the_tables() {
+/// Goes through the map files of the table program; `text` prints the table or refuses.
+fn tables(text: impl Fn(&[u8]) -> Result<String, No>) {
     let mut files = 0;
     for entry in std::fs::read_dir(vectors().join("files")).unwrap() {
         let path = entry.unwrap().path();
-        if path.extension().unwrap() != "map" {
-            continue;
+        if path.extension().unwrap() == "map" {
+            let got = text(&std::fs::read(&path).unwrap()).unwrap_or_else(|no| format!("refused {no}\n"));
+            let want = std::fs::read_to_string(path.with_extension("out")).unwrap();
+            assert_eq!(got, want, "{path:?}");
+            files += 1;
         }
-        let got = match Map::read(&std::fs::read(&path).unwrap()) {
-            Ok(map) => map.text(),
-            Err(no) => format!("refused {no}\n"),
-        };
-        let want = std::fs::read_to_string(path.with_extension("out")).unwrap();
-        assert_eq!(got, want, "{path:?}");
-        files += 1;
     }
     assert_eq!(files, 80);
+}
+
+#[test]
+fn model_answers_the_lists_of_calls() {
+    lists_of_calls(|w, h| Map::fresh(w, h).unwrap(), answer);
+}
+
+#[test]
+fn model_prints_the_tables() {
+    tables(|file| Map::read(file).map(|map| map.text()));
+}
+
+#[test]
+fn subjects_answer_the_lists_of_calls() {
+    for pump in subjects() {
+        let fresh = |w, h| {
+            let (mut file, mut used) = (vec![0; 52], 0);
+            assert_eq!(pump.fresh(w, h, &mut file, &mut used), 0);
+            file
+        };
+        lists_of_calls(fresh, |file, words| answer_over_bytes(pump, file, words));
+    }
+}
+
+#[test]
+fn subjects_print_the_tables() {
+    for pump in subjects() {
+        tables(|file| {
+            let (mut out, mut count) = (vec![0; 65_536], 0);
+            match pump.table(file, &mut out, &mut count) {
+                0 => Ok(String::from_utf8(out[..count].to_vec()).unwrap()),
+                no => Err(no),
+            }
+        });
+    }
 }
