@@ -5,6 +5,7 @@ pub mod calls;
 pub mod draw;
 #[cfg(feature = "library")]
 pub mod ffi;
+pub mod maps;
 pub mod model;
 pub mod plain;
 

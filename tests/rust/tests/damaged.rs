@@ -28,12 +28,23 @@ fn damage(random: &mut Random, file: &mut Vec<u8>) {
     if records.is_empty() {
         return;
     }
-    let (one, other) = (random.below(records.len()), random.below(records.len()));
-    let (one, other) = (records[one.min(other)].clone(), records[one.max(other)].clone());
+    // Half of the time two splits, if there are any: those may go in another order, or as other lines.
+    let splits = records.iter().filter(|record| file[record.start + 2] == 2).count();
+    let (first, count) = if splits > 0 && random.chance(50) {
+        (1, splits)
+    } else {
+        (0, records.len())
+    };
+    let (one, other) = (first + random.below(count), first + random.below(count));
+    let (one, other) = (one.min(other), one.max(other));
+    if other >= records.len() {
+        return;
+    }
+    let (one, other) = (records[one].clone(), records[other].clone());
     let at = random.below(file.len());
     // A 16-bit number of the first record picked.
     let field = one.start + 2 * random.below(one.len() / 2);
-    match random.below(14) {
+    match random.below(18) {
         0 => file[at] ^= 1 << random.below(8),
         1 => file[at] = random.next() as u8,
         2 => file.truncate(at),
@@ -41,7 +52,7 @@ fn damage(random: &mut Random, file: &mut Vec<u8>) {
         4 => file.extend((0..random.between(1, 12)).map(|at| at as u8)),
         5 => *file = [&file[..one.start], &file[one.end..]].concat(),
         6 => *file = [&file[..one.start], &file[other], &file[one.start..]].concat(),
-        7 if one != other => {
+        7 | 14 | 15 if one != other => {
             let between = &file[one.end..other.start];
             *file = [
                 &file[..one.start],

@@ -2,7 +2,10 @@
 
 use pump_tests::calls::{compare, Call, Lent, Outcome};
 use pump_tests::draw::{self, Random};
+use pump_tests::maps;
 use pump_tests::model::Map;
+use pump_tests::plain::Plain;
+use pump_tests::Pump;
 use std::collections::BTreeMap;
 
 /// How often each call gave each number, and how often two maps were the same.
@@ -142,12 +145,87 @@ fn random_histories() {
 fn full_histories() {
     let seed = draw::seed("full_histories");
     let mut seen = Seen::default();
-    for (number, sides) in [(70, 2), (3, 64), (30, 40), (128, 128)].into_iter().enumerate() {
+    for (number, (sides, length)) in [((70, 2), 160), ((30, 40), 110), ((128, 128), 90)]
+        .into_iter()
+        .enumerate()
+    {
         let mut random = Random(seed ^ (number as u64) << 32);
-        let map = history(&mut random, &mut seen, sides, 110, true);
+        let map = history(&mut random, &mut seen, sides, length, true);
         println!("{sides:?}: {} splits, {} blends", map.splits.len(), map.values.len());
     }
     assert!(seen.count("exact", 4) > 0 && seen.count("lengthened", 4) > 0);
+}
+
+/// The map of these splits on sides of 128, by the plain implementation, with values.
+fn largest(splits: &[maps::Split]) -> Vec<u8> {
+    let (mut buffer, mut used) = (vec![0; 10_972], 0);
+    assert_eq!(Plain.fresh(128, 128, &mut buffer, &mut used), 0);
+    for split in splits {
+        assert_eq!(Plain.exact_split(&mut buffer, &mut used, *split), 0);
+    }
+    buffer.truncate(used);
+    // The value stands at the end of each record of kind 3, and those are the last but one.
+    let values = (8 + 12 * splits.len()..used - 4).step_by(10);
+    for (at, record) in values.enumerate() {
+        let value = (at * 40_503 % 65_536) as u16;
+        buffer[record + 8..record + 10].copy_from_slice(&value.to_le_bytes());
+    }
+    buffer
+}
+
+/// The largest file there is, and the split that makes it in a buffer that just holds it.
+#[test]
+fn most_blends() {
+    let (last, first) = maps::grid()
+        .split_last()
+        .map(|(last, first)| (*last, first.to_vec()))
+        .unwrap();
+    let before = largest(&first);
+    let short = compare(&Call::Exact(last), &Lent::buffer(&before, 10_971), &String::new);
+    let whole = compare(&Call::Exact(last), &Lent::buffer(&before, 10_972), &String::new);
+    assert_eq!((short.number, whole.number, whole.used), (12, 0, 10_972));
+    let file = largest(&maps::grid());
+    for call in [
+        Call::Table,
+        Call::Place(1023),
+        Call::Place(1024),
+        Call::Reading(127, 126),
+        Call::Weights(128, 77),
+        Call::Same(whole.bytes().to_vec(), true),
+        Call::Set(128, 120, 65_535),
+        Call::Exact([0, 2, 0, 4]),
+    ] {
+        compare(&call, &Lent::file(&file), &String::new);
+    }
+}
+
+/// A lengthened split that finds its line only after some 400 others.
+#[test]
+fn longest_search() {
+    let (last, first) = maps::fan()
+        .split_last()
+        .map(|(last, first)| (*last, first.to_vec()))
+        .unwrap();
+    let before = Lent::buffer(&largest(&first), 10_972);
+    let searched = compare(&Call::Lengthened(maps::FAN_GIVEN), &before, &String::new);
+    let drawn = compare(&Call::Exact(last), &before, &String::new);
+    assert_eq!((searched.number, searched.bytes()), (0, drawn.bytes()));
+}
+
+/// Calls on different bytes may run at the same time.
+#[test]
+fn at_the_same_time() {
+    let seed = draw::seed("at_the_same_time");
+    std::thread::scope(|scope| {
+        for number in 0..4 {
+            scope.spawn(move || {
+                let mut random = Random(seed ^ (100 + number) << 32);
+                for _ in 0..20 {
+                    history(&mut random, &mut Seen::default(), (9, 8), 30, false);
+                }
+            });
+        }
+    });
 }
 
 /// Fresh maps of all sides, good and bad, in buffers of all sizes around the file's.

@@ -3,13 +3,12 @@
 use pump_tests::calls::Call;
 use pump_tests::draw::{self, Random};
 use pump_tests::ffi::Library;
+use pump_tests::maps::{self, Split};
 use pump_tests::model::Map;
 use pump_tests::plain::Plain;
 use pump_tests::Pump;
 use std::hint::black_box;
 use std::time::{Duration, Instant};
-
-type Split = [usize; 4];
 
 /// A map to measure on: its file, and the file before its last split.
 struct Case {
@@ -96,7 +95,7 @@ fn case(name: &'static str, w: usize, h: usize, splits: &[Split], given: Split) 
     }
 }
 
-/// Splits drawn at random on square sides, all of them, or those no longer than a step to the next crossing lines.
+/// Splits drawn at random on square sides; none but the first four is longer than `longest`.
 fn drawn(side: usize, count: usize, longest: usize) -> Vec<Split> {
     let mut random = Random(7);
     let mut map = Map::fresh(side, side).unwrap();
@@ -127,26 +126,12 @@ fn cases() -> Vec<Case> {
 
     let middling = drawn(64, 20, 64);
     let short = drawn(128, 60, 32);
-
-    let mut grid = vec![];
-    for line in 1..=30 {
-        grid.push([1, 4 * line, 0, 128]);
-        grid.push([0, 4 * line, 0, 128]);
-    }
-
-    // Uprights that end at the highest level: a level below that one is unsound until it runs all the way, and it may end
-    // at each of them on either side.
-    let mut fan = vec![];
-    fan.extend((1..=17).map(|line| [1, 6 * line, 0, 128]));
-    fan.extend((1..=42).map(|line| [0, 3 * line, 0, 102]));
-    fan.push([1, 99, 0, 128]);
-
     vec![
         case("8 by 8, 4 splits", 8, 8, &small, [1, 2, 0, 2]),
         case("64 by 64, 20 splits", 64, 64, &middling, *middling.last().unwrap()),
         case("60 short splits", 128, 128, &short, *short.last().unwrap()),
-        case("30 + 30 full splits", 128, 128, &grid, [0, 120, 0, 8]),
-        case("long lengthening", 128, 128, &fan, [1, 99, 60, 66]),
+        case("30 + 30 full splits", 128, 128, &maps::grid(), [0, 120, 0, 8]),
+        case("long lengthening", 128, 128, &maps::fan(), maps::FAN_GIVEN),
     ]
 }
 
