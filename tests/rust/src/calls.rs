@@ -38,10 +38,7 @@ impl Call {
 
     /// Whether the call works in place, on a buffer that may be larger than the file.
     pub fn changes(&self) -> bool {
-        matches!(
-            self,
-            Call::Fresh(..) | Call::Set(..) | Call::Exact(..) | Call::Lengthened(..)
-        )
+        matches!(self, Call::Fresh(..) | Call::Set(..) | Call::Exact(..) | Call::Lengthened(..))
     }
 }
 
@@ -57,21 +54,13 @@ pub struct Lent {
 impl Lent {
     /// The file with no more bytes than it has, and room for every answer.
     pub fn file(file: &[u8]) -> Lent {
-        Lent {
-            bytes: file.to_vec(),
-            used: file.len(),
-            out: 65_536,
-        }
+        Lent { bytes: file.to_vec(), used: file.len(), out: 65_536 }
     }
 
     /// The file in a buffer of this size, with some marks after it.
     pub fn buffer(file: &[u8], size: usize) -> Lent {
         let mark = |at: usize| file.get(at).copied().unwrap_or(at as u8 ^ 0x5a);
-        Lent {
-            bytes: (0..size).map(mark).collect(),
-            used: file.len(),
-            out: 0,
-        }
+        Lent { bytes: (0..size).map(mark).collect(), used: file.len(), out: 0 }
     }
 }
 
@@ -99,7 +88,8 @@ impl Outcome {
 #[derive(Clone, Debug, PartialEq, Eq)]
 struct Guarded(Vec<u8>);
 
-const GUARD: usize = 16;
+/// Odd, so that the bytes between them start at odd addresses.
+const GUARD: usize = 17;
 
 impl Guarded {
     fn new(part: &[u8]) -> Guarded {
@@ -129,13 +119,7 @@ pub fn perform(pump: &dyn Pump, call: &Call, lent: &Lent) -> Outcome {
         lent: Guarded::new(&lent.bytes),
         out: Guarded::new(&vec![0x3c; out]),
     };
-    let Outcome {
-        used,
-        numbers: [first, second],
-        lent: guarded,
-        out,
-        ..
-    } = &mut outcome;
+    let Outcome { used, numbers: [first, second], lent: guarded, out, .. } = &mut outcome;
     let (buffer, out) = (guarded.part_mut(), out.part_mut());
     let number = if call.changes() {
         match call {

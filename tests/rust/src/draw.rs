@@ -88,7 +88,7 @@ pub fn split(random: &mut Random, map: &Map, lines: &Lines) -> [usize; 4] {
     for _ in 0..4 {
         let [direction, position, from, to] = drawn;
         let (across, along) = sides_of(map, direction);
-        let inside = direction <= 1 && 0 < position && position < across && from < to && to <= along;
+        let inside = 0 < position && position < across && from < to && to <= along;
         let shared = |low| lines.has(direction, position as i64, low as i64);
         if inside && !(from..to).any(shared) || random.chance(15) {
             break;
@@ -133,11 +133,7 @@ fn any_split(random: &mut Random, map: &Map, lines: &Lines) -> [usize; 4] {
         let on_a_line = |end: &usize| lines.crossed_at(direction, position as i64, *end as i64);
         let ends: Vec<usize> = (0..=along).filter(on_a_line).collect();
         let first = random.below(ends.len() - 1);
-        let second = if random.chance(50) {
-            first + 1
-        } else {
-            random.between(first + 1, ends.len() - 1)
-        };
+        let second = if random.chance(50) { first + 1 } else { random.between(first + 1, ends.len() - 1) };
         (from, to) = (ends[first], ends[second]);
     }
     if random.chance(10) {
@@ -179,11 +175,7 @@ pub fn call(random: &mut Random, map: &Map, others: &[Vec<u8>]) -> Call {
         }
         68..=73 => {
             let place = random.below(map.values.len() + 2);
-            Call::Place(if random.chance(10) {
-                extreme(random, place)
-            } else {
-                place
-            })
+            Call::Place(if random.chance(10) { extreme(random, place) } else { place })
         }
         74..=81 => {
             let (u, v) = point(random, map);
@@ -197,11 +189,7 @@ pub fn call(random: &mut Random, map: &Map, others: &[Vec<u8>]) -> Call {
         93 => Call::Check,
         94..=97 => {
             let place = random.below(12 + 12 * map.splits.len() + 10 * map.values.len() + 2);
-            Call::Payload(if random.chance(10) {
-                extreme(random, place)
-            } else {
-                place
-            })
+            Call::Payload(if random.chance(10) { extreme(random, place) } else { place })
         }
         _ => Call::Table,
     }

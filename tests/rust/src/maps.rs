@@ -5,9 +5,7 @@ pub type Split = [usize; 4];
 
 /// The most blends: 30 levels and 30 uprights all the way, 1,024 blends.
 pub fn grid() -> Vec<Split> {
-    (1..=30)
-        .flat_map(|line| [[1, 4 * line, 0, 128], [0, 4 * line, 0, 128]])
-        .collect()
+    (1..=30).flat_map(|line| [[1, 4 * line, 0, 128], [0, 4 * line, 0, 128]]).collect()
 }
 
 /// The longest search: 42 uprights end at the highest of 17 levels. A level just below that one is unsound until it runs

@@ -37,11 +37,7 @@ impl Lines {
     /// The lines of a fresh map: uprights at −1, 0, W, W+1 and levels at −1, 0, H, H+1, all run out ("Sides and lines").
     pub fn fresh(w: i64, h: i64) -> Lines {
         let nothing = || vec![false; ((w + 3) * (h + 3)) as usize];
-        let mut lines = Lines {
-            w,
-            h,
-            steps: [nothing(), nothing()],
-        };
+        let mut lines = Lines { w, h, steps: [nothing(), nothing()] };
         for u in [-1, 0, w, w + 1] {
             lines.add(UPRIGHT, u, -1, h + 1);
         }
@@ -265,12 +261,7 @@ impl Map {
         if !fits(w) || !fits(h) {
             return Err(1);
         }
-        Ok(Map {
-            w: w as i64,
-            h: h as i64,
-            splits: vec![],
-            values: vec![0; 4],
-        })
+        Ok(Map { w: w as i64, h: h as i64, splits: vec![], values: vec![0; 4] })
     }
 
     /// The fresh map's lines and those of its splits, run out and joined ("Histories").
@@ -328,11 +319,7 @@ impl Map {
             let Blend { l, m, r, b, n, t } = blend;
             let (across, across_gap) = if x < m { (u - l, m - l) } else { (r - u, r - m) };
             let (up, up_gap) = if y < n { (v - b, n - b) } else { (t - v, t - n) };
-            Weight {
-                blend,
-                numerator: across * up,
-                denominator: across_gap * up_gap,
-            }
+            Weight { blend, numerator: across * up, denominator: across_gap * up_gap }
         });
         Ok(entries.collect::<Vec<_>>().try_into().unwrap())
     }
@@ -347,12 +334,7 @@ impl Map {
         if !(0 < position && position < across && from < to && to <= along) {
             return Err(3);
         }
-        let split = Split {
-            direction,
-            position: position as i64,
-            from: from as i64,
-            to: to as i64,
-        };
+        let split = Split { direction, position: position as i64, from: from as i64, to: to as i64 };
         let lines = self.lines();
         if self.splits.len() == MOST_SPLITS {
             return Err(4);
@@ -404,11 +386,7 @@ impl Map {
         let side = lines.along(direction);
         for length in 1..=side {
             for start in 0..=side - length {
-                let tried = Split {
-                    from: start,
-                    to: start + length,
-                    ..given
-                };
+                let tried = Split { from: start, to: start + length, ..given };
                 let on_a_line = |end| lines.crossed_at(direction, given.position, end);
                 if tried.from <= given.from
                     && given.to <= tried.to
@@ -524,8 +502,7 @@ impl Map {
             let [direction, position, from, to] = numbers[..] else {
                 return Err(11);
             };
-            map.exact_split(direction as usize, position as usize, from as usize, to as usize)
-                .or(Err(11usize))?;
+            map.exact_split(direction as usize, position as usize, from as usize, to as usize).or(Err(11usize))?;
             place = next;
         }
         for (entry, blend) in map.table().iter().enumerate() {
@@ -570,10 +547,7 @@ fn put(bytes: &[u8], buffer: &mut [u8]) -> Result<(), No> {
 
 /// Numbers as C lays them out in pump_entry and pump_weight.
 fn fields(numbers: &[i64]) -> Vec<u8> {
-    numbers
-        .iter()
-        .flat_map(|number| (*number as u16).to_ne_bytes())
-        .collect()
+    numbers.iter().flat_map(|number| (*number as u16).to_ne_bytes()).collect()
 }
 
 impl Blend {
@@ -616,9 +590,7 @@ impl Pump for Model {
     }
 
     fn exact_split(&self, buffer: &mut [u8], used: &mut usize, [direction, position, from, to]: [usize; 4]) -> usize {
-        Model::change(buffer, used, |map| {
-            map.exact_split(direction, position, from, to).map(|_| ())
-        })
+        Model::change(buffer, used, |map| map.exact_split(direction, position, from, to).map(|_| ()))
     }
 
     fn lengthened_split(
@@ -627,9 +599,7 @@ impl Pump for Model {
         used: &mut usize,
         [direction, position, from, to]: [usize; 4],
     ) -> usize {
-        Model::change(buffer, used, |map| {
-            map.lengthened_split(direction, position, from, to).map(|_| ())
-        })
+        Model::change(buffer, used, |map| map.lengthened_split(direction, position, from, to).map(|_| ()))
     }
 
     fn place(&self, file: &[u8], place: usize, out: &mut [u8]) -> usize {

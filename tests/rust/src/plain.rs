@@ -39,19 +39,9 @@ impl Blend {
 
     fn halves(&self, direction: usize, z: i16) -> [Blend; 2] {
         let (low, mid, high) = self.crossed(direction);
-        let triples = if z < mid {
-            [(low, z, mid), (z, mid, high)]
-        } else {
-            [(low, mid, z), (mid, z, high)]
-        };
+        let triples = if z < mid { [(low, z, mid), (z, mid, high)] } else { [(low, mid, z), (mid, z, high)] };
         let other = self.crossed(1 - direction);
-        triples.map(|triple| {
-            if direction == 0 {
-                Blend::new(triple, other)
-            } else {
-                Blend::new(other, triple)
-            }
-        })
+        triples.map(|triple| if direction == 0 { Blend::new(triple, other) } else { Blend::new(other, triple) })
     }
 
     fn around(&self, other: &Blend) -> bool {
@@ -92,16 +82,11 @@ fn anchor_inside(anchors: &[Blend], supports: &[Blend]) -> bool {
     let (Some(first), Some(last)) = (anchors.first(), anchors.last()) else {
         return false;
     };
-    supports
-        .iter()
-        .filter(|support| support.l < last.m && first.m < support.r)
-        .any(|support| {
-            let start = anchors.partition_point(|anchor| anchor.m <= support.l);
-            let columns = anchors[start..].iter().take_while(|anchor| anchor.m < support.r);
-            columns
-                .into_iter()
-                .any(|anchor| support.around(anchor) && anchor != support)
-        })
+    supports.iter().filter(|support| support.l < last.m && first.m < support.r).any(|support| {
+        let start = anchors.partition_point(|anchor| anchor.m <= support.l);
+        let columns = anchors[start..].iter().take_while(|anchor| anchor.m < support.r);
+        columns.into_iter().any(|anchor| support.around(anchor) && anchor != support)
+    })
 }
 
 impl Map {
@@ -183,19 +168,10 @@ impl Map {
             return Err(6);
         }
         let joined = line | steps(from, to);
-        if !self
-            .table
-            .iter()
-            .any(|blend| self.cuts(direction, position as i16, joined, blend))
-        {
+        if !self.table.iter().any(|blend| self.cuts(direction, position as i16, joined, blend)) {
             return Err(7);
         }
-        Ok(Split {
-            direction,
-            position,
-            from,
-            to,
-        })
+        Ok(Split { direction, position, from, to })
     }
 
     /// Adds to, or takes from, the counts of all unit squares of a support.
@@ -212,12 +188,7 @@ impl Map {
     /// Draws a line and says whether the map is still sound; if not, it is of no more use. Only what is new is looked at:
     /// the rest was sound before.
     fn draw(&mut self, split: Split) -> bool {
-        let Split {
-            direction,
-            position,
-            from,
-            to,
-        } = split;
+        let Split { direction, position, from, to } = split;
         self.lines[direction][position] |= steps(from, to);
         self.splits.push(split);
         let line = self.lines[direction][position];
@@ -265,9 +236,7 @@ impl Map {
     }
 
     fn anchor(&self, m: i16, n: i16) -> Result<usize, No> {
-        self.table
-            .binary_search_by_key(&(m, n), |blend| (blend.m, blend.n))
-            .or(Err(9))
+        self.table.binary_search_by_key(&(m, n), |blend| (blend.m, blend.n)).or(Err(9))
     }
 
     /// Gives the anchors of a map with one more line their values.
@@ -291,12 +260,7 @@ impl Map {
 
     fn lengthened_split(&self, split: [usize; 4]) -> Result<Map, No> {
         let given = self.look(split)?;
-        let Split {
-            direction,
-            position,
-            from,
-            to,
-        } = given;
+        let Split { direction, position, from, to } = given;
         let side = self.sides[1 - direction];
         for length in to - from..=side {
             for start in to.saturating_sub(length)..=from.min(side - length) {
@@ -308,11 +272,7 @@ impl Map {
                     continue;
                 }
                 let mut next = self.clone();
-                if next.draw(Split {
-                    from: start,
-                    to: end,
-                    ..given
-                }) {
+                if next.draw(Split { from: start, to: end, ..given }) {
                     self.hand_over(&mut next);
                     return Ok(next);
                 }
@@ -349,10 +309,7 @@ impl Map {
         let x = u.min(self.sides[0] as i16 - 1);
         let y = v.min(self.sides[1] as i16 - 1);
         let mut entries = [[0; 8]; 4];
-        let over = self
-            .table
-            .iter()
-            .filter(|blend| blend.l <= x && x < blend.r && blend.b <= y && y < blend.t);
+        let over = self.table.iter().filter(|blend| blend.l <= x && x < blend.r && blend.b <= y && y < blend.t);
         for (entry, blend) in entries.iter_mut().zip(over) {
             let Blend { m, n, l, r, b, t } = *blend;
             let (across, across_gap) = if x < m { (u - l, m - l) } else { (r - u, r - m) };
@@ -380,14 +337,7 @@ impl Map {
         };
         put(&[6, 1, self.sides[0] as u16, self.sides[1] as u16]);
         for split in &self.splits {
-            put(&[
-                10,
-                2,
-                split.direction as u16,
-                split.position as u16,
-                split.from as u16,
-                split.to as u16,
-            ]);
+            put(&[10, 2, split.direction as u16, split.position as u16, split.from as u16, split.to as u16]);
         }
         for (blend, value) in self.table.iter().zip(&self.values) {
             put(&[8, 3, blend.m as u16, blend.n as u16, *value]);
@@ -407,9 +357,7 @@ impl Map {
         let mut map = Map::fresh(number(4) as usize, number(6) as usize).or(Err(NO))?;
         let mut at = 8;
         while at + 12 <= bytes.len() && begins(at, 10, 2) {
-            let split = map
-                .look([4, 6, 8, 10].map(|field| number(at + field) as usize))
-                .or(Err(NO))?;
+            let split = map.look([4, 6, 8, 10].map(|field| number(at + field) as usize)).or(Err(NO))?;
             if !map.draw(split) {
                 return Err(NO);
             }

@@ -29,18 +29,10 @@ fn damage(random: &mut Random, file: &mut Vec<u8>) {
         return;
     }
     // Half of the time two splits, if there are any: those may go in another order, or as other lines.
-    let splits = records.iter().filter(|record| file[record.start + 2] == 2).count();
-    let (first, count) = if splits > 0 && random.chance(50) {
-        (1, splits)
-    } else {
-        (0, records.len())
-    };
-    let (one, other) = (first + random.below(count), first + random.below(count));
-    let (one, other) = (one.min(other), one.max(other));
-    if other >= records.len() {
-        return;
-    }
-    let (one, other) = (records[one].clone(), records[other].clone());
+    let splits: Vec<_> = records.iter().filter(|record| file[record.start + 2] == 2).cloned().collect();
+    let from = if splits.is_empty() || random.chance(50) { &records } else { &splits };
+    let (one, other) = (random.below(from.len()), random.below(from.len()));
+    let (one, other) = (from[one.min(other)].clone(), from[one.max(other)].clone());
     let at = random.below(file.len());
     // A 16-bit number of the first record picked.
     let field = one.start + 2 * random.below(one.len() / 2);
@@ -54,23 +46,15 @@ fn damage(random: &mut Random, file: &mut Vec<u8>) {
         6 => *file = [&file[..one.start], &file[other], &file[one.start..]].concat(),
         7 | 14 | 15 if one != other => {
             let between = &file[one.end..other.start];
-            *file = [
-                &file[..one.start],
-                &file[other.clone()],
-                between,
-                &file[one.clone()],
-                &file[other.end..],
-            ]
-            .concat();
+            *file =
+                [&file[..one.start], &file[other.clone()], between, &file[one.clone()], &file[other.end..]].concat();
         }
         8 => change(file, one.start, |length| draw::extreme(random, length)),
         9 => change(file, one.start + 2, |_| random.below(6)),
         10 => file[at..].iter_mut().take(4).for_each(|byte| *byte = 0),
         11 => file[at..].fill(0),
         12 => change(file, field, |number| draw::extreme(random, number)),
-        _ => change(file, field, |number| {
-            number.wrapping_add(random.pick(&[1, 2, usize::MAX]))
-        }),
+        _ => change(file, field, |number| number.wrapping_add(random.pick(&[1, 2, usize::MAX]))),
     }
 }
 
@@ -103,19 +87,12 @@ fn damaged_files() {
                 Call::Payload(_) => Call::Check,
                 call => call,
             };
-            let room = if call.changes() {
-                Lent::buffer(&bad, bad.len() + 400)
-            } else {
-                lent.clone()
-            };
+            let room = if call.changes() { Lent::buffer(&bad, bad.len() + 400) } else { lent.clone() };
             let number = compare(&call, &room, &story).number;
             assert!(checked == 0 || number == 11);
         }
         for second in [true, false] {
-            assert_eq!(
-                compare(&Call::Same(bad.clone(), second), &Lent::file(&good), &story).number,
-                checked
-            );
+            assert_eq!(compare(&Call::Same(bad.clone(), second), &Lent::file(&good), &story).number, checked);
         }
         for place in 0..bad.len() + 4 {
             compare(&Call::Payload(place), &lent, &story);
@@ -138,16 +115,8 @@ fn one_split_too_many() {
     let good = map.write();
     assert_eq!(compare(&Call::Check, &Lent::file(&good), &String::new).number, 0);
     let mut more = map.clone();
-    more.splits.push(pump_tests::model::Split {
-        direction: 0,
-        position: 61,
-        from: 0,
-        to: 1,
-    });
+    more.splits.push(pump_tests::model::Split { direction: 0, position: 61, from: 0, to: 1 });
     more.values.extend([0, 0]);
     assert_eq!(more.write().len(), good.len() + 32);
-    assert_eq!(
-        compare(&Call::Check, &Lent::file(&more.write()), &String::new).number,
-        11
-    );
+    assert_eq!(compare(&Call::Check, &Lent::file(&more.write()), &String::new).number, 11);
 }

@@ -27,11 +27,7 @@ fn weights_add_up() {
         let d = random.pick(&[1, 2, 3, 5, 7]);
         for x in 0..=map.w * d {
             for y in 0..=map.h * d {
-                assert_eq!(
-                    sum(table.iter().map(|blend| blend.weight(x, y, d))),
-                    (1, 1),
-                    "{map:?} at {x}/{d} {y}/{d}"
-                );
+                assert_eq!(sum(table.iter().map(|blend| blend.weight(x, y, d))), (1, 1), "{map:?} at {x}/{d} {y}/{d}");
                 points += 1;
                 if x % d != 0 && y % d != 0 {
                     let positive = |blend: &&Blend| blend.weight(x, y, d).0 > 0;
@@ -88,12 +84,7 @@ fn stretches(map: &Map) -> Vec<Split> {
             let has = |low: i64| 0 <= low && low < along && lines.has(direction, position, low);
             let starts = (0..along).filter(|low| has(*low) && !has(low - 1));
             let to = |from| (from..).find(|low| !has(*low)).unwrap();
-            stretches.extend(starts.map(|from| Split {
-                direction,
-                position,
-                from,
-                to: to(from),
-            }));
+            stretches.extend(starts.map(|from| Split { direction, position, from, to: to(from) }));
         }
     }
     stretches
@@ -141,11 +132,7 @@ fn lines_alone_count() {
             assert_eq!(compare(&Call::Table, &lent, &String::new).out(), text.out());
             let place = random.below(map.values.len());
             other.values[place] ^= 1 << random.below(16);
-            let same = compare(
-                &Call::Same(map.write(), true),
-                &Lent::file(&other.write()),
-                &String::new,
-            );
+            let same = compare(&Call::Same(map.write(), true), &Lent::file(&other.write()), &String::new);
             assert_eq!((same.number, same.numbers[0]), (0, 0));
         }
     }
@@ -166,12 +153,7 @@ fn order_of_cutting_does_not_matter() {
                 let position = random.between(1, across - 1) as i64;
                 let from = random.below(along);
                 let to = random.between(from + 1, along);
-                lines.draw(Split {
-                    direction,
-                    position,
-                    from: from as i64,
-                    to: to as i64,
-                });
+                lines.draw(Split { direction, position, from: from as i64, to: to as i64 });
             }
         }
         let mut blends: Vec<Blend> = first_four(w as i64, h as i64).into_iter().collect();

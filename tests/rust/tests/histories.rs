@@ -47,10 +47,7 @@ impl Seen {
             println!("{call:>10} gave 0 to 12: {counts:?}");
             for (number, count) in counts.into_iter().enumerate() {
                 let may = number == 4 || (call, number) == ("lengthened", 8);
-                assert!(
-                    may || numbers.contains(&number) == (count > 0),
-                    "{call} gave {number} {count} times"
-                );
+                assert!(may || numbers.contains(&number) == (count > 0), "{call} gave {number} {count} times");
             }
         }
         assert!(self.same[0] > 0 && self.same[1] > 0);
@@ -145,10 +142,7 @@ fn random_histories() {
 fn full_histories() {
     let seed = draw::seed("full_histories");
     let mut seen = Seen::default();
-    for (number, (sides, length)) in [((70, 2), 160), ((30, 40), 110), ((128, 128), 90)]
-        .into_iter()
-        .enumerate()
-    {
+    for (number, (sides, length)) in [((70, 2), 160), ((30, 40), 110), ((128, 128), 90)].into_iter().enumerate() {
         let mut random = Random(seed ^ (number as u64) << 32);
         let map = history(&mut random, &mut seen, sides, length, true);
         println!("{sides:?}: {} splits, {} blends", map.splits.len(), map.values.len());
@@ -176,10 +170,7 @@ fn largest(splits: &[maps::Split]) -> Vec<u8> {
 /// The largest file there is, and the split that makes it in a buffer that just holds it.
 #[test]
 fn most_blends() {
-    let (last, first) = maps::grid()
-        .split_last()
-        .map(|(last, first)| (*last, first.to_vec()))
-        .unwrap();
+    let (last, first) = maps::grid().split_last().map(|(last, first)| (*last, first.to_vec())).unwrap();
     let before = largest(&first);
     let short = compare(&Call::Exact(last), &Lent::buffer(&before, 10_971), &String::new);
     let whole = compare(&Call::Exact(last), &Lent::buffer(&before, 10_972), &String::new);
@@ -202,10 +193,7 @@ fn most_blends() {
 /// A lengthened split that finds its line only after some 400 others.
 #[test]
 fn longest_search() {
-    let (last, first) = maps::fan()
-        .split_last()
-        .map(|(last, first)| (*last, first.to_vec()))
-        .unwrap();
+    let (last, first) = maps::fan().split_last().map(|(last, first)| (*last, first.to_vec())).unwrap();
     let before = Lent::buffer(&largest(&first), 10_972);
     let searched = compare(&Call::Lengthened(maps::FAN_GIVEN), &before, &String::new);
     let drawn = compare(&Call::Exact(last), &before, &String::new);

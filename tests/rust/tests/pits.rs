@@ -13,11 +13,7 @@ impl Editor {
     }
 
     fn call(&mut self, call: Call) -> Outcome {
-        let lent = if call.changes() {
-            Lent::buffer(&self.0, 10_972)
-        } else {
-            Lent::file(&self.0)
-        };
+        let lent = if call.changes() { Lent::buffer(&self.0, 10_972) } else { Lent::file(&self.0) };
         let outcome = compare(&call, &lent, &String::new);
         if call.changes() {
             self.0 = outcome.bytes()[..outcome.used].to_vec();
@@ -83,10 +79,7 @@ fn counts_of_blends() {
     assert_eq!(map.exact([1, 2, 0, 4]), Err(8));
     assert_eq!(map.lengthened([1, 2, 0, 2]), Ok(14));
     let last_split = 8 + 12 * 3;
-    assert_eq!(
-        map.0[last_split..last_split + 12],
-        [10, 0, 2, 0, 1, 0, 2, 0, 0, 0, 8, 0]
-    );
+    assert_eq!(map.0[last_split..last_split + 12], [10, 0, 2, 0, 1, 0, 2, 0, 0, 0, 8, 0]);
 
     let mut map = Editor::fresh(8, 8);
     map.exact([1, 2, 0, 8]).unwrap();
@@ -130,20 +123,10 @@ fn readings() {
 fn fresh_file_and_table() {
     let mut map = Editor::fresh(2, 3);
     assert_eq!(map.0.len(), 52);
-    assert_eq!(
-        map.text(),
-        "4\n-1 0 2 -1 0 3 0\n-1 0 2 0 3 4 0\n0 2 3 -1 0 3 0\n0 2 3 0 3 4 0\n"
-    );
+    assert_eq!(map.text(), "4\n-1 0 2 -1 0 3 0\n-1 0 2 0 3 4 0\n0 2 3 -1 0 3 0\n0 2 3 0 3 4 0\n");
     let outcome = map.call(Call::Weights(2, 1));
-    let numbers: Vec<i16> = outcome.out()[..64]
-        .chunks(2)
-        .map(|pair| i16::from_ne_bytes([pair[0], pair[1]]))
-        .collect();
-    let want = [
-        [-1, 0, 2, -1, 0, 3, 0, 6],
-        [-1, 0, 2, 0, 3, 4, 0, 6],
-        [0, 2, 3, -1, 0, 3, 4, 6],
-        [0, 2, 3, 0, 3, 4, 2, 6],
-    ];
+    let numbers: Vec<i16> = outcome.out()[..64].chunks(2).map(|pair| i16::from_ne_bytes([pair[0], pair[1]])).collect();
+    let want =
+        [[-1, 0, 2, -1, 0, 3, 0, 6], [-1, 0, 2, 0, 3, 4, 0, 6], [0, 2, 3, -1, 0, 3, 4, 6], [0, 2, 3, 0, 3, 4, 2, 6]];
     assert_eq!(numbers, want.concat());
 }

@@ -62,9 +62,7 @@ fn answer_over_bytes(pump: &dyn Pump, file: &mut Vec<u8>, words: &[&str]) -> Res
     let yes = |number: usize| if number == 0 { Ok(()) } else { Err(number) };
     let (mut numbers, mut out) = ([0; 2], vec![0; 64]);
     let fields = |out: &[u8]| -> Vec<String> {
-        out.chunks(2)
-            .map(|pair| i16::from_ne_bytes([pair[0], pair[1]]).to_string())
-            .collect()
+        out.chunks(2).map(|pair| i16::from_ne_bytes([pair[0], pair[1]]).to_string()).collect()
     };
     let mut used = file.len();
     file.resize(10_972, 0);

@@ -34,12 +34,7 @@ impl Desk {
             self.buffer[..file.len()].copy_from_slice(file);
             self.used = file.len();
         }
-        let Desk {
-            buffer,
-            out,
-            used,
-            numbers: [first, second],
-        } = self;
+        let Desk { buffer, out, used, numbers: [first, second] } = self;
         match call {
             Call::Fresh(w, h) => pump.fresh(*w, *h, buffer, used),
             Call::Set(m, n, value) => pump.set(buffer, used, *m, *n, *value),
@@ -86,13 +81,7 @@ fn case(name: &'static str, w: usize, h: usize, splits: &[Split], given: Split) 
     let draw = |file: Vec<u8>, line: &Split| split(&file, *line).unwrap();
     let before = first.iter().fold(fresh(w, h), draw);
     let file = split(&before, *last).unwrap();
-    Case {
-        name,
-        before,
-        given,
-        last: *last,
-        file,
-    }
+    Case { name, before, given, last: *last, file }
 }
 
 /// Splits drawn at random on square sides; none but the first four is longer than `longest`.
@@ -110,12 +99,7 @@ fn drawn(side: usize, count: usize, longest: usize) -> Vec<Split> {
         };
         file = next;
         let [position, from, to] = [position, from, to].map(|number| number as i64);
-        map.splits.push(pump_tests::model::Split {
-            direction,
-            position,
-            from,
-            to,
-        });
+        map.splits.push(pump_tests::model::Split { direction, position, from, to });
         splits.push(line);
     }
     splits
@@ -177,24 +161,13 @@ fn measure(name: &str, call: &Call, file: &[u8], desk: &mut Desk) {
 
 fn main() {
     let start = Instant::now();
-    let mut desk = Desk {
-        buffer: vec![0; 10_972],
-        out: vec![0; 65_536],
-        used: 0,
-        numbers: [0, 0],
-    };
+    let mut desk = Desk { buffer: vec![0; 10_972], out: vec![0; 65_536], used: 0, numbers: [0, 0] };
     println!("Microseconds a call; the ratio is of the medians.\n");
     println!("| map | call | number | library, best | library, median | plain, best | plain, median | ratio |");
     println!("|---|---|---|---|---|---|---|---|");
     measure("none", &Call::Fresh(128, 128), &[], &mut desk);
     for case in cases() {
-        let Case {
-            name,
-            before,
-            given,
-            last,
-            file,
-        } = case;
+        let Case { name, before, given, last, file } = case;
         let side = file[4] as usize;
         for (call, file) in [
             (Call::Check, &file),
