@@ -41,7 +41,7 @@ impl Random {
 }
 
 /// A number of the environment, or what stands for it.
-pub fn setting(name: &str, otherwise: u64) -> u64 {
+fn setting(name: &str, otherwise: u64) -> u64 {
     match std::env::var(name) {
         Ok(text) => text.parse().unwrap_or_else(|_| panic!("{name} is no number: {text}")),
         Err(_) => otherwise,
@@ -53,6 +53,11 @@ pub fn seed(test: &str) -> u64 {
     let seed = setting("PUMP_SEED", 2026);
     println!("{test}: PUMP_SEED={seed}");
     seed
+}
+
+/// The number of histories, and of damaged files.
+pub fn count() -> u64 {
+    setting("PUMP_COUNT", 2000)
 }
 
 /// Sides: small ones mostly, so that lines meet; sometimes to 128.

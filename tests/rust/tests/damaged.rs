@@ -53,7 +53,9 @@ fn damage(random: &mut Random, file: &mut Vec<u8>) {
         9 => change(file, one.start + 2, |_| random.below(6)),
         10 => file[at..].iter_mut().take(4).for_each(|byte| *byte = 0),
         11 => file[at..].fill(0),
-        12 => change(file, field, |number| draw::extreme(random, number)),
+        // The value of an entry, among others: that leaves a file.
+        12 => change(file, one.end - 2, |_| random.below(130)),
+        13 => change(file, field, |number| draw::extreme(random, number)),
         _ => change(file, field, |number| number.wrapping_add(random.pick(&[1, 2, usize::MAX]))),
     }
 }
@@ -61,7 +63,7 @@ fn damage(random: &mut Random, file: &mut Vec<u8>) {
 #[test]
 fn damaged_files() {
     let seed = draw::seed("damaged_files");
-    let count = draw::setting("PUMP_COUNT", 3000) * 2;
+    let count = draw::count();
     let (mut refused, mut splits_refused, mut accepted) = (0, 0, 0);
     for number in 0..count {
         let mut random = Random(seed ^ number << 32);
@@ -102,7 +104,7 @@ fn damaged_files() {
         }
     }
     println!("{count} files: {refused} cut up, {splits_refused} refused though whole records, {accepted} accepted");
-    assert!(count < 1000 || refused > 100 && splits_refused > 100 && accepted > 100);
+    assert!(count < 1000 || refused > 100 && splits_refused > 100 && accepted > 50);
 }
 
 /// A file of 61 splits, all of which would be accepted but for their number.

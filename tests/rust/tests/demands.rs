@@ -6,10 +6,10 @@ use pump_tests::draw::{self, Random};
 use pump_tests::model::{first_four, live, reading, sum, table, Blend, Lines, Map, Split, LEVEL, UPRIGHT};
 use std::collections::BTreeSet;
 
-/// Maps to look at: an eighth of PUMP_COUNT.
+/// Maps to look at, fewer than histories.
 fn maps(test: &str) -> impl Iterator<Item = (Random, Map)> {
     let seed = draw::seed(test);
-    (0..draw::setting("PUMP_COUNT", 3000) / 8).map(move |number| {
+    (0..draw::count() / 6).map(move |number| {
         let mut random = Random(seed ^ number << 32);
         let (largest, tries) = (random.pick(&[4, 8, 12]), random.below(16));
         let map = draw::map(&mut random, largest, tries);
@@ -143,7 +143,7 @@ fn lines_alone_count() {
 #[test]
 fn order_of_cutting_does_not_matter() {
     let mut random = Random(draw::seed("order_of_cutting"));
-    for _ in 0..draw::setting("PUMP_COUNT", 3000) {
+    for _ in 0..draw::count() {
         let (w, h) = (random.between(1, 8), random.between(1, 8));
         let mut lines = Lines::fresh(w as i64, h as i64);
         for _ in 0..random.below(12) {

@@ -122,12 +122,12 @@ fn history(random: &mut Random, seen: &mut Seen, (w, h): (usize, usize), length:
 #[test]
 fn random_histories() {
     let seed = draw::seed("random_histories");
-    let count = draw::setting("PUMP_COUNT", 3000);
+    let count = draw::count();
     let mut seen = Seen::default();
     let (mut accepted, mut drawn) = (0, 0);
     for number in 0..count {
         let mut random = Random(seed ^ number << 32);
-        let (sides, length) = (draw::sides(&mut random), random.below(50));
+        let (sides, length) = (draw::sides(&mut random), random.below(40));
         accepted += history(&mut random, &mut seen, sides, length, false).splits.len();
         drawn += length;
     }

@@ -104,27 +104,30 @@ fn answer_over_bytes(pump: &dyn Pump, file: &mut Vec<u8>, words: &[&str]) -> Res
     }
 }
 
-/// Goes through the lists of calls; `fresh` starts one, `answer` gives an answer.
-fn lists_of_calls<M>(fresh: impl Fn(usize, usize) -> M, answer: impl Fn(&mut M, &[&str]) -> Result<String, No>) {
+/// Goes through each `nth` list of calls; `fresh` starts one, `answer` gives an answer. Gives the number of calls.
+fn lists_of_calls<M>(
+    nth: usize,
+    fresh: impl Fn(usize, usize) -> M,
+    answer: impl Fn(&mut M, &[&str]) -> Result<String, No>,
+) -> usize {
     let text = std::fs::read_to_string(vectors().join("histories.txt")).unwrap();
-    let mut map = fresh(1, 1);
     let (mut calls, mut wrong) = (0, String::new());
-    for (at, line) in text.lines().enumerate() {
-        let words: Vec<&str> = line.split_whitespace().collect();
-        if words[0] == "history" {
-            map = fresh(words[1].parse().unwrap(), words[2].parse().unwrap());
-            continue;
-        }
-        let (call, want) = line.split_once('=').unwrap();
-        let call: Vec<&str> = call.split_whitespace().collect();
-        let got = answer(&mut map, &call).unwrap_or_else(|no| no.to_string());
-        calls += 1;
-        if got.split_whitespace().ne(want.split_whitespace()) {
-            writeln!(wrong, "line {}: {line}\n  got {got}", at + 1).unwrap();
+    for list in text.split("history ").skip(1).step_by(nth) {
+        let mut lines = list.lines();
+        let sides: Vec<usize> = lines.next().unwrap().split(' ').map(|side| side.parse().unwrap()).collect();
+        let mut map = fresh(sides[0], sides[1]);
+        for line in lines {
+            let (call, want) = line.split_once('=').unwrap();
+            let call: Vec<&str> = call.split_whitespace().collect();
+            let got = answer(&mut map, &call).unwrap_or_else(|no| no.to_string());
+            calls += 1;
+            if got.split_whitespace().ne(want.split_whitespace()) {
+                writeln!(wrong, "{sides:?}: {line}\n  got {got}").unwrap();
+            }
         }
     }
     assert!(wrong.is_empty(), "{wrong}");
-    assert!(calls > 9_000);
+    calls
 }
 
 /// Goes through the map files of the table program; `text` prints the table or refuses.
@@ -144,7 +147,7 @@ fn tables(text: impl Fn(&[u8]) -> Result<String, No>) {
 
 #[test]
 fn model_answers_the_lists_of_calls() {
-    lists_of_calls(|w, h| Map::fresh(w, h).unwrap(), answer);
+    assert_eq!(lists_of_calls(1, |w, h| Map::fresh(w, h).unwrap(), answer), 9_710);
 }
 
 #[test]
@@ -160,7 +163,8 @@ fn subjects_answer_the_lists_of_calls() {
             assert_eq!(pump.fresh(w, h, &mut file, &mut used), 0);
             file
         };
-        lists_of_calls(fresh, |file, words| answer_over_bytes(pump, file, words));
+        // Not all of them, to be quick.
+        assert!(lists_of_calls(4, fresh, |file, words| answer_over_bytes(pump, file, words)) > 2_000);
     }
 }
 
