@@ -7,7 +7,7 @@ use crate::model::{Lines, Map, LEVEL, UPRIGHT};
 pub struct Random(pub u64);
 
 impl Random {
-    pub fn next(&mut self) -> u64 {
+    pub fn draw(&mut self) -> u64 {
         self.0 = self.0.wrapping_add(0x9e37_79b9_7f4a_7c15);
         let mut z = self.0;
         z = (z ^ (z >> 30)).wrapping_mul(0xbf58_476d_1ce4_e5b9);
@@ -17,7 +17,7 @@ impl Random {
 
     /// A number below the limit.
     pub fn below(&mut self, limit: usize) -> usize {
-        (self.next() % limit as u64) as usize
+        (self.draw() % limit as u64) as usize
     }
 
     pub fn between(&mut self, low: usize, high: usize) -> usize {
@@ -83,7 +83,7 @@ pub fn extreme(random: &mut Random, near: usize) -> usize {
         6 => near.wrapping_add(1 << 63),
         7 => near.wrapping_neg(),
         8 => random.pick(&[0, 1, 2, 127, 128, 129, 130, 255, 256, 32_767, 32_768, 65_535, 65_536]),
-        _ => random.next() as usize,
+        _ => random.draw() as usize,
     }
 }
 
@@ -176,7 +176,7 @@ pub fn call(random: &mut Random, map: &Map, others: &[Vec<u8>]) -> Call {
             if random.chance(5) {
                 n = extreme(random, n);
             }
-            Call::Set(m, n, random.next() as u16 >> random.below(16))
+            Call::Set(m, n, random.draw() as u16 >> random.below(16))
         }
         68..=73 => {
             let place = random.below(map.values.len() + 2);
@@ -212,7 +212,7 @@ pub fn map(random: &mut Random, largest: usize, tries: usize) -> Map {
         };
         if random.chance(70) {
             let place = random.below(map.values.len());
-            map.values[place] = random.next() as u16;
+            map.values[place] = random.draw() as u16;
         }
     }
     map

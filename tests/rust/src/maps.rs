@@ -8,13 +8,12 @@ pub fn grid() -> Vec<Split> {
     (1..=30).flat_map(|line| [[1, 4 * line, 0, 128], [0, 4 * line, 0, 128]]).collect()
 }
 
-/// The longest search: 42 uprights end at the highest of 17 levels. A level just below that one is unsound until it runs
-/// all the way, and may end at any of the uprights on either side. The last split is what `FAN_GIVEN` is lengthened to,
-/// after some 400 lines have been tried.
+/// The longest search: 58 uprights end at the one level. A level below that one is unsound until it runs all the way, and
+/// it may end at any of the uprights on either side. The last split is what `FAN_GIVEN` is lengthened to, as the last of
+/// 870 lines that are tried.
 pub fn fan() -> Vec<Split> {
-    let levels = (1..=17).map(|line| [1, 6 * line, 0, 128]);
-    let uprights = (1..=42).map(|line| [0, 3 * line, 0, 102]);
-    levels.chain(uprights).chain([[1, 99, 0, 128]]).collect()
+    let uprights = (1..=58).map(|line| [0, 2 * line, 0, 100]);
+    [[1, 100, 0, 128]].into_iter().chain(uprights).chain([[1, 50, 0, 128]]).collect()
 }
 
-pub const FAN_GIVEN: Split = [1, 99, 60, 66];
+pub const FAN_GIVEN: Split = [1, 50, 56, 60];

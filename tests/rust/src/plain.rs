@@ -91,7 +91,7 @@ fn anchor_inside(anchors: &[Blend], supports: &[Blend]) -> bool {
 
 impl Map {
     fn fresh(w: usize, h: usize) -> Result<Map, No> {
-        if w < 1 || w > LARGEST_SIDE || h < 1 || h > LARGEST_SIDE {
+        if [w, h].iter().any(|side| !(1..=LARGEST_SIDE).contains(side)) {
             return Err(1);
         }
         let sides = [w, h];

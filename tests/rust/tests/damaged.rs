@@ -38,7 +38,7 @@ fn damage(random: &mut Random, file: &mut Vec<u8>) {
     let field = one.start + 2 * random.below(one.len() / 2);
     match random.below(18) {
         0 => file[at] ^= 1 << random.below(8),
-        1 => file[at] = random.next() as u8,
+        1 => file[at] = random.draw() as u8,
         2 => file.truncate(at),
         3 => file.extend_from_within(one),
         4 => file.extend((0..random.between(1, 12)).map(|at| at as u8)),

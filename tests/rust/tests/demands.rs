@@ -122,7 +122,7 @@ fn lines_alone_count() {
             let changed = other.splits != map.splits;
             *count += changed as usize;
             assert_eq!(other.table(), map.table());
-            map.values.iter_mut().for_each(|value| *value = random.next() as u16);
+            map.values.iter_mut().for_each(|value| *value = random.draw() as u16);
             other.values = map.values.clone();
             let lent = Lent::file(&map.write());
             let text = compare(&Call::Table, &lent, &String::new);

@@ -190,7 +190,7 @@ fn most_blends() {
     }
 }
 
-/// A lengthened split that finds its line only after some 400 others.
+/// A lengthened split that finds its line as the last of very many.
 #[test]
 fn longest_search() {
     let (last, first) = maps::fan().split_last().map(|(last, first)| (*last, first.to_vec())).unwrap();

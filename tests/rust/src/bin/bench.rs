@@ -140,9 +140,13 @@ fn measure(name: &str, call: &Call, file: &[u8], desk: &mut Desk) {
     let times = one.map(|one| (2_000_000 / one.as_nanos().max(1)).clamp(1, 20_000) as u32);
     let rounds = if one[0] > Duration::from_millis(300) { 3 } else { 9 };
     let mut rows = [vec![], vec![]];
-    for _ in 0..rounds {
+    for round in 0..=rounds {
         for (at, pump) in pumps.into_iter().enumerate() {
-            rows[at].push(desk.time(pump, call, file, times[at]));
+            let time = desk.time(pump, call, file, times[at]);
+            // The first round warms up.
+            if round > 0 {
+                rows[at].push(time);
+            }
         }
     }
     rows.iter_mut().for_each(|row| row.sort());
