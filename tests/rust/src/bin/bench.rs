@@ -159,14 +159,14 @@ fn measure(name: &str, call: &Call, file: &[u8], desk: &mut Desk) {
         micros(library.1),
         micros(plain.0),
         micros(plain.1),
-        library.1.as_secs_f64() / plain.1.as_secs_f64()
+        library.0.as_secs_f64() / plain.0.as_secs_f64()
     );
 }
 
 fn main() {
     let start = Instant::now();
     let mut desk = Desk { buffer: vec![0; 10_972], out: vec![0; 65_536], used: 0, numbers: [0, 0] };
-    println!("Microseconds a call; the ratio is of the medians.\n");
+    println!("Microseconds a call; the ratio is of the best times.\n");
     println!("| map | call | number | library, best | library, median | plain, best | plain, median | ratio |");
     println!("|---|---|---|---|---|---|---|---|");
     measure("none", &Call::Fresh(128, 128), &[], &mut desk);
