@@ -6,6 +6,7 @@ use maps::record::open;
 use mesh::Blend;
 use mesh::Table;
 use mesh::Triple;
+use mesh::knots;
 ghost use mathlib.Core.Path.{_≡_};
 ghost use mathlib.Core.Bool.{true};
 ghost use mathlib.Core.List.{[], _∷_, _++_};
@@ -56,7 +57,7 @@ fn put_ended(out: &mut [u8], at: usize, n: usize) -> usize
 }
 
 // Puts the coordinate of a knot.
-fn put_coordinate(out: &mut [u8], at: usize, knot: usize) -> usize
+fn put_coordinate(out: &mut [u8], at: usize, knot: u8) -> usize
     requires { ⌜ at + length (coordinate knot) ≤ length (now out) ⌝ }
     ensures { λ r. ⌜ Puts (now (out .entry)) at (coordinate knot) (now (out .exit)) r ⌝ }
 {
@@ -64,11 +65,11 @@ fn put_coordinate(out: &mut [u8], at: usize, knot: usize) -> usize
         let next = put_byte(out, at, b'-');
         return put_byte(out, next, b'1');
     }
-    put_digits(out, at, knot - 1)
+    put_digits(out, at, knots::wide(knot - 1))
 }
 
 // Puts the coordinate of a knot and a blank.
-fn put_spaced(out: &mut [u8], at: usize, knot: usize) -> usize
+fn put_spaced(out: &mut [u8], at: usize, knot: u8) -> usize
     requires { ⌜ at + length (spaced knot) ≤ length (now out) ⌝ }
     ensures { λ r. ⌜ Puts (now (out .entry)) at (spaced knot) (now (out .exit)) r ⌝ }
 {

@@ -3,6 +3,7 @@ use crate::bytes::put_word;
 use maps::Map;
 use mesh::Split;
 use mesh::Table;
+use mesh::knots;
 ghost use mathlib.Core.Path.{_≡_};
 ghost use mathlib.Core.List.{_++_};
 ghost use Prim.Native.Nat.{ℕ, _+_, _-_, _*_, _≤_};
@@ -31,12 +32,12 @@ fn put_split(bytes: &mut [u8], at: usize, split: Split)
 }
 
 // Puts the entry of a value at an anchor.
-fn put_value(bytes: &mut [u8], at: usize, m: usize, n: usize, value: usize)
+fn put_value(bytes: &mut [u8], at: usize, m: u8, n: u8, value: usize)
     requires { ⌜ at + 10 ≤ length (now bytes) ⌝ }
     ensures { λ _. ⌜ now (bytes .exit) ≡ put (now (bytes .entry)) at (valueNumbers m n value) ⌝ }
 {
     put_pair(bytes, at, 8, 3);
-    put_pair(bytes, at + 4, m, n);
+    put_pair(bytes, at + 4, knots::wide(m), knots::wide(n));
     put_word(bytes, at + 8, value);
 }
 

@@ -9,9 +9,8 @@ use mathlib.Core.List.{List, [], _∷_, _++_, List·Memᴰ·append-cases, List·
 use borrow.Author.Tests.{leb-true, leb-false, le-leb, ne-eqb, not-false}
 use lib.Dec.{leb, eqb}
 use lib.ListN.{length, replicate, length-set, length-append}
-use lib.Seq.{take-suc-set, take-append-seam, length-take-le}
+use lib.Seq.{take-suc-set, length-take-le}
 use Rattle.mesh.specs.declared.Split.{Split}
-use Rattle.mesh.specs.declared.Blend.{Blend}
 use Rattle.mesh.specs.declared.Lines.{Lines}
 use Rattle.mesh.specs.declared.Table.{Table}
 use Rattle.mesh.specs.declared.Refined.{Refined}
@@ -19,11 +18,13 @@ use Rattle.mesh.specs.Range.{all, any}
 use Rattle.mesh.specs.Lines.{mesh, splitsOf, allowed, allowedSide, inRange, shares, ended}
 use Rattle.mesh.specs.Lines as lines
 use Rattle.mesh.specs.Blends.{isCut, live, firstFour}
-use Rattle.mesh.specs.Sound.{sound, table, proper, blendsOf, answer, refined, someCut}
-use Rattle.mesh.proofs.Tests.{either, and-both, and-of, all-at, all-of, cond-true}
+use Rattle.mesh.specs.Sound.{sound, table, proper, blendsOf, full, fitted, refined, someCut}
+use Rattle.mesh.proofs.Tests.{and-both, and-of, all-at, all-of}
 use Rattle.mesh.proofs.Drawing.{Allowed, allowed-says}
-use Rattle.mesh.proofs.Refining.{Ranged, is-cut}
-use Rattle.mesh.proofs.Live.{finer-answer, unsound-answer}
+pub use Rattle.mesh.proofs.Refining.{table-blends, table-count}
+use Rattle.mesh.proofs.Refining.{Ranged, is-cut, is-refined}
+use Rattle.mesh.proofs.Fitted.{fits-held, unfit-unsound, full-sound}
+use Rattle.mesh.proofs.Live.{finer-fitted}
 use Rattle.mesh.proofs.Fresh.{first-proper, fresh-live, fresh-sound}
 use Rattle.mesh.proofs.AtMost.{at-most}
 use Rattle.mesh.proofs.SoundMaps.{live-proper}
@@ -58,15 +59,6 @@ module _ (L : Lines) (room : L .count < 60) (places : length (L .splits) ≡ 60)
       let b = and-both (allowedSide (L .w) && allowedSide (L .h)) (leb (L .count) 60) (a .0) in
       and-of _ _ (and-of _ _ (b .0) (le-leb (L .count + 1) 60 (omega arith)))
       (rw hand-splits (all-more (inRange (L .w) (L .h)) (splitsOf L) s (a .1) fits))
-
--- a table's own blends and their number
-pub table-blends : (bs : List Blend) → blendsOf (table bs) ≡ bs
-unfolding table
-table-blends bs = take-append-seam bs _
-
-pub table-count : (bs : List Blend) → table bs .count ≡ length bs
-unfolding table
-table-count bs = refl
 
 module _ {L : Lines} {t : Table} (hand : InHand L t) where
   pub hand-sides : Allowed L
@@ -144,45 +136,32 @@ module _ {L : Lines} {t : Table} (hand : InHand L t) (s : Split) (fits : inRange
   pub hand-cut : someCut (withSplit L s) t ≡ any (isCut (meshOf (withLine (held L) s))) (blends (held L))
   hand-cut = sym (is-cut ranged) ∙ rw (hand-mesh L room (hand .places) s, hand-blends hand)
 
-  -- and the blends in hand, cut further, are its live blends.
-  pub hand-refined : refined (withSplit L s) t ≡ answer (L .w) (L .h) (blends (withLine (held L) s))
-  unfolding refined live
+  -- the blends in hand, cut further, are its live blends as a table holds them,
+  hand-refined : refined (withSplit L s) t ≡ fitted (blends (withLine (held L) s))
+  unfolding live
   hand-refined =
       let a = hand-sides hand in
-      cond-true _ _ _ (and-of _ _ (and-of _ _ (ranged .ok) (le-leb (t .count) 1024 (ranged .few))) (ranged .good)) ∙
+      is-refined ranged ∙
       rw (hand-mesh L room (hand .places) s, hand-blends hand)
-      (finer-answer (L .w) (L .h) (a .up .1) (meshOf (held L)) (meshOf (withLine (held L) s)) (drawn-finer (L .w) (L .h) (splitsOf L) s)
+      (finer-fitted (L .w) (L .h) (a .up .1) (meshOf (held L)) (meshOf (withLine (held L) s)) (drawn-finer (L .w) (L .h) (splitsOf L) s)
       (firstFour (L .w) (L .h)) (first-proper (L .w) (L .h) (a .across .0) (a .up .0)))
 
-  still-few : soundWith (held L) s ≡ true → length (blends (withLine (held L) s)) ≤ 1024
-  still-few o =
-      let a = hand-sides hand in
-      at-most (L .w) (L .h) (a .across .0) (a .up .0) (a .up .1) (splitsOf L ++ s ∷ []) (rw (length-append, hand-length hand) (omega arith)) o
-
-  refined-sound : soundWith (held L) s ≡ true →
-      refined (withSplit L s) t ≡ record { sound = true; table = table (blends (withLine (held L) s)) }
-  unfolding answer
-  refined-sound o = hand-refined ∙ cond-true _ _ _ (and-of _ _ o (le-leb _ 1024 (still-few o)))
-
-  pub hand-sound : refined (withSplit L s) t .sound ≡ soundWith (held L) s
-  hand-sound =
-      ⊎-elim (λ o. ap (λ (r : Refined). r .sound) (refined-sound o) ∙ sym o)
-      (λ o. ap (λ (r : Refined). r .sound) (hand-refined ∙ unsound-answer (L .w) (L .h) _ o) ∙ sym o)
-      (either (soundWith (held L) s))
-
-  pub hand-table : soundWith (held L) s ≡ true → refined (withSplit L s) t .table ≡ table (blends (withLine (held L) s))
-  hand-table o = ap (λ (r : Refined). r .table) (refined-sound o)
-
-  -- the same of what a call of `refine` on these lines answers
+  -- and that it fits and is full says that the map is sound.
   module _ {next : Lines} {r : Refined} (more : next ≡ withSplit L s) (e : r ≡ refined next t) where
-    is-refined : r ≡ refined (withSplit L s) t
-    is-refined = e ∙ ap (λ (N : Lines). refined N t) more
+    is-next : r ≡ fitted (blends (withLine (held L) s))
+    is-next = e ∙ ap (λ (N : Lines). refined N t) more ∙ hand-refined
 
-    pub answered-sound : r .sound ≡ soundWith (held L) s
-    answered-sound = ap (λ (r : Refined). r .sound) is-refined ∙ hand-sound
+    sixty : length (splitsOf L ++ s ∷ []) ≤ 60
+    sixty = rw (length-append, hand-length hand) (omega arith)
 
-    pub answered-table : soundWith (held L) s ≡ true → r .table ≡ table (blends (withLine (held L) s))
-    answered-table o = ap (λ (r : Refined). r .table) is-refined ∙ hand-table o
+    pub unfit-next : r .fits ≡ false → soundWith (held L) s ≡ false
+    unfit-next = unfit-unsound (hand-sides hand) (splitsOf L ++ s ∷ []) sixty is-next
+
+    pub full-next : r .fits ≡ true → full (L .w) (L .h) (r .table) ≡ soundWith (held L) s
+    full-next = full-sound (hand-sides hand) (splitsOf L ++ s ∷ []) sixty is-next
+
+    pub next-table : r .fits ≡ true → r .table ≡ table (blends (withLine (held L) s))
+    next-table f = fits-held _ r is-next f .is-table
 
 -- an accepted split leaves lines whose live blends are in hand;
 pub hand-next : {L : Lines} {t : Table} → InHand L t → (s : Split) → exactNumber (held L) s ≡ 0 →

@@ -11,17 +11,16 @@ use lib.ListN.{take}
 use Rattle.mesh.specs.declared.Split.{Split}
 use Rattle.mesh.specs.declared.Lines.{Lines}
 use Rattle.mesh.specs.declared.Table.{Table}
-use Rattle.mesh.specs.declared.Refined.{Refined}
 use Rattle.mesh.specs.Range.{each, only}
 use Rattle.mesh.specs.Lines.{upright, level, inRange, shares, ended, fits}
-use Rattle.mesh.specs.Sound.{refined}
-use Rattle.mesh.proofs.Tests.{either, and-both, and-of, cond-true, cond-false, each-turn, each-none}
+use Rattle.mesh.proofs.Tests.{either, and-both, and-of, false-of, cond-true, cond-false, each-turn, each-none}
 use Rattle.mesh.proofs.Drawing.{in-range-says}
+use Rattle.maps.specs.declared.splits.Step.{Step}
 use Rattle.maps.specs.declared.splits.Found.{Found}
 use Rattle.maps.specs.Plain.{Plain, meshOf}
-use Rattle.maps.specs.Splits.{given, reaching, run, containing, candidate, chosen}
-use Rattle.maps.specs.Inner.{held, withSplit, InHand, found}
-use Rattle.maps.proofs.InHand.{Given, given-says, hand-sides, hand-length, answered-sound, answered-table}
+use Rattle.maps.specs.Splits.{given, soundWith, reaching, run, containing, candidate, chosen}
+use Rattle.maps.specs.Inner.{held, InHand, judged, found}
+use Rattle.maps.proofs.InHand.{Given, given-says, hand-sides, hand-length}
 
 module _ (P : Plain) (s : Split) where
   -- the line of a length from a start, where it keeps to the side; those of a length from a start on
@@ -201,28 +200,31 @@ module _ {L : Lines} {t : Table} {s : Split} {side n : ℕ} {answer : Found} (fr
       rw none
 
   -- and if so, whether it leaves a sound map.
-  module _ (q : r ≡ true) {next : Lines} {R : Refined} (more : next ≡ withSplit L (reaching s from n)) (refines : R ≡ refined next t) where
+  module _ (q : r ≡ true) where
     ends-apart : (inRange (L .w) (L .h) (reaching s from n) && ended (meshOf (held L)) (reaching s from n) ≡ true) ×
         (not (shares (meshOf (held L)) (reaching s from n)) ≡ true)
     ends-apart = and-both _ _ (sym e ∙ q)
 
-    in-range : inRange (L .w) (L .h) (reaching s from n) ≡ true
+    pub in-range : inRange (L .w) (L .h) (reaching s from n) ≡ true
     in-range = and-both _ (ended (meshOf (held L)) (reaching s from n)) (ends-apart .0) .0
 
-    pub tried-candidate : candidate (held L) (reaching s from n) ≡ R .sound
+    is-candidate : candidate (held L) (reaching s from n) ≡ soundWith (held L) (reaching s from n)
     unfolding candidate
-    tried-candidate =
-        rw (and-both (inRange (L .w) (L .h) (reaching s from n)) _ (ends-apart .0) .1, ends-apart .1)
-        (sym (answered-sound (at .hand) (reaching s from n) in-range (room at) more refines))
+    is-candidate = rw (and-both (inRange (L .w) (L .h) (reaching s from n)) _ (ends-apart .0) .1, ends-apart .1)
 
-    pub tried-found : from ≤ s .from → R .sound ≡ true →
-        record { some = true; split = reaching s from n; table = R .table } ≡ found L t s (chosen (held L) s)
-    unfolding found
-    tried-found le o =
-        let ends = ends-in (held L) (reaching s from n) in-range in
-        let sounds = sym (answered-sound (at .hand) (reaching s from n) in-range (room at) more refines) ∙ o in
-        ap (λ (T : Table). record { some = true; split = reaching s from n; table = T })
-        (answered-table (at .hand) (reaching s from n) in-range (room at) more refines sounds) ∙
-        sym (ap (found L t s)
-        (at .rest ∙ ap (first (held L) s) (starts-turn (held L) s n from le) ∙
-        line-taken (held L) s n from (ahead (held L) s n (from + 1)) (ends .1) (tried-candidate ∙ o)))
+    module _ {R : Step} (is : R ≡ judged L t (reaching s from n)) where
+      pub tried-unsound : (R .number ≡ 0 → ⊥) → candidate (held L) (reaching s from n) ≡ false
+      unfolding judged
+      tried-unsound ne = is-candidate ∙ false-of _ (λ o. ne (ap (λ (x : Step). x .number) (is ∙ cond-true _ _ _ o)))
+
+      pub tried-found : from ≤ s .from → R .number ≡ 0 →
+          record { some = true; split = reaching s from n; table = R .table } ≡ found L t s (chosen (held L) s)
+      unfolding found judged
+      tried-found le z =
+          let ends = ends-in (held L) (reaching s from n) in-range in
+          let o : soundWith (held L) (reaching s from n) ≡ true =
+          ⊎-elim (λ y. y) (λ y. absurd (omega (arith, sym z ∙ ap (λ (x : Step). x .number) (is ∙ cond-false _ _ _ y)))) (either (soundWith (held L) (reaching s from n))) in
+          ap (λ (x : Step). record { some = true; split = reaching s from n; table = x .table }) (is ∙ cond-true _ _ _ o) ∙
+          sym (ap (found L t s)
+          (at .rest ∙ ap (first (held L) s) (starts-turn (held L) s n from le) ∙
+          line-taken (held L) s n from (ahead (held L) s n (from + 1)) (ends .1) (is-candidate ∙ o)))

@@ -20,7 +20,7 @@ use Rattle.mesh.proofs.Tests.{either, and-both, and-fails, every-at, all-at}
 use Rattle.mesh.proofs.Hats.{Rise, hat-outside}
 use Rattle.mesh.proofs.Places.{Rises, ProperIn}
 use Rattle.mesh.proofs.Cutting.{proper-most}
-use Rattle.mesh.proofs.Judging.{left-mem}
+use Rattle.mesh.proofs.Entries.{left-mem}
 use Rattle.maps.specs.Values.{gap, share, corner}
 use Rattle.maps.proofs.Sums.{times-equal}
 

@@ -14,11 +14,11 @@ use Rattle.mesh.specs.declared.Lines.{Lines}
 use Rattle.mesh.specs.declared.Table.{Table}
 use Rattle.mesh.specs.Range.{all}
 use Rattle.mesh.specs.Lines.{allowedSide}
-use Rattle.mesh.specs.Blends.{live, firstFour}
-use Rattle.mesh.specs.Sound.{table, answer, proper, refined, liveTable}
-use Rattle.mesh.proofs.Tests.{either, true-not-false, false-of, and-both, and-of, all-of, cond-true, cond-false}
+use Rattle.mesh.specs.Blends.{firstFour}
+use Rattle.mesh.specs.Sound.{table, answer, liveTable}
+use Rattle.mesh.proofs.Tests.{either, true-not-false, false-of, and-both, and-of, cond-true, cond-false}
 use Rattle.mesh.proofs.Drawing.{left-turn, left-none}
-use Rattle.mesh.proofs.Fresh.{first-proper, fresh-live, fresh-sound}
+use Rattle.mesh.proofs.Fresh.{fresh-live, fresh-sound}
 use Rattle.maps.specs.declared.Map.{Map}
 use Rattle.maps.specs.declared.record.Opened.{Opened}
 use Rattle.maps.specs.declared.splits.Step.{Step}
@@ -27,7 +27,7 @@ use Rattle.maps.specs.Splits.{exactNumber, withLine}
 use Rattle.maps.specs.Record.{noSplit, isNoSplit, bare, accepted, good}
 use Rattle.maps.specs.Inner.{held, withSplit, InHand, stepped}
 use Rattle.maps.specs.Record.{opened}
-use Rattle.maps.proofs.InHand.{hand-held, hand-sides, hand-next, hand-fresh, table-blends, table-count}
+use Rattle.maps.proofs.InHand.{hand-held, hand-sides, hand-next, hand-fresh}
 
 -- a test of the entries from a place on, as a loop takes them
 module _ {ℓ} {A : Type ℓ} (test : A → Bool) (xs : List A) (i : ℕ) where
@@ -97,13 +97,12 @@ module _ (m : Map) where
 -- the blends of a fresh map, cut anew, are the first four
 pub live-fresh : (w h : ℕ) → allowedSide w ≡ true → allowedSide h ≡ true →
     liveTable (freshLines w h) ≡ record { sound = true; table = table (firstFour w h) }
-unfolding liveTable refined live answer
+unfolding liveTable answer
 live-fresh w h a b =
     let hand = hand-fresh w h a b in
     let s = hand-sides hand in
-    let ok : all (proper w h) (firstFour w h) ≡ true = all-of (proper w h) (firstFour w h) (first-proper w h (s .across .0) (s .up .0)) in
-    cond-true _ _ _ (and-of _ _ (and-of _ _ (hand .allowed?) (rw table-count refl)) (rw table-blends ok)) ∙
-    rw (table-blends, fresh-live w h (s .across .0) (s .up .0) (s .up .1))
+    cond-true _ _ _ (hand .allowed?) ∙
+    rw (fresh-live w h (s .across .0) (s .up .0) (s .up .1))
     (cond-true _ _ _ (and-of _ _ (fresh-sound w h (s .across .0) (s .up .0)) refl))
 
 -- Part of the way through a record: the lines of its first i splits are in hand, and the splits that are left decide.

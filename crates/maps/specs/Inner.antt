@@ -17,7 +17,7 @@ use Rattle.maps.specs.declared.splits.Step.{Step}
 use Rattle.maps.specs.declared.splits.Found.{Found}
 use Rattle.maps.specs.Plain.{Plain, blends}
 use Rattle.maps.specs.Values.{carried}
-use Rattle.maps.specs.Splits.{given, exactNumber, withLine, chosen}
+use Rattle.maps.specs.Splits.{given, exactNumber, withLine, soundWith, chosen}
 
 -- the lines of a record, as a struct; and what a struct of lines holds, without values
 abbrev pub linesOf : Map → Lines
@@ -36,6 +36,12 @@ pub record InHand (L : Lines) (t : Table) : Type 0 where
   pub places : length (L .splits) ≡ 60
   pub is-sound : sound (L .w) (L .h) (blends (held L)) ≡ true
   pub is-table : t ≡ table (blends (held L))
+
+-- one split more, in range: 8 and the old table where it leaves no sound map
+unfoldable pub judged : Lines → Table → Split → Step
+judged L t s =
+    let next = table (blends (withLine (held L) s)) in
+    cond (soundWith (held L) s) (record { number = 0; table = next }) (record { number = 8; table = t })
 
 -- one exact split: its number, and the table after it, or the old one on a refusal
 unfoldable pub stepped : Lines → Table → Split → Step

@@ -1,6 +1,7 @@
 // Values across a split: old anchors keep theirs, each new one takes the old map's reading there.
 use crate::values::reading_of;
 use mesh::Table;
+use mesh::knots;
 ghost use mathlib.Core.Path.{_≡_};
 ghost use mathlib.Core.Bool.{true};
 ghost use Prim.Native.Nat.{ℕ, _≤_, _<_};
@@ -18,7 +19,7 @@ fn index_anchors(table: Table, index: &mut [u16])
     let mut i: usize = 0;
     while i < count {
         let x = table.blends[i];
-        let place = x.across.m * 131 + x.up.m;
+        let place = knots::place(x);
         i += 1;
         index[place] = i as u16;
     }
@@ -42,10 +43,11 @@ pub(crate) fn carried_values(
     let mut i = 0;
     while i < count {
         let x = new.blends[i];
-        let m = x.across.m;
-        let n = x.up.m;
-        let place = index[m * 131 + n] as usize;
+        let anchor = knots::place(x);
+        let place = index[anchor] as usize;
         if place == 0 {
+            let m = knots::wide(x.across.m);
+            let n = knots::wide(x.up.m);
             carried[i] = reading_of(old, values, w, h, m - 1, n - 1) as u16;
         } else {
             carried[i] = values[place - 1];

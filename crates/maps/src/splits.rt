@@ -4,6 +4,7 @@ use mesh::Split;
 use mesh::Table;
 use mesh::blends::refine;
 use mesh::blends::some_cut;
+use mesh::judge::full;
 use mesh::points::ends_on_lines;
 use mesh::points::fits_sides;
 use mesh::points::shares_stretch;
@@ -12,7 +13,7 @@ ghost use mathlib.Core.Bool.{true, _&&_, not};
 ghost use Prim.Native.Nat.{_<_};
 ghost use Rattle.mesh.specs.Lines.{allowed, inRange, ended, shares, meshOf};
 ghost use Rattle.maps.specs.Splits.{given, chosen};
-ghost use Rattle.maps.specs.Inner.{held, withSplit, InHand, stepped, found};
+ghost use Rattle.maps.specs.Inner.{held, withSplit, InHand, judged, stepped, found};
 
 // A split's number, and the table of blends after it.
 pub struct Step {
@@ -62,6 +63,27 @@ pub(crate) fn given_number(lines: Lines, live: Table, s: Split) -> usize
     0
 }
 
+// One split more on lines whose live blends are in hand; 8 where it leaves no sound map.
+fn sound_step(lines: Lines, live: Table, s: Split) -> Step
+    requires { ⌜ InHand lines live × (inRange (lines .w) (lines .h) s ≡ true) × (lines .count < 60) ⌝ }
+    ensures { λ r. ⌜ r ≡ judged lines live s ⌝ }
+{
+    let next = refine(with_split(lines, s), live);
+    let t = next.table;
+    if next.fits {
+        if full(t, lines.w, lines.h) {
+            return Step {
+                number: 0,
+                table: t,
+            };
+        }
+    }
+    Step {
+        number: 8,
+        table: live,
+    }
+}
+
 // An exact split on lines whose live blends are in hand.
 pub(crate) fn exact_step(lines: Lines, live: Table, s: Split) -> Step
     requires { ⌜ InHand lines live ⌝ }
@@ -74,18 +96,7 @@ pub(crate) fn exact_step(lines: Lines, live: Table, s: Split) -> Step
             table: live,
         };
     }
-    let next = refine(with_split(lines, s), live);
-    if !next.sound {
-        return Step {
-            number: 8,
-            table: live,
-        };
-    }
-    let t = next.table;
-    Step {
-        number: 0,
-        table: t,
-    }
+    sound_step(lines, live, s)
 }
 
 // Whether a line has both ends on crossing lines and shares no stretch with a line at its position; no where it is out of range.
@@ -128,8 +139,8 @@ pub(crate) fn longer_line(lines: Lines, live: Table, s: Split) -> Found
                 to: from + length,
             };
             if may_stand(lines, c) {
-                let next = refine(with_split(lines, c), live);
-                if next.sound {
+                let next = sound_step(lines, live, c);
+                if next.number == 0 {
                     let t = next.table;
                     answer = Found {
                         some: true,

@@ -5,6 +5,7 @@ use crate::Weights;
 use mesh::Blend;
 use mesh::Table;
 use mesh::Triple;
+use mesh::knots;
 ghost use mathlib.Core.Path.{_≡_};
 ghost use mathlib.Core.Bool.{true};
 ghost use mathlib.Core.List.{map};
@@ -19,7 +20,7 @@ ghost use Rattle.maps.specs.Values.{corner, gap, share, placeOf, reading
 ghost use Rattle.maps.specs.Calls.{shape, weightOver};
 
 // A knot as document 01's coordinate.
-fn coordinate(k: usize) -> i64
+fn coordinate(k: u8) -> i64
     requires { ⌜ k ≤ 130 ⌝ }
     ensures { λ r. ⌜ r ≡ predℤ (pos k) ⌝ }
 {
@@ -51,7 +52,11 @@ fn gap_at(t: Triple, x: usize) -> usize
     requires { ⌜ (t .l < t .m) × (t .m < t .r) ⌝ }
     ensures { λ r. ⌜ r ≡ gap t x ⌝ }
 {
-    if x < t.m { t.m - t.l } else { t.r - t.m }
+    if x < knots::wide(t.m) {
+        knots::wide(t.m - t.l)
+    } else {
+        knots::wide(t.r - t.m)
+    }
 }
 
 // The hat at knot u over that gap.
@@ -59,17 +64,21 @@ fn share_at(t: Triple, x: usize, u: usize) -> usize
     requires { ⌜ (x ≤ u) × (t .l ≤ x) × (u ≤ x + 1) × (x < t .r) ⌝ }
     ensures { λ r. ⌜ r ≡ share t x u ⌝ }
 {
-    if x < t.m { u - t.l } else { t.r - u }
+    if x < knots::wide(t.m) {
+        u - knots::wide(t.l)
+    } else {
+        knots::wide(t.r) - u
+    }
 }
 
 // Whether the unit step from knot x lies in a triple's support.
 fn spans_at(t: Triple, x: usize) -> bool
     ensures { λ r. ⌜ r ≡ spans x t ⌝ }
 {
-    if x < t.l {
+    if x < knots::wide(t.l) {
         return false;
     }
-    x < t.r
+    x < knots::wide(t.r)
 }
 
 // Whether the unit square whose low corner is at knots (x, y) lies in the blend's support.
@@ -118,10 +127,10 @@ fn is_anchored(b: Blend, m: usize, n: usize) -> bool
 {
     let a = b.across;
     let u = b.up;
-    if a.m != m {
+    if knots::wide(a.m) != m {
         return false;
     }
-    u.m == n
+    knots::wide(u.m) == n
 }
 
 // The table place of the blend with the anchor at knots (m, n); the table's count where there is none.

@@ -17,9 +17,11 @@ pub mod Hats
 pub mod Weights
 pub mod SoundMaps
 pub mod AtMost
+pub mod Quadrants
+pub mod Area
 pub mod Cutting
 pub mod Drawing
-pub mod Counting
-pub mod Judging
+pub mod Reading
 pub mod Refining
+pub mod Fitted
 pub mod SingleSteps

@@ -7,7 +7,7 @@ use mathlib.Core.List.{List, [], List·Memᴰ}
 use Rattle.mesh.specs.Lines.{Mesh}
 use Rattle.mesh.specs.Blends.{once, inTableOrder, leavesOf, refine}
 use Rattle.mesh.specs.Order.{Left, Coarser}
-use Rattle.mesh.specs.Sound.{proper, sound, answer, table}
+use Rattle.mesh.specs.Sound.{proper, sound, table, ownAnchors, fitted}
 use Rattle.mesh.specs.Bytes.{place}
 use Rattle.mesh.specs.declared.Blend.{Blend}
 use Rattle.mesh.proofs.Tests.{either}
@@ -16,7 +16,7 @@ pub use Rattle.mesh.proofs.Cuts.{proper-rises}
 use Rattle.mesh.proofs.Cuts.{proper-facts, proper-of, proper-within}
 use Rattle.mesh.proofs.Order.{comes-rises, comes-within, Rising, LeftOf, SameMembers, leavesOf-left, left-leavesOf, finer-leaves}
 use Rattle.mesh.proofs.Tables.{once-mem, mem-once, once-distinct, order-mem, mem-order, order-distinct}
-use Rattle.mesh.proofs.Places.{proper-anchored, sound-own}
+use Rattle.mesh.proofs.Places.{proper-anchored, sound-own, own-says}
 use Rattle.mesh.proofs.Ascending.{OwnAnchors, order-ascending, ascending-unique}
 
 -- what is left of a proper blend is proper
@@ -56,10 +56,10 @@ module _ (w h : ℕ) (M : Mesh) (bs : List Blend) (ok : AllProper w h bs) where
   unfolding refine
   refine-distinct = order-distinct w h (once (leavesOf M bs)) (once-distinct (leavesOf M bs))
 
--- tables of the same blends are equal where one is sound, and so are the answers on them in any case
+-- tables of the same blends are equal where no two of one have one anchor, and so is what a table holds of them in any case
 module _ (w h : ℕ) (hh : h ≤ 128) (xs ys : List Blend) (dx : Distinct xs) (dy : Distinct ys) (ok : AllProper w h xs) (eq : SameMembers xs ys) where
-  pub same-table : sound w h (inTableOrder w h xs) ≡ true → inTableOrder w h xs ≡ inTableOrder w h ys
-  same-table s =
+  pub same-table : OwnAnchors (inTableOrder w h xs) → inTableOrder w h xs ≡ inTableOrder w h ys
+  same-table owned =
       ascending-unique place (inTableOrder w h xs) (inTableOrder w h ys) (order-ascending w h hh xs dx own)
       (order-ascending w h hh ys dy (λ B C mB mC. own B C (eq B .1 mB) (eq C .1 mC)))
       (λ C m. let o = order-mem w h xs C m in mem-order w h ys C (eq C .0 (o .0)) (o .1))
@@ -69,21 +69,20 @@ module _ (w h : ℕ) (hh : h ≤ 128) (xs ys : List Blend) (dx : Distinct xs) (d
       there B m = mem-order w h xs B m (proper-anchored w h B (proper-facts w h B (ok B m)))
 
       own : OwnAnchors xs
-      own B C mB mC =
-          sound-own w h (inTableOrder w h xs) (λ D m. proper-facts w h D (ok D (order-mem w h xs D m .0))) s B C (there B mB) (there C mC)
+      own B C mB mC = owned B C (there B mB) (there C mC)
 
-pub unsound-answer : (w h : ℕ) (bs : List Blend) → sound w h bs ≡ false → answer w h bs ≡ record { sound = false; table = table [] }
-unfolding answer
-unsound-answer w h bs e = rw e
+pub clash-unfit : (bs : List Blend) → ownAnchors bs ≡ false → fitted bs ≡ record { fits = false; table = table [] }
+unfolding fitted
+clash-unfit bs e = rw e
 
-pub same-answer : (w h : ℕ) → h ≤ 128 → (xs ys : List Blend) → Distinct xs → Distinct ys → AllProper w h xs → SameMembers xs ys →
-    answer w h (inTableOrder w h xs) ≡ answer w h (inTableOrder w h ys)
-same-answer w h hh xs ys dx dy ok eq =
-    ⊎-elim (λ s. ap (answer w h) (same-table w h hh xs ys dx dy ok eq s))
-    (λ s.
-    ⊎-elim (λ t. ap (answer w h) (sym (same-table w h hh ys xs dy dx (λ B m. ok B (eq B .1 m)) (λ C. (eq C .1, eq C .0)) t)))
-    (λ t. unsound-answer w h (inTableOrder w h xs) s ∙ sym (unsound-answer w h (inTableOrder w h ys) t)) (either (sound w h (inTableOrder w h ys))))
-    (either (sound w h (inTableOrder w h xs)))
+pub same-fitted : (w h : ℕ) → h ≤ 128 → (xs ys : List Blend) → Distinct xs → Distinct ys → AllProper w h xs → SameMembers xs ys →
+    fitted (inTableOrder w h xs) ≡ fitted (inTableOrder w h ys)
+same-fitted w h hh xs ys dx dy ok eq =
+    ⊎-elim (λ o. ap fitted (same-table w h hh xs ys dx dy ok eq (own-says _ o)))
+    (λ o.
+    ⊎-elim (λ t. ap fitted (sym (same-table w h hh ys xs dy dx (λ B m. ok B (eq B .1 m)) (λ C. (eq C .1, eq C .0)) (own-says _ t))))
+    (λ t. clash-unfit (inTableOrder w h xs) o ∙ sym (clash-unfit (inTableOrder w h ys) t)) (either (ownAnchors (inTableOrder w h ys))))
+    (either (ownAnchors (inTableOrder w h xs)))
 
 -- Theorem 1 of 001: a finer mesh may cut what the coarser one left.
 module _ (w h : ℕ) (hh : h ≤ 128) (M N : Mesh) (coarser : Coarser M N) (bs : List Blend) (ok : AllProper w h bs) where
@@ -97,10 +96,12 @@ module _ (w h : ℕ) (hh : h ≤ 128) (M N : Mesh) (coarser : Coarser M N) (bs :
   all-proper : AllProper w h (once (leavesOf N (refine w h M bs)))
   all-proper C m = leaves-proper w h N (refine w h M bs) (refine-proper w h M bs ok) C (once-mem (leavesOf N (refine w h M bs)) C m)
 
-  pub finer-answer : answer w h (refine w h N (refine w h M bs)) ≡ answer w h (refine w h N bs)
+  pub finer-fitted : fitted (refine w h N (refine w h M bs)) ≡ fitted (refine w h N bs)
   unfolding refine
-  finer-answer = same-answer w h hh (once (leavesOf N (refine w h M bs))) (once (leavesOf N bs)) (once-distinct _) (once-distinct _) all-proper again
+  finer-fitted = same-fitted w h hh (once (leavesOf N (refine w h M bs))) (once (leavesOf N bs)) (once-distinct _) (once-distinct _) all-proper again
 
   pub finer-table : sound w h (refine w h N (refine w h M bs)) ≡ true → refine w h N (refine w h M bs) ≡ refine w h N bs
   unfolding refine
-  finer-table s = same-table w h hh (once (leavesOf N (refine w h M bs))) (once (leavesOf N bs)) (once-distinct _) (once-distinct _) all-proper again s
+  finer-table s =
+      same-table w h hh (once (leavesOf N (refine w h M bs))) (once (leavesOf N bs)) (once-distinct _) (once-distinct _) all-proper again
+      (sound-own w h _ (λ D m. proper-facts w h D (refine-proper w h N (refine w h M bs) (refine-proper w h M bs ok) D m)) s)

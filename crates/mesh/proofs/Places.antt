@@ -12,14 +12,14 @@ use lib.ListN.{length, getD, set, length-set, length-replicate}
 use lib.Seq.{getD-set-same, getD-set-other}
 use Rattle.mesh.specs.Range.{only, all}
 use Rattle.mesh.specs.Blends.{same, once, anchored, inTableOrder}
-use Rattle.mesh.specs.Sound.{proper, nested, noneNested, sound, fourEverywhere}
-use Rattle.mesh.specs.Bytes.{at, Square, place, packed, unpacked, keep, keepAll, empty, kept, walk, Holding}
+use Rattle.mesh.specs.Sound.{nested, noneNested, sound, fourEverywhere, clash, ownAnchors}
+use Rattle.mesh.specs.Bytes.{at, Square, place, packed, unpacked, keep, keepAll, empty, kept, walk}
 pub use Rattle.mesh.specs.Bytes.{ProperIn, RisesIn as Rises}
 use Rattle.mesh.specs.declared.Blend.{Blend}
-use Rattle.mesh.proofs.Tests.{either, true-not-false, and-both, and-of, false-of, all-at, only-mem, mem-only, cond-false, each-same}
+use Rattle.mesh.proofs.Tests.{either, true-not-false, and-both, and-of, false-of, all-at, all-of, only-mem, mem-only, cond-false, each-same}
 use Rattle.mesh.proofs.Bytes.{zeros}
 pub use Rattle.mesh.proofs.Cuts.{proper-facts, proper-of}
-use Rattle.mesh.proofs.Cuts.{same-blend}
+use Rattle.mesh.proofs.Cuts.{same-blend, blend-same}
 use Rattle.mesh.proofs.Tables.{Anchored, anchored-at, once-mem, mem-once, once-distinct, only-distinct, singleton, nothing, order-mem, mem-order}
 use Rattle.mesh.proofs.Ascending.{OwnAnchors}
 
@@ -119,8 +119,8 @@ module _ (w h : ℕ) (hw : w ≤ 128) (hh : h ≤ 128) (T : List ℕ) (ds : List
       }
 
   -- another blend has the anchor
-  clash : (getD T (place B) 0 ≡ 0 → ⊥) → (getD T (place B) 0 ≡ packed B → ⊥) → Kept w h (set T 0 1) (B ∷ ds)
-  clash full differs =
+  another : (getD T (place B) 0 ≡ 0 → ⊥) → (getD T (place B) 0 ≡ packed B → ⊥) → Kept w h (set T 0 1) (B ∷ ds)
+  another full differs =
       record {
         square = length-set T 0 1 ∙ K .square;
         good = all-good;
@@ -143,7 +143,7 @@ module _ (w h : ℕ) (hw : w ≤ 128) (hh : h ≤ 128) (T : List ℕ) (ds : List
   unfolding keep
   keep-one =
       ⊎-elim (λ e. rw e (put (eqb-true _ _ e)))
-      (λ e. rw e (⊎-elim (λ q. rw q (again (eqb-true _ _ q))) (λ q. rw q (clash (eqb-false _ _ e) (eqb-false _ _ q))) (either (eqb (getD T (place B) 0) (packed B)))))
+      (λ e. rw e (⊎-elim (λ q. rw q (again (eqb-true _ _ q))) (λ q. rw q (another (eqb-false _ _ e) (eqb-false _ _ q))) (either (eqb (getD T (place B) 0) (packed B)))))
       (either (eqb (getD T (place B) 0) 0))
 
 -- the blends that were kept, the last one first
@@ -191,6 +191,27 @@ sound-own w h bs ok s B C mB mC q r =
         let u = ok C mC .up in
         rw (e, q, r, lt-ltb _ _ (a .low), lt-ltb _ _ (a .high), lt-ltb _ _ (u .low), lt-ltb _ _ (u .high))
 
+-- the test that no two have one anchor: what it says, and back
+pub own-says : (bs : List Blend) → ownAnchors bs ≡ true → OwnAnchors bs
+unfolding ownAnchors
+own-says bs e B C mB mC q r =
+    let apart = not-true (clash B C) (all-at _ bs (all-at (λ (X : Blend). all (λ (Y : Blend). not (clash X Y)) bs) bs e B mB) C mC) in
+    ⊎-elim (λ s. same-blend B C s)
+    (λ (s : same B C ≡ false).
+    absurd (true-not-false (clash B C) (and-of (not (same B C)) _ (ap not s) (and-of _ _ (eq-eqb _ _ q) (eq-eqb _ _ r))) apart))
+    (either (same B C))
+
+pub own-of : (bs : List Blend) → OwnAnchors bs → ownAnchors bs ≡ true
+unfolding ownAnchors
+own-of bs own =
+    all-of _ bs (λ B mB. all-of _ bs (λ C mC. rw (false-of (clash B C) (refute B C mB mC))))
+  where
+    refute : (B C : Blend) → List·Memᴰ B bs → List·Memᴰ C bs → clash B C ≡ true → ⊥
+    refute B C mB mC e =
+        let b = and-both (not (same B C)) (anchored (C .across .m) (C .up .m) B) e in
+        let a = anchored-at (C .across .m) (C .up .m) B (b .1) in
+        true-not-false (same B C) (blend-same B C (own B C mB mC (a .0) (a .1))) (not-true _ (b .0))
+
 module _ (w h : ℕ) (hw : w ≤ 128) (hh : h ≤ 128) (E : List ℕ) (blank : Kept w h E []) (ls : List Blend)
     (p : (C : Blend) → List·Memᴰ C ls → ProperIn w h C) where
   kept-all : Kept w h (keepAll E ls) (seen [] ls)
@@ -199,17 +220,24 @@ module _ (w h : ℕ) (hw : w ≤ 128) (hh : h ≤ 128) (E : List ℕ) (blank : K
   of-list : (C : Blend) → List·Memᴰ C (seen [] ls) → List·Memᴰ C ls
   of-list C m = ⊎-elim (λ k. absurd (List·Memᴰ·not-nil k)) (λ k. k) (mem-seen [] ls C m)
 
-  -- two different blends met: the map is not sound
-  pub met-unsound : (getD (keepAll E ls) 0 0 ≡ 0 → ⊥) → sound w h (inTableOrder w h (once ls)) ≡ false
-  met-unsound ne =
+  pub kept-square : Square (keepAll E ls)
+  kept-square = kept-all .square
+
+  -- what the table has came from the list, and the other way round
+  from-table : (C : Blend) → List·Memᴰ C (inTableOrder w h (once ls)) → List·Memᴰ C ls
+  from-table C m = once-mem ls C (order-mem w h (once ls) C m .0)
+
+  to-table : (C : Blend) → List·Memᴰ C ls → List·Memᴰ C (inTableOrder w h (once ls))
+  to-table C m = mem-order w h (once ls) C (mem-once ls C m) (proper-anchored w h C (p C m))
+
+  -- two different blends met: they have one anchor
+  pub met-clash : (getD (keepAll E ls) 0 0 ≡ 0 → ⊥) → ownAnchors (inTableOrder w h (once ls)) ≡ false
+  met-clash ne =
       let r = kept-all .met ne in
       false-of _
       (λ e. r .4
-      (sound-own w h (inTableOrder w h (once ls)) (λ C m. p C (once-mem ls C (order-mem w h (once ls) C m .0))) e (r .0) (r .1)
-      (there (r .0) (of-list (r .0) (r .2))) (there (r .1) (of-list (r .1) (r .3))) (r .5) (r .6)))
-    where
-      there : (C : Blend) → List·Memᴰ C ls → List·Memᴰ C (inTableOrder w h (once ls))
-      there C m = mem-order w h (once ls) C (mem-once ls C m) (proper-anchored w h C (p C m))
+      (own-says (inTableOrder w h (once ls)) e (r .0) (r .1)
+      (to-table (r .0) (of-list (r .0) (r .2))) (to-table (r .1) (of-list (r .1) (r .3))) (r .5) (r .6)))
 
   -- while none met, a place that is taken holds a blend of the list, and each blend of the list is at its place
   held : getD (keepAll E ls) 0 0 ≡ 0 → (m n : ℕ) (C : Blend) → List·Memᴰ C ls → C .across .m ≡ m → C .up .m ≡ n → getD (keepAll E ls) (at m n) 0 ≡ packed C
@@ -257,10 +285,12 @@ module _ (w h : ℕ) (hw : w ≤ 128) (hh : h ≤ 128) (E : List ℕ) (blank : K
   walk-table z =
       each-same 1 (w + 1) _ _ (λ m lo hi. each-same 1 (h + 1) _ _ (λ n lo2 hi2. at-place z m n lo (omega arith)))
 
-  -- and they hold nothing but proper blends
-  pub walk-holding : getD (keepAll E ls) 0 0 ≡ 0 → Holding w h (keepAll E ls)
-  walk-holding z =
-      record {
-        square = kept-all .square;
-        holds = λ m n lo hi lo2 hi2 ne. let r = holder z m n lo (omega arith) ne in ap (proper w h) (r .4) ∙ proper-of w h (r .0) (p (r .0) (r .1));
-      }
+  -- and each has an anchor of its own
+  pub none-met : getD (keepAll E ls) 0 0 ≡ 0 → ownAnchors (inTableOrder w h (once ls)) ≡ true
+  none-met z = own-of (inTableOrder w h (once ls)) own
+    where
+      own : OwnAnchors (inTableOrder w h (once ls))
+      own B C mB mC q r =
+          let b = from-table B mB in
+          let c = from-table C mC in
+          cc (unpack-packed w h hw hh B (p B b), unpack-packed w h hw hh C (p C c), held z (C .across .m) (C .up .m) B b q r, held z (C .across .m) (C .up .m) C c refl refl)

@@ -1,25 +1,37 @@
 -- What the public functions on tables do, from what the functions that they call leave behind.
-use Prim.Native.Nat.{ℕ, _≤_}
+use Prim.Native.Nat.{ℕ, _-_, _≤_}
+use native.Mathlib.Omega.{arith}
 use mathlib.Core.Path.{_≡_, refl, sym, ap, subst, fun-ext, _∙_}
 use mathlib.Core.Bool.{Bool, true, false, _&&_, not}
 use mathlib.Core.List.{List, [], _∷_, List·Memᴰ}
 use borrow.Author.Tests.{le-leb, leb-true, eq-eqb, ne-eqb}
 use lib.Dec.{leb, eqb}
-use lib.ListN.{getD, set}
+use lib.ListN.{length, getD, set, replicate}
+use lib.Seq.{take-append-seam}
 use Rattle.mesh.specs.Range.{all, any}
 use Rattle.mesh.specs.Lines.{Direction, upright, level, number, Mesh, meshOf, allowed}
-use Rattle.mesh.specs.Blends.{cutter, isCut, refine, leavesOf}
-use Rattle.mesh.specs.Sound.{proper, answer, table, blendsOf, refined, someCut}
-use Rattle.mesh.specs.Bytes.{ProperIn, stepOn, bytesMesh, keepAll, walk, Holding, empty, refused}
+use Rattle.mesh.specs.Blends.{cutter, isCut, refine, leavesOf, firstFour, live}
+use Rattle.mesh.specs.Sound.{proper, none, table, blendsOf, fitted, refined, someCut}
+use Rattle.mesh.specs.Bytes.{Square, ProperIn, stepOn, bytesMesh, keepAll, walk, listed, empty, refused}
 use Rattle.mesh.specs.declared.Lines.{Lines}
 use Rattle.mesh.specs.declared.Table.{Table}
 use Rattle.mesh.specs.declared.Blend.{Blend}
-use Rattle.mesh.proofs.Tests.{cond-true, cond-false, all-at, and-both, or-left, or-right}
+use Rattle.mesh.proofs.Tests.{cond-true, cond-false, all-at, all-of, and-both, or-left, or-right}
 use Rattle.mesh.proofs.Drawing.{Allowed, allowed-says}
 use Rattle.mesh.proofs.Cuts.{proper-facts}
 use Rattle.mesh.proofs.Cutting.{proper-most}
-use Rattle.mesh.proofs.Places.{Kept, nothing-kept, met-unsound, walk-table, walk-holding}
-use Rattle.mesh.proofs.Live.{leaves-proper, unsound-answer}
+use Rattle.mesh.proofs.Places.{Kept, nothing-kept, kept-square, met-clash, walk-table, none-met}
+use Rattle.mesh.proofs.Live.{leaves-proper, clash-unfit}
+use Rattle.mesh.proofs.Fresh.{first-proper}
+
+-- a table's own blends and their number
+pub table-blends : (bs : List Blend) → blendsOf (table bs) ≡ bs
+unfolding table
+table-blends bs = take-append-seam bs (replicate (1024 - length bs) none)
+
+pub table-count : (bs : List Blend) → table bs .count ≡ length bs
+unfolding table
+table-count bs = refl
 
 -- lines, and a table's blends, that keep to their ranges: as a test, and what it says
 abbrev pub ranged : Lines → Table → Bool
@@ -46,9 +58,6 @@ module _ (L : Lines) (t : Table) where
   unfolding someCut
   out-uncut e = rw e
 
-  pub lines-refused : allowed L ≡ false → refused ≡ refined L t
-  lines-refused e = out-refused (rw e)
-
 -- within range
 module _ {L : Lines} {t : Table} (r : Ranged L t) where
   pub sides : Allowed L
@@ -60,9 +69,9 @@ module _ {L : Lines} {t : Table} (r : Ranged L t) where
   pub ranged-most : all (proper 128 128) (blendsOf t) ≡ true
   ranged-most = proper-most (L .w) (L .h) (blendsOf t) (sides .across .1) (sides .up .1) (r .good)
 
-  is-answer : refined L t ≡ answer (L .w) (L .h) (refine (L .w) (L .h) (meshOf L) (blendsOf t))
+  pub is-refined : refined L t ≡ fitted (refine (L .w) (L .h) (meshOf L) (blendsOf t))
   unfolding refined
-  is-answer = cond-true _ _ _ is-ranged
+  is-refined = cond-true _ _ _ is-ranged
 
   pub is-cut : any (isCut (meshOf L)) (blendsOf t) ≡ someCut L t
   unfolding someCut
@@ -72,6 +81,15 @@ module _ {L : Lines} {t : Table} (r : Ranged L t) where
   leaves-good C m =
       proper-facts (L .w) (L .h) C
       (leaves-proper (L .w) (L .h) (meshOf L) (blendsOf t) (λ B k. all-at (proper (L .w) (L .h)) (blendsOf t) (r .good) B k) C m)
+
+-- what is left of the first four are the live blends
+pub first-refined : (L : Lines) → allowed L ≡ true → refined L (table (firstFour (L .w) (L .h))) ≡ fitted (live (L .w) (L .h) (meshOf L))
+unfolding live
+first-refined L ok =
+    let first = firstFour (L .w) (L .h) in
+    let s = allowed-says L ok in
+    let good = all-of (proper (L .w) (L .h)) first (first-proper (L .w) (L .h) (s .across .0) (s .up .0)) in
+    is-refined (record { ok = ok; few = rw (table-count first) (omega arith); good = rw (table-blends first) good }) ∙ rw (table-blends first)
 
 -- the bytes that were drawn are the lines' mesh
 pub drawn-mesh : (L : Lines) (ups lvs : List ℕ) →
@@ -105,27 +123,28 @@ module _ {L : Lines} {t : Table} {P : List ℕ} (c : Cut L t P) where
   clear : getD P 0 0 ≡ 0 → getD (keepAll (c .before) (leavesOf (meshOf L) (blendsOf t))) 0 0 ≡ 0
   clear z = sym (ap (λ (X : List ℕ). getD X 0 0) (c .all-kept)) ∙ z
 
-  -- two blends that met at a place: no sound map
+  -- two blends that met at a place: a table does not hold them
   pub met-refused : (getD P 0 0 ≡ 0 → ⊥) → refused ≡ refined L t
   unfolding refine
   met-refused ne =
-      sym (is-answer (c .ranges) ∙ unsound-answer (L .w) (L .h) _
-      (met-unsound (L .w) (L .h) w-most h-most (c .before) start (leavesOf (meshOf L) (blendsOf t)) (leaves-good (c .ranges))
+      sym (is-refined (c .ranges) ∙ clash-unfit _
+      (met-clash (L .w) (L .h) w-most h-most (c .before) start (leavesOf (meshOf L) (blendsOf t)) (leaves-good (c .ranges))
       (λ e. ne (ap (λ (X : List ℕ). getD X 0 0) (c .all-kept) ∙ e))))
 
-  -- else the places hold the blends that are left, and judging them answers
-  pub places-held : getD P 0 0 ≡ 0 → Holding (L .w) (L .h) P
-  places-held z =
-      subst (Holding (L .w) (L .h)) (sym (c .all-kept))
-      (walk-holding (L .w) (L .h) w-most h-most (c .before) start (leavesOf (meshOf L) (blendsOf t)) (leaves-good (c .ranges)) (clear z))
+  pub places-square : Square P
+  places-square =
+      subst Square (sym (c .all-kept))
+      (kept-square (L .w) (L .h) w-most h-most (c .before) start (leavesOf (meshOf L) (blendsOf t)) (leaves-good (c .ranges)))
 
-  pub judged : getD P 0 0 ≡ 0 → answer (L .w) (L .h) (walk (L .w) (L .h) P) ≡ refined L t
-  unfolding refine
-  judged z =
-      ap (λ (X : List ℕ). answer (L .w) (L .h) (walk (L .w) (L .h) X)) (c .all-kept) ∙
-      ap (answer (L .w) (L .h))
+  -- else reading the places out answers
+  pub read-refined : getD P 0 0 ≡ 0 → listed (walk (L .w) (L .h) P) ≡ refined L t
+  unfolding refine fitted listed
+  read-refined z =
+      ap (λ (X : List ℕ). listed (walk (L .w) (L .h) X)) (c .all-kept) ∙
+      ap listed
       (walk-table (L .w) (L .h) w-most h-most (c .before) start (leavesOf (meshOf L) (blendsOf t)) (leaves-good (c .ranges)) (clear z)) ∙
-      sym (is-answer (c .ranges))
+      sym (is-refined (c .ranges) ∙
+      rw (none-met (L .w) (L .h) w-most h-most (c .before) start (leavesOf (meshOf L) (blendsOf t)) (leaves-good (c .ranges)) (clear z)))
 
 -- four blends at the front of an empty table
 pub four-set : (bs : List Blend) (A B C D : Blend) → bs ≡ table [] .blends →

@@ -1,15 +1,15 @@
 -- How the code holds a mesh and its blends while it works. Only contracts of functions that the crate keeps to itself cite this file.
-use Prim.Native.Nat.{ℕ, _+_, _*_, _-_, _/_, _%_, _<_, _≤_}
+use Prim.Native.Nat.{ℕ, _+_, _*_, _/_, _%_, _<_, _≤_}
 use mathlib.Core.Path.{_≡_}
 use mathlib.Core.Bool.{Bool, true, false, cond, _&&_, _||_, not}
 use mathlib.Core.List.{List, [], _∷_, List·Memᴰ}
 use lib.Dec.{ltb, leb, eqb}
 use lib.ListN.{length, getD, set, replicate}
-use Rattle.mesh.specs.Range.{every, each, only}
+use Rattle.mesh.specs.Range.{each}
 use Rattle.mesh.specs.Triple.{triple}
 use Rattle.mesh.specs.Lines.{Direction, upright, level, Mesh}
-use Rattle.mesh.specs.Blends.{blend, anchored}
-use Rattle.mesh.specs.Sound.{proper, overSquare, table}
+use Rattle.mesh.specs.Blends.{blend}
+use Rattle.mesh.specs.Sound.{table}
 use Rattle.mesh.specs.declared.Triple.{Triple}
 use Rattle.mesh.specs.declared.Blend.{Blend}
 use Rattle.mesh.specs.declared.Refined.{Refined}
@@ -84,57 +84,9 @@ pub record Drawn (before after : List ℕ) (z from to : ℕ) : Type 0 where
   pub square : Square after
   pub on : (y k : ℕ) → stepOn after y k ≡ (stepOn before y k || (eqb y z && leb from k && ltb k to))
 
--- places that hold nothing but proper blends of a map of these sides
-pub record Holding (w h : ℕ) (places : List ℕ) : Type 0 where
-  pub square : Square places
-  pub holds : (m n : ℕ) → 1 ≤ m → m ≤ w + 1 → 1 ≤ n → n ≤ h + 1 → (getD places (at m n) 0 ≡ 0 → ⊥) →
-      proper w h (unpacked m n (getD places (at m n) 0)) ≡ true
-
--- how many of the blends lie over each unit square of the domain
-abbrev pub Counted : ℕ → ℕ → List Blend → List ℕ → Type 0
-Counted w h bs counts =
-    (x y : ℕ) → 1 ≤ x → x ≤ w → 1 ≤ y → y ≤ h → getD counts (at x y) 0 ≡ length (only (overSquare x y) bs)
-
--- what adding one to each count of a run of places does; and that one of them has four already
-pub record RunAdded (from to : ℕ) (before after : List ℕ) : Type 0 where
-  pub long : length after ≡ length before
-  pub adds : (k : ℕ) → getD after k 0 ≡ getD before k 0 + cond (leb from k && ltb k to) 1 0
-
-pub record RunFull (from to : ℕ) (counts : List ℕ) : Type 0 where
-  pub k : ℕ
-  pub low : from ≤ k
-  pub high : k < to
-  pub four : 4 ≤ getD counts k 0
-
--- what a blend adds to the counts: one for each square of the domain in its support, nothing for the others
-pub record Added (w h : ℕ) (B : Blend) (before after : List ℕ) : Type 0 where
-  pub square : Square after
-  pub adds : (x y : ℕ) → 1 ≤ x → x ≤ w → 1 ≤ y → y ≤ h →
-      getD after (at x y) 0 ≡ getD before (at x y) 0 + cond (overSquare x y B) 1 0
-
--- some square of the domain in the blend's support has four already
-pub record Crowded (w h : ℕ) (B : Blend) (counts : List ℕ) : Type 0 where
-  pub x : ℕ
-  pub y : ℕ
-  pub left : 1 ≤ x
-  pub right : x ≤ w
-  pub bottom : 1 ≤ y
-  pub top : y ≤ h
-  pub over : overSquare x y B ≡ true
-  pub four : 4 ≤ getD counts (at x y) 0
-
--- a place holds no blend other than B; and so do all that are strictly inside B's support
-abbrev pub lone : List ℕ → Blend → ℕ → ℕ → Bool
-lone places B i j = eqb (getD places (at i j) 0) 0 || anchored i j B
-
-abbrev pub clear : List ℕ → Blend → Bool
-clear places B =
-    every (B .across .l + 1) (B .across .r - (B .across .l + 1)) (λ i.
-    every (B .up .l + 1) (B .up .r - (B .up .l + 1)) (lone places B i))
-
--- the answer where no sound map is found; and blends in a table, where it holds them
+-- the answer where a table does not hold the blends; and blends with an anchor each in a table, where there is room
 abbrev pub refused : Refined
-refused = record { sound = false; table = table [] }
+refused = record { fits = false; table = table [] }
 
 unfoldable pub listed : List Blend → Refined
-listed bs = cond (leb (length bs) 1024) (record { sound = true; table = table bs }) refused
+listed bs = cond (leb (length bs) 1024) (record { fits = true; table = table bs }) refused

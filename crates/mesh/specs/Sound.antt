@@ -7,11 +7,12 @@ use lib.ListN.{length, take, replicate}
 use Rattle.mesh.specs.Range.{every, all, any, only}
 use Rattle.mesh.specs.Triple.{triple, rising, spans, stepsIn, between}
 use Rattle.mesh.specs.Lines.{meshOf, allowed}
-use Rattle.mesh.specs.Blends.{blend, same, isCut, refine, firstFour}
+use Rattle.mesh.specs.Blends.{blend, same, anchored, isCut, refine, live}
 use Rattle.mesh.specs.declared.Blend.{Blend}
 use Rattle.mesh.specs.declared.Lines.{Lines}
 use Rattle.mesh.specs.declared.Table.{Table}
 use Rattle.mesh.specs.declared.Refined.{Refined}
+use Rattle.mesh.specs.declared.Judged.{Judged}
 
 -- the unit square whose low corner is at knots (x, y) lies in the blend's support
 abbrev pub overSquare : ℕ → ℕ → Blend → Bool
@@ -55,25 +56,46 @@ table bs = record { count = length bs; blends = bs ++ replicate (1024 - length b
 abbrev pub blendsOf : Table → List Blend
 blendsOf t = take (t .count) (t .blends)
 
--- the answer on a list of blends in table order: their table, where they make a sound map and a table holds them
-unfoldable pub answer : ℕ → ℕ → List Blend → Refined
-answer w h bs =
-    cond (sound w h bs && leb (length bs) 1024)
-    (record { sound = true; table = table bs })
-    (record { sound = false; table = table [] })
+-- Whether the areas of a table's blends add up to four times the domain; no where sides or count are out of range.
+-- Of the live blends of a map this says that it is sound: `by-area`.
+unfoldable pub full : ℕ → ℕ → Table → Bool
+full w h t = leb w 128 && leb h 128 && leb (t .count) 1024 && eqb (areas w h (blendsOf t)) (4 * (w * h))
+
+-- two different blends have one anchor; no two of a list do
+abbrev pub clash : Blend → Blend → Bool
+clash B C = not (same B C) && anchored (C .across .m) (C .up .m) B
+
+unfoldable pub ownAnchors : List Blend → Bool
+ownAnchors bs = all (λ B. all (λ C. not (clash B C)) bs) bs
+
+-- some blends in a table, where it holds them: each has an anchor of its own, and they are no more than its places
+unfoldable pub fitted : List Blend → Refined
+fitted bs =
+    cond (ownAnchors bs && leb (length bs) 1024)
+    (record { fits = true; table = table bs })
+    (record { fits = false; table = table [] })
 
 -- What is left of the blends of a table when the lines cut them; nothing where the lines or the blends are out of range.
 unfoldable pub refined : Lines → Table → Refined
 refined L t =
-    let found = answer (L .w) (L .h) (refine (L .w) (L .h) (meshOf L) (blendsOf t)) in
+    let found = fitted (refine (L .w) (L .h) (meshOf L) (blendsOf t)) in
     cond (allowed L && leb (t .count) 1024 && all (proper (L .w) (L .h)) (blendsOf t)) found
-    (record { sound = false; table = table [] })
+    (record { fits = false; table = table [] })
 
 -- whether the lines cut some blend of a table; no where the lines or the blends are out of range
 unfoldable pub someCut : Lines → Table → Bool
 someCut L t =
     allowed L && leb (t .count) 1024 && all (proper (L .w) (L .h)) (blendsOf t) && any (isCut (meshOf L)) (blendsOf t)
 
--- the live blends of a map, cut anew from the first four
-unfoldable pub liveTable : Lines → Refined
-liveTable L = refined L (table (firstFour (L .w) (L .h)))
+-- the answer on a list of blends in table order: their table, where they make a sound map and a table holds them
+unfoldable pub answer : ℕ → ℕ → List Blend → Judged
+answer w h bs =
+    cond (sound w h bs && leb (length bs) 1024)
+    (record { sound = true; table = table bs })
+    (record { sound = false; table = table [] })
+
+-- the live blends of a map, where it is sound; nothing where the lines are out of range
+unfoldable pub liveTable : Lines → Judged
+liveTable L =
+    let found = answer (L .w) (L .h) (live (L .w) (L .h) (meshOf L)) in
+    cond (allowed L) found (record { sound = false; table = table [] })

@@ -1,5 +1,6 @@
 // Tables of live blends: cut anew, or refined by one line more.
 use crate::Blend;
+use crate::Judged;
 use crate::Lines;
 use crate::Refined;
 use crate::Table;
@@ -7,8 +8,9 @@ use crate::Triple;
 use crate::cut::any_cut;
 use crate::cut::cut_all;
 use crate::cut::proper_table;
-use crate::judge::judge;
-use crate::judge::refusal;
+use crate::judge::full;
+use crate::read::read_out;
+use crate::read::refusal;
 use crate::steps::allowed_lines;
 use crate::steps::draw_lines;
 ghost use mathlib.Core.Path.{_≡_};
@@ -35,7 +37,7 @@ fn in_ranges(lines: Lines, old: Table) -> bool
     proper_table(old, lines.w, lines.h)
 }
 
-// What is left of the table's blends when the lines cut them, in table order, if that makes a sound map.
+// What is left of the table's blends when the lines cut them, in table order, if a table holds them.
 // From the live blends of a map with fewer lines, these are the live blends of the map.
 pub fn refine(lines: Lines, old: Table) -> Refined
     ensures { λ r. ⌜ r ≡ refined lines old ⌝ }
@@ -47,12 +49,12 @@ pub fn refine(lines: Lines, old: Table) -> Refined
     let mut levels = [0u8; 17161];
     draw_lines(lines, 0, &mut uprights);
     draw_lines(lines, 1, &mut levels);
-    let mut places = [0u64; 17161];
+    let mut places = [0u32; 17161];
     cut_all(&uprights, &levels, old, &mut places);
     if places[0] != 0 {
         return refusal();
     }
-    judge(&places, lines.w, lines.h)
+    read_out(&places, lines.w, lines.h)
 }
 
 // The two triples of the first blends, on one axis.
@@ -63,7 +65,7 @@ fn low(side: usize) -> Triple
     Triple {
         l: 0,
         m: 1,
-        r: side + 1,
+        r: (side + 1) as u8,
     }
 }
 
@@ -73,8 +75,8 @@ fn high(side: usize) -> Triple
 {
     Triple {
         l: 1,
-        m: side + 1,
-        r: side + 2,
+        m: (side + 1) as u8,
+        r: (side + 2) as u8,
     }
 }
 
@@ -104,14 +106,30 @@ fn first_four(w: usize, h: usize) -> Table
     t
 }
 
-// The live blends of a map, cut anew from the first four.
-pub fn live(lines: Lines) -> Refined
+// The live blends of a map, cut anew from the first four, if it is sound.
+pub fn live(lines: Lines) -> Judged
     ensures { λ r. ⌜ r ≡ liveTable lines ⌝ }
 {
+    let none = refusal().table;
+    let unsound = Judged {
+        sound: false,
+        table: none,
+    };
     if !allowed_lines(lines) {
-        return refusal();
+        return unsound;
     }
-    refine(lines, first_four(lines.w, lines.h))
+    let found = refine(lines, first_four(lines.w, lines.h));
+    if !found.fits {
+        return unsound;
+    }
+    let t = found.table;
+    if !full(t, lines.w, lines.h) {
+        return unsound;
+    }
+    Judged {
+        sound: true,
+        table: t,
+    }
 }
 
 // Whether the lines cut some blend of the table.

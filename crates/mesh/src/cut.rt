@@ -2,6 +2,9 @@
 use crate::Blend;
 use crate::Table;
 use crate::Triple;
+use crate::knots::pack;
+use crate::knots::place;
+use crate::knots::wide;
 use crate::steps::covers;
 ghost use mathlib.Core.Path.{_≡_};
 ghost use mathlib.Core.Bool.{true, cond};
@@ -14,7 +17,7 @@ ghost use Rattle.mesh.specs.Sound.{proper, blendsOf};
 ghost use Rattle.mesh.specs.Bytes.{Square, stepOn, bytesMesh, Rises, Proper, keep, keepAll};
 
 // The nearest line below the middle that covers the n steps from knot b on; 0 if there is none.
-fn nearest_below(steps: &[u8], x: Triple, b: usize, n: usize) -> usize
+fn nearest_below(steps: &[u8], x: Triple, b: u8, n: u8) -> u8
     requires { ⌜ Square (now steps) × Rises x × (b + n ≤ 131) ⌝ }
     ensures { λ r. ⌜ r ≡ below (λ z. every b n (stepOn (now (steps .entry)) z)) (x .l) (x .m - x .l - 1) ⌝ }
 {
@@ -30,7 +33,7 @@ fn nearest_below(steps: &[u8], x: Triple, b: usize, n: usize) -> usize
 }
 
 // The nearest line above the middle that covers the n steps from knot b on; 0 if there is none.
-fn nearest_above(steps: &[u8], x: Triple, b: usize, n: usize) -> usize
+fn nearest_above(steps: &[u8], x: Triple, b: u8, n: u8) -> u8
     requires { ⌜ Square (now steps) × Rises x × (b + n ≤ 131) ⌝ }
     ensures { λ r. ⌜ r ≡ above (λ z. every b n (stepOn (now (steps .entry)) z)) (x .r) (x .r - x .m - 1) ⌝ }
 {
@@ -46,7 +49,7 @@ fn nearest_above(steps: &[u8], x: Triple, b: usize, n: usize) -> usize
 }
 
 // The line that cuts a triple first, if it covers the n steps from knot b on; 0 if none does.
-fn first_line(steps: &[u8], x: Triple, b: usize, n: usize) -> usize
+fn first_line(steps: &[u8], x: Triple, b: u8, n: u8) -> u8
     requires { ⌜ Square (now steps) × Rises x × (b + n ≤ 131) ⌝ }
     ensures { λ r. ⌜ r ≡ nearest (λ z. every b n (stepOn (now (steps .entry)) z)) x ⌝ }
 {
@@ -57,7 +60,7 @@ fn first_line(steps: &[u8], x: Triple, b: usize, n: usize) -> usize
     nearest_above(steps, x, b, n)
 }
 
-fn lower_half(z: usize, x: Triple) -> Triple
+fn lower_half(z: u8, x: Triple) -> Triple
     ensures { λ r. ⌜ r ≡ half lower z x ⌝ }
 {
     if z < x.m {
@@ -75,7 +78,7 @@ fn lower_half(z: usize, x: Triple) -> Triple
     }
 }
 
-fn upper_half(z: usize, x: Triple) -> Triple
+fn upper_half(z: u8, x: Triple) -> Triple
     ensures { λ r. ⌜ r ≡ half upper z x ⌝ }
 {
     if z < x.m {
@@ -94,24 +97,22 @@ fn upper_half(z: usize, x: Triple) -> Triple
 }
 
 // Keeps a blend at its anchor's place.
-pub(crate) fn keep_blend(places: &mut [u64], x: Blend)
+pub(crate) fn keep_blend(places: &mut [u32], x: Blend)
     requires { ⌜ Square (now places) × Proper x ⌝ }
     ensures { λ _. ⌜ now (places .exit) ≡ keep (now (places .entry)) x ⌝ }
 {
-    let a = x.across;
-    let u = x.up;
-    let place = a.m * 131 + u.m;
-    let packed = ((a.l * 256 + a.r) * 256 + u.l) * 256 + u.r;
+    let place = place(x);
+    let packed = pack(x);
     let old = places[place];
     if old == 0 {
-        places[place] = packed as u64;
-    } else if old != packed as u64 {
+        places[place] = packed;
+    } else if old != packed {
         places[0] = 1;
     }
 }
 
 // Cuts a blend by uprights and hands the halves to the level cuts. `tried` tells that no level cuts the blend.
-fn cut_across(uprights: &[u8], levels: &[u8], x: Blend, tried: bool, places: &mut [u64])
+fn cut_across(uprights: &[u8], levels: &[u8], x: Blend, tried: bool, places: &mut [u32])
     requires { ⌜ Square (now uprights) × Square (now levels) × Square (now places) × Proper x ×
         (tried ≡ true → cutter (bytesMesh (now uprights) (now levels)) level x ≡ 0) ⌝ }
     ensures { λ _. ⌜ ((f : ℕ) → size x ≤ f → now (places .exit) ≡
@@ -151,7 +152,7 @@ fn cut_across(uprights: &[u8], levels: &[u8], x: Blend, tried: bool, places: &mu
 }
 
 // Cuts a blend by levels and hands the halves back to the upright cuts. `tried` tells that no upright cuts the blend.
-fn cut_up(uprights: &[u8], levels: &[u8], x: Blend, tried: bool, places: &mut [u64])
+fn cut_up(uprights: &[u8], levels: &[u8], x: Blend, tried: bool, places: &mut [u32])
     requires { ⌜ Square (now uprights) × Square (now levels) × Square (now places) × Proper x ×
         (tried ≡ true → cutter (bytesMesh (now uprights) (now levels)) upright x ≡ 0) ⌝ }
     ensures { λ _. ⌜ ((f : ℕ) → size x ≤ f → now (places .exit) ≡
@@ -201,7 +202,7 @@ fn rises(x: Triple, side: usize) -> bool
     if x.r <= x.m {
         return false;
     }
-    x.r <= side + 2
+    wide(x.r) <= side + 2
 }
 
 // Whether the table's blends all rise within the sides.
@@ -225,7 +226,7 @@ pub(crate) fn proper_table(table: Table, w: usize, h: usize) -> bool
 }
 
 // Cuts every blend of a table to the end and keeps what is left.
-pub(crate) fn cut_all(uprights: &[u8], levels: &[u8], table: Table, places: &mut [u64])
+pub(crate) fn cut_all(uprights: &[u8], levels: &[u8], table: Table, places: &mut [u32])
     requires { ⌜ Square (now uprights) × Square (now levels) × Square (now places) × (table .count ≤ 1024) ×
         (all (proper 128 128) (blendsOf table) ≡ true) ⌝ }
     ensures { λ _. ⌜ now (places .exit) ≡

@@ -4,15 +4,17 @@
 
 pub mod blends;
 mod cut;
-mod judge;
+pub mod judge;
+pub mod knots;
 pub mod points;
+mod read;
 mod steps;
 
 // One axis of a blend: its three knots, rising.
 pub struct Triple {
-    pub l: usize,
-    pub m: usize,
-    pub r: usize,
+    pub l: u8,
+    pub m: u8,
+    pub r: u8,
 }
 
 // A blend: its triples across and up. Its anchor is the two middles, its support the two outer pairs.
@@ -43,8 +45,14 @@ pub struct Table {
     pub blends: [Blend; 1024],
 }
 
-// Whether the blends are those of a sound map, and if so their table; else an empty one.
+// Whether a table holds the blends, each at an anchor of its own, and if so that table; else an empty one.
 pub struct Refined {
+    pub fits: bool,
+    pub table: Table,
+}
+
+// Whether the blends are those of a sound map, and if so their table; else an empty one.
+pub struct Judged {
     pub sound: bool,
     pub table: Table,
 }

@@ -1,6 +1,7 @@
 // A mesh in bytes: a byte for each unit step of the lines of one direction.
 use crate::Lines;
 use crate::Split;
+use crate::knots::wide;
 ghost use mathlib.Core.Path.{_≡_};
 ghost use mathlib.Core.Bool.{true, _||_};
 ghost use Prim.Native.Nat.{ℕ, _+_, _≤_, _<_, max};
@@ -9,14 +10,15 @@ ghost use Rattle.mesh.specs.Lines.{Direction, number, other, side, start
 ghost use Rattle.mesh.specs.Bytes.{Square, stepOn, Drawn, empty};
 
 // Whether the line at knot z is on at each of the n steps from knot b on.
-pub(crate) fn covers(steps: &[u8], z: usize, b: usize, n: usize) -> bool
+pub(crate) fn covers(steps: &[u8], z: u8, b: u8, n: u8) -> bool
     requires { ⌜ Square (now steps) × (z < 131) × (b + n ≤ 131) ⌝ }
     ensures { λ r. ⌜ r ≡ every b n (stepOn (now (steps .entry)) z) ⌝ }
 {
-    let mut k = b;
-    let mut left = n;
+    let row = wide(z) * 131;
+    let mut k = wide(b);
+    let mut left = wide(n);
     while 0 < left {
-        if steps[z * 131 + k] == 0 {
+        if steps[row + k] == 0 {
             return false;
         }
         k += 1;

@@ -32,14 +32,17 @@ returns c =
     let a = start .args in
     rw (outer-coordinate (a .knot) (at .if1 .taken)) (puts-then (a .out .now) (a .at) (45 ∷ []) (49 ∷ []) (rw (outer-coordinate (a .knot) (at .if1 .taken)) at (start .pre)) (put .put-byte .ensures) (last .put-byte2 .ensures))
 
-sub-put-digits : tie.Need-sub-put-digits
-sub-put-digits c = search needs
+sub-wide : tie.Need-sub-wide
+sub-wide c = search needs
+
+wide-requires : tie.Need-wide-requires
+wide-requires c κs = search needs
 
 put-digits-requires : tie.Need-put-digits-requires
 put-digits-requires c κs =
-    let at = c .before in
+    let at = c .before .before in
     let start = at .before .before in
-    rw (inner-coordinate (start .args .knot) (at .if1 .left)) at (start .pre)
+    rw (c .wide .ensures) (rw (inner-coordinate (start .args .knot) (at .if1 .left)) at (start .pre))
 
 same-length-2 : tie.Need-same-length-2
 same-length-2 c = search needs
@@ -47,9 +50,9 @@ same-length-2 c = search needs
 returns-2 : tie.Need-returns-2
 returns-2 c =
     let put = c .before .before in
-    let at = put .before .before in
+    let at = put .before .before .before in
     let start = at .before .before in
-    rw (inner-coordinate (start .args .knot) (at .if1 .left)) (put .put-digits .ensures)
+    rw (inner-coordinate (start .args .knot) (at .if1 .left)) (rw (put .before .wide .ensures) at (put .put-digits .ensures))
 
 pub put-coordinate-spec : {M : Type 1} → statement M
 put-coordinate-spec =
@@ -59,7 +62,8 @@ put-coordinate-spec =
     put-byte-requires-2
     same-length
     returns
-    sub-put-digits
+    sub-wide
+    wide-requires
     put-digits-requires
     same-length-2
     returns-2)

@@ -1,7 +1,7 @@
 -- `maps::carry::carried_values` meets its contract. The invariant: the values of the blends passed stand in front, and zeros behind them.
 use Prim.Native.Nat.{ℕ, _+_, _-_, _≤_}
 use native.Mathlib.Omega.{arith}
-use mathlib.Core.Path.{_≡_, refl, sym, _∙_}
+use mathlib.Core.Path.{_≡_, refl, sym, ap, _∙_}
 use mathlib.Core.Logic.{⊎-elim}
 use mathlib.Core.Bool.{true}
 use mathlib.Core.List.{_++_, map}
@@ -102,53 +102,70 @@ mul-x c = omega arith
 element-copy-out-x : tie.Need-element-copy-out-x Inv-loop μ-loop
 element-copy-out-x c = omega arith
 
+place-requires : tie.Need-place-requires Inv-loop μ-loop
+place-requires c κs = tt
+
 mul-place : tie.Need-mul-place Inv-loop μ-loop
-mul-place c = omega (arith, on (c .before) .in-square)
-
-add-place : tie.Need-add-place Inv-loop μ-loop
-add-place c = omega (arith, on (c .before) .in-square)
-
-mul-place-2 : tie.Need-mul-place-2 Inv-loop μ-loop
-mul-place-2 c = omega (arith, on (c .before) .in-square)
+mul-place c = omega (arith, c .place .ensures, on (c .before .before) .in-square)
 
 array-read-place : tie.Need-array-read-place Inv-loop μ-loop
-array-read-place c = omega (arith, on (c .before) .in-square)
+array-read-place c = omega (arith, c .place .ensures, on (c .before .before) .in-square)
+
+-- what is read there
+read : (c : tie.After-place Inv-loop μ-loop) →
+    let index = c .before .before .before .before .before .index-anchors .last .1 .0 in
+    getD index (c .place .result) 0 ≡ getD index (place (next (c .before .before))) 0
+read c = rw (c .place .ensures)
 
 cast-place : tie.Need-cast-place Inv-loop μ-loop
-cast-place c = omega (arith, most (c .before))
+cast-place c = omega (arith, read c, most (c .before .before))
+
+wide-requires : tie.Need-wide-requires Inv-loop μ-loop
+wide-requires c κs = tt
+
+wide-requires-2 : tie.Need-wide-requires-2 Inv-loop μ-loop
+wide-requires-2 c κs = tt
 
 sub-reading-of : tie.Need-sub-reading-of Inv-loop μ-loop
-sub-reading-of c = omega (arith, knots (c .before .before) .0)
+sub-reading-of c = omega (arith, c .before .wide .ensures, knots (c .before .before .before .before .before) .0)
 
 sub-reading-of-2 : tie.Need-sub-reading-of-2 Inv-loop μ-loop
-sub-reading-of-2 c = omega (arith, knots (c .before .before) .2)
+sub-reading-of-2 c = omega (arith, c .wide2 .ensures, knots (c .before .before .before .before .before) .2)
 
 reading-of-requires : tie.Need-reading-of-requires Inv-loop μ-loop
 reading-of-requires c κs =
-    let s = c .before .before .before .before .before .before .before in
-    let old = s .pre .0 in
-    let t = old-table old in
-    let k = knots (c .before .before) in (
+    let t = c .before .before .before .before .before in
+    let old = t .before .before .before .before .before .pre .0 in
+    let o = old-table old in
+    let k = knots t in (
       count-most old,
-      t .0,
-      t .1,
+      o .0,
+      o .1,
       old .sides .0,
       old .sides .1,
       old .sides .2,
       old .sides .3,
-      k .1,
-      k .3,
+      rw (c .before .wide .ensures) (k .1),
+      rw (c .wide2 .ensures) (k .3),
     )
+
+-- the reading at the next blend's anchor
+taken : (c : tie.After-reading-of Inv-loop μ-loop) →
+    let t = c .before .before .before .before .before .before in
+    let a = t .before .before .before .before .before .args in
+    c .reading-of .result ≡ readingAt (blendsOf (a .old)) (take (a .old .count) (a .t2)) (next t .across .m - 1) (next t .up .m - 1)
+taken c = rw (c .before .before .wide .ensures, c .before .wide2 .ensures) at (c .reading-of .ensures)
 
 cast-carried : tie.Need-cast-carried Inv-loop μ-loop
 cast-carried c =
-    let s = c .before .before .before .before .before .before .before .before in
+    let t = c .before .before .before .before .before .before in
+    let s = t .before .before .before .before .before in
     let old = s .pre .0 in
-    let k = knots (c .before .before .before) in
-    let x = next (c .before .before .before) in
+    let k = knots t in
+    let x = next t in
     let u : x .across .m - 1 ≤ old .of .w = rw (old .across) (k .1) in
     let v : x .up .m - 1 ≤ old .of .h = rw (old .up) (k .3) in
-    let is : c .reading-of .result ≡ readingAt (blends (old .of)) (old .of .values) (x .across .m - 1) (x .up .m - 1) = rw (blends-of old, values-of old) at (c .reading-of .ensures) in
+    let is : c .reading-of .result ≡ readingAt (blends (old .of)) (old .of .values) (x .across .m - 1) (x .up .m - 1) = rw (blends-of old, values-of old) at (taken c) in
     omega (arith, is, reading-most (old .of) (valued s) (x .across .m - 1) (x .up .m - 1) u v)
 
 mul-carried : tie.Need-mul-carried Inv-loop μ-loop
@@ -161,10 +178,10 @@ sub-carried : tie.Need-sub-carried Inv-loop μ-loop
 sub-carried c = let ne = c .if1 .left in omega arith
 
 mul-carried-2 : tie.Need-mul-carried-2 Inv-loop μ-loop
-mul-carried-2 c = omega (arith, most (c .before .before))
+mul-carried-2 c = omega (arith, read (c .before), most (c .before .before .before))
 
 array-read-carried : tie.Need-array-read-carried Inv-loop μ-loop
-array-read-carried c = omega (arith, most (c .before .before), c .if1 .left)
+array-read-carried c = omega (arith, read (c .before), most (c .before .before .before), c .if1 .left)
 
 mul-carried-3 : tie.Need-mul-carried-3 Inv-loop μ-loop
 mul-carried-3 c = omega arith
@@ -195,14 +212,20 @@ fill c v e =
 
 loop-again : tie.Need-loop-again Inv-loop μ-loop
 loop-again c =
-    let t = c .before .before in
+    let p = c .before in
+    let t = p .before .before in
     let a = t .before .before .before .before .before .args in (
       omega arith,
       ⊎-elim
-          (λ w. w .2 ∙ fill t _ (w .1 .ensures ∙ sym (carried-new _ (blendsOf (a .old)) (noted t) (next t) (on t) _ (w .0 .taken))))
+          (λ w.
+          w .4 ∙ fill t _
+          (taken (record { before = record { before = record { before = record { before = p; if1 = w .0 }; wide = w .1 }; wide2 = w .2 }; reading-of = w .3 }) ∙
+          sym (carried-new _ (blendsOf (a .old)) (noted t) (next t) (on t) _ (sym (read p) ∙ w .0 .taken))))
           (λ w.
           let i = getD (t .before .before .before .index-anchors .last .1 .0) (place (next t)) 0 in
-          w .1 ∙ fill t _ (sym (getD-take (a .old .count) (a .t2) (i - 1) 0 (omega (arith, most t .0, w .0 .left))) ∙ sym (carried-old _ (blendsOf (a .old)) (noted t) (next t) (on t) _ (w .0 .left))))
+          let ne : i ≡ 0 → ⊥ = λ z. w .0 .left (read p ∙ z) in
+          w .1 ∙ fill t _
+          (ap (λ (n : ℕ). getD (a .t2) (n - 1) 0) (read p) ∙ sym (getD-take (a .old .count) (a .t2) (i - 1) 0 (omega (arith, most t .0))) ∙ sym (carried-old _ (blendsOf (a .old)) (noted t) (next t) (on t) _ ne)))
           (c .if1 .came),
     )
 
@@ -226,11 +249,12 @@ carried-values-spec =
     loop-holds
     mul-x
     element-copy-out-x
+    place-requires
     mul-place
-    add-place
-    mul-place-2
     array-read-place
     cast-place
+    wide-requires
+    wide-requires-2
     sub-reading-of
     sub-reading-of-2
     reading-of-requires

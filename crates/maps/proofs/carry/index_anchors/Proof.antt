@@ -23,27 +23,27 @@ abbrev μ-loop : tie.MeasureT-loop
 μ-loop index₀ table count i₀ index i = count - i
 
 loop-holds : tie.Need-loop-holds Inv-loop μ-loop
-loop-holds c = (omega arith, refl, c .pre .2, refl)
+loop-holds c = (omega arith, refl, c .before .pre .2, refl)
 
 -- the next blend, and those behind it
 turn : (c : tie.In-loop Inv-loop μ-loop) →
     let l = c .before .loop in
-    let a = c .before .before .args in
+    let a = c .before .before .before .args in
     drop (l .i) (blendsOf (a .t1)) ≡ getD (a .t1 .blends) (l .i) none ∷ drop (l .i + 1) (blendsOf (a .t1))
 turn c =
     let l = c .before .loop in
-    let b = c .before .before in
+    let b = c .before .before .before in
     let full : length (b .args .t1 .blends) ≡ 1024 = simp length-map at (b .good .0 .1 .1 .1 .0 .1 .0 .1) in
     blends-turn (b .args .t1) (l .i) (omega arith) (omega arith)
 
 -- its anchor has a place in the index, and the others are proper still
 next-turn : (c : tie.In-loop Inv-loop μ-loop) →
     let l = c .before .loop in
-    let a = c .before .before .args in
+    let a = c .before .before .before .args in
     (place (getD (a .t1 .blends) (l .i) none) < 17161) × (all (proper 128 128) (drop (l .i + 1) (blendsOf (a .t1))) ≡ true)
 next-turn c =
     let l = c .before .loop in
-    let a = c .before .before .args in
+    let a = c .before .before .before .args in
     let x = getD (a .t1 .blends) (l .i) none in
     let p = and-both (proper 128 128 x) (all (proper 128 128) (drop (l .i + 1) (blendsOf (a .t1)))) (rw (turn c) at (l .inv .2)) in
     let q = proper-of 128 128 x (omega arith) (omega arith) (p .0) in
@@ -57,11 +57,8 @@ mul-x c = omega arith
 element-copy-out-x : tie.Need-element-copy-out-x Inv-loop μ-loop
 element-copy-out-x c = omega arith
 
-mul-place : tie.Need-mul-place Inv-loop μ-loop
-mul-place c = omega (arith, next-turn (c .before .before) .0)
-
-add-place : tie.Need-add-place Inv-loop μ-loop
-add-place c = omega (arith, next-turn (c .before .before .before) .0)
+place-requires : tie.Need-place-requires Inv-loop μ-loop
+place-requires c κs = tt
 
 add-i : tie.Need-add-i Inv-loop μ-loop
 add-i c = omega arith
@@ -70,10 +67,11 @@ cast-index : tie.Need-cast-index Inv-loop μ-loop
 cast-index c = omega arith
 
 mul-index : tie.Need-mul-index Inv-loop μ-loop
-mul-index c = omega (arith, next-turn (c .before .before .before) .0)
+mul-index c = record { fits = omega (arith, c .place .ensures, next-turn (c .before .before) .0) }
 
 slice-write-index : tie.Need-slice-write-index Inv-loop μ-loop
-slice-write-index c = omega (arith, next-turn (c .before .before .before) .0)
+slice-write-index c =
+    omega (arith, c .place .ensures, next-turn (c .before .before) .0, c .before .before .before .loop .inv .1)
 
 loop-less : tie.Need-loop-less Inv-loop μ-loop
 loop-less c = omega arith
@@ -81,12 +79,12 @@ loop-less c = omega arith
 loop-again : tie.Need-loop-again Inv-loop μ-loop
 unfolding anchorIndex
 loop-again c =
-    let l = c .before .before .before .before .loop in
-    let t = c .before .before .before in (
+    let t = c .before .before in
+    let l = t .before .loop in (
       omega arith,
       simp length-set (l .inv .1),
       next-turn t .1,
-      rw (turn t) at (l .inv .3),
+      rw (c .place .ensures) (rw (turn t) at (l .inv .3)),
     )
 
 same-length : tie.Need-same-length Inv-loop μ-loop
@@ -96,7 +94,7 @@ returns : tie.Need-returns Inv-loop μ-loop
 unfolding anchorIndex
 returns c =
     let l = c .before .loop in
-    rw (blends-end (c .before .before .args .t1) (l .i) (omega arith)) at (l .inv .3)
+    rw (blends-end (c .before .before .before .args .t1) (l .i) (omega arith)) at (l .inv .3)
 
 pub index-anchors-spec : {M : Type 1} → statement M
 index-anchors-spec =
@@ -107,8 +105,7 @@ index-anchors-spec =
     loop-holds
     mul-x
     element-copy-out-x
-    mul-place
-    add-place
+    place-requires
     add-i
     cast-index
     mul-index

@@ -7,7 +7,7 @@ use mathlib.Core.Bool.{true, false}
 use lib.ListN.{length, length-map, take, drop}
 use Rattle.mesh.specs.Range.{all}
 use Rattle.mesh.specs.declared.Table.{Table}
-use Rattle.mesh.specs.declared.Refined.{Refined}
+use Rattle.mesh.specs.declared.Judged.{Judged}
 use Rattle.mesh.specs.Lines.{allowedSide}
 use Rattle.mesh.specs.Sound.{table, liveTable}
 use Rattle.mesh.proofs.Tests.{true-not-false}
@@ -74,7 +74,7 @@ loop-holds c =
     let m = sides .before .before .before .before .before .args .t1 in
     let a = across (sides .before .before) in
     let b = up sides in
-    rw (ap (λ (x : Refined). x .table) (c .before .live .ensures ∙ ap liveTable (c .before .before .no-lines .ensures) ∙ live-fresh (m .w) (m .h) a b), c .before .before .no-lines .ensures)
+    rw (ap (λ (x : Judged). x .table) (c .before .live .ensures ∙ ap liveTable (c .before .before .no-lines .ensures) ∙ live-fresh (m .w) (m .h) a b), c .before .before .no-lines .ensures)
     (replayed-none m a b (omega arith) (sixty (sides .before .before .before .before .before)))
 
 mul-s : tie.Need-mul-s Inv-loop μ-loop

@@ -1,7 +1,6 @@
 -- `maps::splits::longer_line` meets its contract. Both loops keep a `Search`: the first candidate of the lines that are left is the split's line.
 use Prim.Native.Nat.{_+_, _-_, _≤_}
 use native.Mathlib.Omega.{arith}
-use borrow.Author.Needs.{needs}
 use borrow.Author.Tests.{eq-eqb, ne-eqb}
 use mathlib.Core.Path.{_≡_, _∙_}
 use mathlib.Core.Logic.{⊎-elim}
@@ -9,7 +8,7 @@ use mathlib.Core.Bool.{false}
 use Rattle.maps.specs.Splits.{run, reaching, candidate}
 use Rattle.maps.specs.Inner.{held}
 use Rattle.maps.proofs.InHand.{given-says}
-use Rattle.maps.proofs.Longer.{rows, ahead, Search, ends-in, search-starts, bounds, room, search-enters, search-passes, search-leaves, search-fails, tried-falls, tried-candidate, tried-found}
+use Rattle.maps.proofs.Longer.{rows, ahead, Search, ends-in, search-starts, bounds, room, search-enters, search-passes, search-leaves, search-fails, tried-falls, in-range, tried-unsound, tried-found}
 use Rattle.maps.proofs.splits.longer_line.Statement.{statement}
 use Rattle.maps.proofs.splits.longer_line.Tie as tie
 
@@ -59,24 +58,12 @@ add-t14 c = let b = bounds (c .before .before .before .loop .inv .1) in omega ar
 may-stand-requires : tie.Need-may-stand-requires Inv-loop μ-loop Inv-search μ-search
 may-stand-requires c κs = c .before .before .before .loop .inv .1 .hand .allowed?
 
-with-split-requires : tie.Need-with-split-requires Inv-loop μ-loop Inv-search μ-search
-with-split-requires c κs = room (c .before .before .before .before .before .loop .inv .1)
+sound-step-requires : tie.Need-sound-step-requires Inv-loop μ-loop Inv-search μ-search
+sound-step-requires c κs =
+    let at = c .before .before .before .before .before in
+    (at .loop .inv .1 .hand, in-range (at .loop .from) (at .loop .inv .1) (c .before .may-stand .ensures) (c .if4 .taken), room (at .loop .inv .1))
 
-refine-requires : tie.Need-refine-requires Inv-loop μ-loop Inv-search μ-search
-refine-requires c κs = search needs
-
--- the line that is tried: a line that may stand is a candidate where it leaves a sound map
-tried : (c : tie.After-refine Inv-loop μ-loop Inv-search μ-search) →
-    let at = c .before .before .before .before .before .before .before in
-    let search = at .before .before .before .before in
-    let a = search .before .before .before .before .args in
-    candidate (held (a .lines)) (reaching (a .s) (at .loop .from) (search .search .length)) ≡ c .refine .result .sound
-tried c =
-    let then = c .before .before in
-    let at = then .before .before .before .before .before in
-    tried-candidate (at .loop .from) (at .loop .inv .1) (then .before .may-stand .ensures) (then .if4 .taken)
-    (c .before .with-split .ensures) (c .refine .ensures)
-
+-- a line that may not stand, or leaves no sound map, is no candidate
 passed : (c : tie.Joined4 Inv-loop μ-loop Inv-search μ-search) →
     let at = c .before .before .before .before .before in
     let search = at .before .before .before .before in
@@ -86,7 +73,7 @@ passed : (c : tie.Joined4 Inv-loop μ-loop Inv-search μ-search) →
 passed c le =
     let at = c .before .before .before .before .before in
     ⊎-elim
-    (λ w. tried (record { before = record { before = record { before = c .before; if4 = w .0 }; with-split = w .1 }; refine = w .2 }) ∙ w .3 .left)
+    (λ w. tried-unsound (at .loop .from) (at .loop .inv .1) (c .before .may-stand .ensures) (w .0 .taken) (w .1 .ensures) (w .3 .left))
     (λ w. tried-falls (at .loop .from) (at .loop .inv .1) (c .before .may-stand .ensures) (w .left) le)
     (c .if4 .came)
 
@@ -116,11 +103,11 @@ returns c = search-fails (c .before .search .inv) (c .search-test .left)
 
 returns-2 : tie.Need-returns-2 Inv-loop μ-loop Inv-search μ-search
 returns-2 c =
-    let r = c .before .before in
-    let then = r .before .before in
+    let r = c .before .before .before in
+    let then = r .before in
     let at = then .before .before .before .before .before in
     tried-found (at .loop .from) (at .loop .inv .1) (then .before .may-stand .ensures) (then .if4 .taken)
-    (r .before .with-split .ensures) (r .refine .ensures) (then .before .before .before .if3 .taken) (c .before .if5 .taken)
+    (r .sound-step .ensures) (then .before .before .before .if3 .taken) (c .before .if5 .taken)
 
 pub longer-line-spec : {M : Type 1} → statement M
 longer-line-spec =
@@ -136,8 +123,7 @@ longer-line-spec =
     loop-holds
     add-t14
     may-stand-requires
-    with-split-requires
-    refine-requires
+    sound-step-requires
     add-from
     loop-less
     loop-again

@@ -10,7 +10,7 @@ use lib.ListN.{take, drop, getD, length, length-map}
 use Rattle.mesh.specs.Weight.{value}
 use Rattle.mesh.specs.Sound.{blendsOf, none, proper}
 use Rattle.mesh.proofs.Places.{proper-facts}
-use Rattle.mesh.proofs.Judging.{left-turn, left-none}
+use Rattle.mesh.proofs.Entries.{left-turn, left-none}
 use Rattle.maps.specs.Values.{paired, readingAt}
 use Rattle.maps.proofs.Over.{End, corner-in, corner-end, four-over, proper-at}
 use Rattle.maps.proofs.Adding.{Adding, adding-none, adding-all, adding-small, adding-outside, adding-fits, adding-over, value-positive}

@@ -10,7 +10,7 @@ use lib.ListN.{drop, getD, length, length-map}
 use Rattle.mesh.specs.Range.{only}
 use Rattle.mesh.specs.Sound.{blendsOf, none, proper, overSquare}
 use Rattle.mesh.specs.declared.Blend.{Blend}
-use Rattle.mesh.proofs.Judging.{left-turn, left-none}
+use Rattle.mesh.proofs.Entries.{left-turn, left-none}
 use Rattle.maps.specs.declared.Weight.{Weight}
 use Rattle.maps.specs.Calls.{weightOver, noWeight}
 use Rattle.maps.specs.Values.{corner, weightAt}

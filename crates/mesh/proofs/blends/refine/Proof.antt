@@ -1,4 +1,4 @@
--- `mesh::blends::refine` meets its contract: out of range, and where two blends met, it refuses; else the places that are left are judged.
+-- `mesh::blends::refine` meets its contract: out of range, and where two blends met, it refuses; else the places that are left are read out.
 use Prim.Native.Nat.{ℕ}
 use native.Mathlib.Omega.{arith}
 use borrow.Author.Needs.{needs}
@@ -9,7 +9,7 @@ use Rattle.mesh.specs.Blends.{leavesOf}
 use Rattle.mesh.specs.Sound.{blendsOf}
 use Rattle.mesh.specs.Bytes.{bytesMesh, keepAll, empty}
 use Rattle.mesh.proofs.Tests.{failed, passed}
-use Rattle.mesh.proofs.Refining.{Ranged, ranged-says, ranged-most, out-refused, sides, drawn-mesh, Cut, met-refused, places-held, judged}
+use Rattle.mesh.proofs.Refining.{Ranged, ranged-says, ranged-most, out-refused, sides, drawn-mesh, Cut, places-square, met-refused, read-refined}
 use Rattle.mesh.proofs.blends.refine.Statement.{statement}
 use Rattle.mesh.proofs.blends.refine.Tie as tie
 
@@ -86,17 +86,17 @@ refusal-requires-2 c κs = search needs
 returns-2 : tie.Need-returns-2
 returns-2 c = c .refusal2 .ensures ∙ met-refused (cut (c .before .before .before)) (c .before .if2 .taken)
 
-slice-aggregate-judge : tie.Need-slice-aggregate-judge
-slice-aggregate-judge c = search needs
+slice-aggregate-read-out : tie.Need-slice-aggregate-read-out
+slice-aggregate-read-out c = search needs
 
-judge-requires : tie.Need-judge-requires
-judge-requires c κs =
+read-out-requires : tie.Need-read-out-requires
+read-out-requires c κs =
     let k = cut (c .before .before .before) in
     let s = sides (k .ranges) in
-    (places-held k (c .before .if2 .left), s .across .0, s .across .1, s .up .0, s .up .1)
+    (places-square k, s .across .1, s .up .1)
 
 returns-3 : tie.Need-returns-3
-returns-3 c = c .judge .ensures ∙ judged (cut (c .before .before .before .before)) (c .before .before .if2 .left)
+returns-3 c = c .read-out .ensures ∙ read-refined (cut (c .before .before .before .before)) (c .before .before .if2 .left)
 
 pub refine-spec : {M : Type 1} → statement M
 refine-spec =
@@ -116,6 +116,6 @@ refine-spec =
     array-read-if2
     refusal-requires-2
     returns-2
-    slice-aggregate-judge
-    judge-requires
+    slice-aggregate-read-out
+    read-out-requires
     returns-3)

@@ -1,33 +1,15 @@
--- `mesh::cut::keep_blend` meets its contract: a free place, another blend's, and its own. Knots below 131 keep place and pack in range.
+-- `mesh::cut::keep_blend` meets its contract: a free place, another blend's, and its own.
 use borrow.Author.Needs.{needs}
 use mathlib.Core.Path.{sym}
 use Rattle.mesh.proofs.Cutting.{keep-first, keep-again, keep-other}
 use Rattle.mesh.proofs.cut.keep_blend.Statement.{statement}
 use Rattle.mesh.proofs.cut.keep_blend.Tie as tie
 
-mul-place : tie.Need-mul-place
-mul-place c = search needs
+place-requires : tie.Need-place-requires
+place-requires c κs = search needs
 
-add-place : tie.Need-add-place
-add-place c = search needs
-
-mul-packed : tie.Need-mul-packed
-mul-packed c = search needs
-
-add-packed : tie.Need-add-packed
-add-packed c = search needs
-
-mul-packed-2 : tie.Need-mul-packed-2
-mul-packed-2 c = search needs
-
-add-packed-2 : tie.Need-add-packed-2
-add-packed-2 c = search needs
-
-mul-packed-3 : tie.Need-mul-packed-3
-mul-packed-3 c = search needs
-
-add-packed-3 : tie.Need-add-packed-3
-add-packed-3 c = search needs
+pack-requires : tie.Need-pack-requires
+pack-requires c κs = search needs
 
 mul-old : tie.Need-mul-old
 mul-old c = search needs
@@ -49,34 +31,36 @@ same-length c = search needs
 
 returns : tie.Need-returns
 returns c =
-    let a = c .before .before .before .before .before .before .before .before .before .before .args in
-    sym (keep-first (a .places .now) (a .x) (c .if1 .taken))
+    let packs = c .before .before in
+    let a = packs .before .before .before .args in
+    rw (packs .before .place .ensures, packs .pack .ensures)
+    (sym (keep-first (a .places .now) (a .x) (rw (packs .before .place .ensures) at (c .if1 .taken))))
 
 same-length-2 : tie.Need-same-length-2
 same-length-2 c = search needs
 
 returns-2 : tie.Need-returns-2
 returns-2 c =
-    let a = c .before .before .before .before .before .before .before .before .before .before .before .args in
-    sym (keep-other (a .places .now) (a .x) (c .before .if1 .left) (c .if2 .taken))
+    let packs = c .before .before .before in
+    let a = packs .before .before .before .args in
+    sym
+    (keep-other (a .places .now) (a .x) (rw (packs .before .place .ensures) at (c .before .if1 .left))
+    (rw (packs .before .place .ensures, packs .pack .ensures) at (c .if2 .taken)))
 
 returns-3 : tie.Need-returns-3
 returns-3 c =
-    let a = c .before .before .before .before .before .before .before .before .before .before .before .args in
-    sym (keep-again (a .places .now) (a .x) (c .before .if1 .left) (c .if2 .left))
+    let packs = c .before .before .before in
+    let a = packs .before .before .before .args in
+    sym
+    (keep-again (a .places .now) (a .x) (rw (packs .before .place .ensures) at (c .before .if1 .left))
+    (rw (packs .before .place .ensures, packs .pack .ensures) at (c .if2 .left)))
 
 pub keep-blend-spec : {M : Type 1} → statement M
 keep-blend-spec =
     tie.close
     (tie.spec
-    mul-place
-    add-place
-    mul-packed
-    add-packed
-    mul-packed-2
-    add-packed-2
-    mul-packed-3
-    add-packed-3
+    place-requires
+    pack-requires
     mul-old
     slice-read-old
     mul-places

@@ -1,6 +1,7 @@
 -- `mesh::steps::covers` meets its contract. The invariant: what is left to test decides the whole answer.
 use Prim.Native.Nat.{_+_}
 use native.Mathlib.Omega.{arith}
+use borrow.Author.Needs.{needs}
 use mathlib.Core.Path.{_≡_, refl, sym, _∙_}
 use Rattle.mesh.specs.Range.{every}
 use Rattle.mesh.specs.Bytes.{stepOn}
@@ -8,57 +9,66 @@ use Rattle.mesh.proofs.Tests.{every-turn, every-none}
 use Rattle.mesh.proofs.Bytes.{step-off, step-on}
 use Rattle.mesh.proofs.steps.covers.Statement.{statement}
 use Rattle.mesh.proofs.steps.covers.Tie as tie
-use Rattle.mesh.proofs.steps.covers.Reads as reads
-use Rattle.mesh.proofs.steps.covers.Lts as lts
 
 abbrev Inv-loop : tie.InvT-loop
-Inv-loop steps z b n k₀ left₀ k left =
+Inv-loop steps z b n row k₀ left₀ k left =
     (k + left ≡ b + n) × (every k left (stepOn steps z) ≡ every b n (stepOn steps z))
 
 abbrev μ-loop : tie.MeasureT-loop
-μ-loop steps z b n k₀ left₀ k left = left
+μ-loop steps z b n row k₀ left₀ k left = left
+
+wide-requires : tie.Need-wide-requires Inv-loop μ-loop
+wide-requires c κs = search needs
+
+mul-row : tie.Need-mul-row Inv-loop μ-loop
+mul-row c = search needs
+
+wide-requires-2 : tie.Need-wide-requires-2 Inv-loop μ-loop
+wide-requires-2 c κs = search needs
+
+wide-requires-3 : tie.Need-wide-requires-3 Inv-loop μ-loop
+wide-requires-3 c κs = search needs
 
 loop-holds : tie.Need-loop-holds Inv-loop μ-loop
-loop-holds c = (refl, refl)
-
-mul-if1 : tie.Need-mul-if1 Inv-loop μ-loop
-mul-if1 c = omega arith
+loop-holds c = rw (c .before .wide2 .ensures, c .wide3 .ensures) (refl, refl)
 
 add-if1 : tie.Need-add-if1 Inv-loop μ-loop
-add-if1 c = omega arith
+add-if1 c = search needs
 
 shared-slice-read-if1 : tie.Need-shared-slice-read-if1 Inv-loop μ-loop
-shared-slice-read-if1 c = omega arith
+shared-slice-read-if1 c = search needs
 
 returns : tie.Need-returns Inv-loop μ-loop
 returns c =
     let l = c .before .before .before .loop in
-    let a = c .before .before .before .before .args in
-    let off = step-off (a .steps .now) (a .z) (l .k) (omega arith) (omega arith) (c .if1 .taken) in
+    let w = c .before .before .before .before .before .before in
+    let a = w .before .before .args in
+    let off = step-off (a .steps .now) (a .z) (l .k) (omega arith) (omega arith) (rw (w .wide .ensures) at (c .if1 .taken)) in
     let turn = every-turn (l .k) (l .left) (stepOn (a .steps .now) (a .z)) (omega arith) in
     sym (sym (l .inv .1) ∙ turn ∙ rw off)
 
 add-k : tie.Need-add-k Inv-loop μ-loop
-add-k c = omega arith
+add-k c = search needs
 
 sub-left : tie.Need-sub-left Inv-loop μ-loop
-sub-left c = omega arith
+sub-left c = search needs
 
 loop-less : tie.Need-loop-less Inv-loop μ-loop
-loop-less c = omega arith
+loop-less c = search needs
 
 loop-again : tie.Need-loop-again Inv-loop μ-loop
 loop-again c =
     let l = c .before .before .before .loop in
-    let a = c .before .before .before .before .args in
-    let on = step-on (a .steps .now) (a .z) (l .k) (omega arith) (omega arith) (c .if1 .left) in
+    let w = c .before .before .before .before .before .before in
+    let a = w .before .before .args in
+    let on = step-on (a .steps .now) (a .z) (l .k) (omega arith) (omega arith) (rw (w .wide .ensures) at (c .if1 .left)) in
     let turn = every-turn (l .k) (l .left) (stepOn (a .steps .now) (a .z)) (omega arith) in
     (omega arith, sym (turn ∙ rw on) ∙ l .inv .1)
 
 returns-2 : tie.Need-returns-2 Inv-loop μ-loop
 returns-2 c =
     let l = c .before .loop in
-    let a = c .before .before .args in
+    let a = c .before .before .before .before .before .before .args in
     sym (every-none (l .k) (l .left) (stepOn (a .steps .now) (a .z)) (omega arith)) ∙ l .inv .1
 
 pub covers-spec : {M : Type 1} → statement M
@@ -67,8 +77,11 @@ covers-spec =
     (tie.spec
     Inv-loop
     μ-loop
+    wide-requires
+    mul-row
+    wide-requires-2
+    wide-requires-3
     loop-holds
-    mul-if1
     add-if1
     shared-slice-read-if1
     returns

@@ -1,0 +1,15 @@
+-- `mesh::read::nothing` meets its contract: 0 taken apart is zeros.
+use borrow.Author.Needs.{needs}
+use Rattle.mesh.specs.Bytes.{unpacked}
+use Rattle.mesh.proofs.read.nothing.Statement.{statement}
+use Rattle.mesh.proofs.read.nothing.Tie as tie
+
+unpack-requires : tie.Need-unpack-requires
+unpack-requires c κs = search needs
+
+returns : tie.Need-returns
+unfolding unpacked
+returns c = c .unpack .ensures
+
+pub nothing-spec : {M : Type 1} → statement M
+nothing-spec = tie.close (tie.spec unpack-requires returns)

@@ -1,0 +1,80 @@
+// Reading the kept blends out in table order.
+use crate::Blend;
+use crate::Refined;
+use crate::Table;
+use crate::Triple;
+ghost use mathlib.Core.Path.{_≡_};
+ghost use Prim.Native.Nat.{_≤_};
+ghost use Rattle.mesh.specs.Sound.{none};
+ghost use Rattle.mesh.specs.Bytes.{Square, unpacked, walk, listed, refused};
+
+// The blend that a place holds, taken apart.
+fn unpack(m: usize, n: usize, c: u32) -> Blend
+    requires { ⌜ (m ≤ 130) × (n ≤ 130) ⌝ }
+    ensures { λ r. ⌜ r ≡ unpacked m n c ⌝ }
+{
+    Blend {
+        across: Triple {
+            l: (c / 16777216) as u8,
+            m: m as u8,
+            r: (c / 65536 % 256) as u8,
+        },
+        up: Triple {
+            l: (c / 256 % 256) as u8,
+            m: n as u8,
+            r: (c % 256) as u8,
+        },
+    }
+}
+
+// An unused place of a table.
+fn nothing() -> Blend
+    ensures { λ r. ⌜ r ≡ none ⌝ }
+{
+    unpack(0, 0, 0)
+}
+
+// The answer where a table does not hold the blends.
+pub(crate) fn refusal() -> Refined
+    ensures { λ r. ⌜ r ≡ refused ⌝ }
+{
+    Refined {
+        fits: false,
+        table: Table {
+            count: 0,
+            blends: [nothing(); 1024],
+        },
+    }
+}
+
+// The table of the kept blends; a refusal where they are more than it holds.
+pub(crate) fn read_out(places: &[u32], w: usize, h: usize) -> Refined
+    requires { ⌜ Square (now places) × (w ≤ 128) × (h ≤ 128) ⌝ }
+    ensures { λ r. ⌜ r ≡ listed (walk w h (now (places .entry))) ⌝ }
+{
+    let mut blends = [nothing(); 1024];
+    let mut count = 0;
+    let mut m = 1;
+    while m <= w + 1 {
+        let mut n = 1;
+        while n <= h + 1 {
+            let c = places[m * 131 + n];
+            if c != 0 {
+                if count == 1024 {
+                    return refusal();
+                }
+                blends[count] = unpack(m, n, c);
+                count += 1;
+            }
+            n += 1;
+        }
+        m += 1;
+    }
+    Refined {
+        fits: true,
+        table: Table {
+            count: count,
+            blends: blends,
+        },
+    }
+}

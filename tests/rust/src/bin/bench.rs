@@ -1,0 +1,192 @@
+//! How long each call of pump.h takes: the library beside the plain implementation, in turns, as a markdown table.
+
+use pump_tests::calls::Call;
+use pump_tests::draw::{self, Random};
+use pump_tests::ffi::Library;
+use pump_tests::maps::{self, Split};
+use pump_tests::model::Map;
+use pump_tests::plain::Plain;
+use pump_tests::Pump;
+use std::hint::black_box;
+use std::time::{Duration, Instant};
+
+/// A map to measure on: its file, and the file before its last split.
+struct Case {
+    name: &'static str,
+    before: Vec<u8>,
+    /// What a lengthened split is given to find the last one, or another.
+    given: Split,
+    last: Split,
+    file: Vec<u8>,
+}
+
+/// What the calls are lent.
+struct Desk {
+    buffer: Vec<u8>,
+    out: Vec<u8>,
+    used: usize,
+    numbers: [usize; 2],
+}
+
+impl Desk {
+    fn run(&mut self, pump: &dyn Pump, call: &Call, file: &[u8]) -> usize {
+        if call.changes() {
+            self.buffer[..file.len()].copy_from_slice(file);
+            self.used = file.len();
+        }
+        let Desk { buffer, out, used, numbers: [first, second] } = self;
+        match call {
+            Call::Fresh(w, h) => pump.fresh(*w, *h, buffer, used),
+            Call::Set(m, n, value) => pump.set(buffer, used, *m, *n, *value),
+            Call::Exact(split) => pump.exact_split(buffer, used, *split),
+            Call::Lengthened(split) => pump.lengthened_split(buffer, used, *split),
+            Call::Place(place) => pump.place(file, *place, out),
+            Call::Reading(u, v) => pump.reading(file, *u, *v, first),
+            Call::Weights(u, v) => pump.weights(file, *u, *v, out),
+            Call::Same(other, _) => pump.same(file, other, first),
+            Call::Check => pump.check(file),
+            Call::Payload(place) => pump.payload(file, *place, first, second),
+            Call::Table => pump.table(file, out, first),
+        }
+    }
+
+    /// The time of one call, from this many.
+    fn time(&mut self, pump: &dyn Pump, call: &Call, file: &[u8], times: u32) -> Duration {
+        let start = Instant::now();
+        for _ in 0..times {
+            black_box(self.run(pump, black_box(call), black_box(file)));
+        }
+        start.elapsed() / times
+    }
+}
+
+fn fresh(w: usize, h: usize) -> Vec<u8> {
+    let (mut file, mut used) = (vec![0; 52], 0);
+    assert_eq!(Plain.fresh(w, h, &mut file, &mut used), 0);
+    file
+}
+
+/// The file after a split, if it is accepted.
+fn split(file: &[u8], split: Split) -> Option<Vec<u8>> {
+    let mut buffer = file.to_vec();
+    buffer.resize(10_972, 0);
+    let mut used = file.len();
+    let number = Plain.exact_split(&mut buffer, &mut used, split);
+    buffer.truncate(used);
+    (number == 0).then_some(buffer)
+}
+
+fn case(name: &'static str, w: usize, h: usize, splits: &[Split], given: Split) -> Case {
+    let (last, first) = splits.split_last().unwrap();
+    let draw = |file: Vec<u8>, line: &Split| split(&file, *line).unwrap();
+    let before = first.iter().fold(fresh(w, h), draw);
+    let file = split(&before, *last).unwrap();
+    Case { name, before, given, last: *last, file }
+}
+
+/// Splits drawn at random on square sides; none but the first four is longer than `longest`.
+fn drawn(side: usize, count: usize, longest: usize) -> Vec<Split> {
+    let mut random = Random(7);
+    let mut map = Map::fresh(side, side).unwrap();
+    let mut file = fresh(side, side);
+    let mut splits = vec![];
+    while splits.len() < count {
+        let line = draw::split(&mut random, &map, &map.lines());
+        let [direction, position, from, to] = line;
+        let short = splits.len() < 4 || to.saturating_sub(from) <= longest;
+        let Some(next) = split(&file, line).filter(|_| short) else {
+            continue;
+        };
+        file = next;
+        let [position, from, to] = [position, from, to].map(|number| number as i64);
+        map.splits.push(pump_tests::model::Split { direction, position, from, to });
+        splits.push(line);
+    }
+    splits
+}
+
+fn cases() -> Vec<Case> {
+    let small = [[0, 4, 0, 8], [1, 4, 0, 8], [0, 2, 0, 4], [1, 2, 0, 8]];
+
+    let middling = drawn(64, 20, 64);
+    let short = drawn(128, 60, 32);
+    vec![
+        case("8 by 8, 4 splits", 8, 8, &small, [1, 2, 0, 2]),
+        case("64 by 64, 20 splits", 64, 64, &middling, *middling.last().unwrap()),
+        case("60 short splits", 128, 128, &short, *short.last().unwrap()),
+        case("30 + 30 full splits", 128, 128, &maps::grid(), [0, 120, 0, 8]),
+        case("long lengthening", 128, 128, &maps::fan(), maps::FAN_GIVEN),
+    ]
+}
+
+fn micros(time: Duration) -> String {
+    format!("{:.2}", time.as_secs_f64() * 1e6)
+}
+
+/// Measures a call in turns and prints a line of the table.
+fn measure(name: &str, call: &Call, file: &[u8], desk: &mut Desk) {
+    let pumps: [&dyn Pump; 2] = [&Library, &Plain];
+    let mut left = vec![];
+    for pump in pumps {
+        desk.numbers = [0, 0];
+        desk.used = 0;
+        let number = desk.run(pump, call, file);
+        left.push((number, desk.used, desk.buffer[..desk.used].to_vec(), desk.numbers));
+    }
+    assert_eq!(left[0], left[1], "{name}, {call:?}: the answers differ");
+
+    // Enough calls in a round to be seen by the clock, and fewer rounds where one is long.
+    let one = pumps.map(|pump| desk.time(pump, call, file, 1));
+    let times = one.map(|one| (2_000_000 / one.as_nanos().max(1)).clamp(1, 20_000) as u32);
+    let rounds = if one[0] > Duration::from_millis(300) { 3 } else { 9 };
+    let mut rows = [vec![], vec![]];
+    for round in 0..=rounds {
+        for (at, pump) in pumps.into_iter().enumerate() {
+            let time = desk.time(pump, call, file, times[at]);
+            // The first round warms up.
+            if round > 0 {
+                rows[at].push(time);
+            }
+        }
+    }
+    rows.iter_mut().for_each(|row| row.sort());
+    let [library, plain] = rows.map(|row| (row[0], row[row.len() / 2]));
+    println!(
+        "| {name} | {} | {} | {} | {} | {} | {} | {:.1} |",
+        call.name(),
+        left[0].0,
+        micros(library.0),
+        micros(library.1),
+        micros(plain.0),
+        micros(plain.1),
+        library.0.as_secs_f64() / plain.0.as_secs_f64()
+    );
+}
+
+fn main() {
+    let start = Instant::now();
+    let mut desk = Desk { buffer: vec![0; 10_972], out: vec![0; 65_536], used: 0, numbers: [0, 0] };
+    println!("Microseconds a call; the ratio is of the best times.\n");
+    println!("| map | call | number | library, best | library, median | plain, best | plain, median | ratio |");
+    println!("|---|---|---|---|---|---|---|---|");
+    measure("none", &Call::Fresh(128, 128), &[], &mut desk);
+    for case in cases() {
+        let Case { name, before, given, last, file } = case;
+        let side = file[4] as usize;
+        for (call, file) in [
+            (Call::Check, &file),
+            (Call::Set(0, side, 4000), &file),
+            (Call::Place(3), &file),
+            (Call::Reading(side / 2 + 1, side / 3), &file),
+            (Call::Weights(side / 2 + 1, side / 3), &file),
+            (Call::Same(file.clone(), false), &file),
+            (Call::Payload(8), &file),
+            (Call::Table, &file),
+            (Call::Exact(last), &before),
+            (Call::Lengthened(given), &before),
+        ] {
+            measure(name, &call, file, &mut desk);
+        }
+    }
+    println!("\nThe whole took {:.1} s.", start.elapsed().as_secs_f64());
+}

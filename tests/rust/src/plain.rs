@@ -1,0 +1,534 @@
+//! A plain implementation of the same calls, written for speed: what the library is measured against. It does all the
+//! checks that document 01 asks for, with the table kept from split to split instead of cut anew.
+
+use crate::Pump;
+
+type No = usize;
+
+const LARGEST_SIDE: usize = 128;
+const MOST_SPLITS: usize = 60;
+const TABLE_TEXT: usize = 65_536;
+const ENTRY: usize = 14;
+const WEIGHTS: usize = 64;
+const FOURS: [u8; LARGEST_SIDE * LARGEST_SIDE] = [4; LARGEST_SIDE * LARGEST_SIDE];
+
+/// The anchor stands first, so that blends compare in table order.
+#[derive(Clone, Copy, PartialEq, Eq, PartialOrd, Ord)]
+struct Blend {
+    m: i16,
+    n: i16,
+    l: i16,
+    r: i16,
+    b: i16,
+    t: i16,
+}
+
+impl Blend {
+    fn new((l, m, r): (i16, i16, i16), (b, n, t): (i16, i16, i16)) -> Blend {
+        Blend { m, n, l, r, b, t }
+    }
+
+    /// The triple that lines of this direction cut.
+    fn crossed(&self, direction: usize) -> (i16, i16, i16) {
+        if direction == 0 {
+            (self.l, self.m, self.r)
+        } else {
+            (self.b, self.n, self.t)
+        }
+    }
+
+    fn halves(&self, direction: usize, z: i16) -> [Blend; 2] {
+        let (low, mid, high) = self.crossed(direction);
+        let triples = if z < mid { [(low, z, mid), (z, mid, high)] } else { [(low, mid, z), (mid, z, high)] };
+        let other = self.crossed(1 - direction);
+        triples.map(|triple| if direction == 0 { Blend::new(triple, other) } else { Blend::new(other, triple) })
+    }
+
+    fn around(&self, other: &Blend) -> bool {
+        self.l < other.m && other.m < self.r && self.b < other.n && other.n < self.t
+    }
+}
+
+#[derive(Clone, Copy)]
+struct Split {
+    direction: usize,
+    position: usize,
+    from: usize,
+    to: usize,
+}
+
+#[derive(Clone)]
+struct Map {
+    /// W and H.
+    sides: [usize; 2],
+    splits: Vec<Split>,
+    /// For each direction and position the unit steps between 0 and the side that its lines cover. The run-out steps go
+    /// with the first and the last of them.
+    lines: [[u128; LARGEST_SIDE + 1]; 2],
+    /// The live blends, in table order, and their values.
+    table: Vec<Blend>,
+    values: Vec<u16>,
+    /// For each unit square the number of supports it lies in.
+    supports: Vec<u8>,
+}
+
+/// The unit steps from `from` to `to`.
+fn steps(from: usize, to: usize) -> u128 {
+    u128::MAX >> (128 - (to - from)) << from
+}
+
+/// Whether one of the anchors, which are in table order, lies strictly inside another's support.
+fn anchor_inside(anchors: &[Blend], supports: &[Blend]) -> bool {
+    let (Some(first), Some(last)) = (anchors.first(), anchors.last()) else {
+        return false;
+    };
+    supports.iter().filter(|support| support.l < last.m && first.m < support.r).any(|support| {
+        let start = anchors.partition_point(|anchor| anchor.m <= support.l);
+        let columns = anchors[start..].iter().take_while(|anchor| anchor.m < support.r);
+        columns.into_iter().any(|anchor| support.around(anchor) && anchor != support)
+    })
+}
+
+impl Map {
+    fn fresh(w: usize, h: usize) -> Result<Map, No> {
+        if [w, h].iter().any(|side| !(1..=LARGEST_SIDE).contains(side)) {
+            return Err(1);
+        }
+        let sides = [w, h];
+        let mut lines = [[0; LARGEST_SIDE + 1]; 2];
+        for direction in 0..2 {
+            lines[direction][0] = u128::MAX;
+            lines[direction][sides[direction]] = u128::MAX;
+        }
+        let triples = |side: i16| [(-1, 0, side), (0, side, side + 1)];
+        let mut table = Vec::with_capacity(256);
+        for across in triples(w as i16) {
+            for up in triples(h as i16) {
+                table.push(Blend::new(across, up));
+            }
+        }
+        Ok(Map {
+            sides,
+            splits: Vec::with_capacity(MOST_SPLITS),
+            lines,
+            table,
+            values: vec![0; 4],
+            supports: vec![4; w * h],
+        })
+    }
+
+    /// The steps that a line of this direction must cover to cut the blend.
+    fn needed(&self, direction: usize, blend: &Blend) -> u128 {
+        let (low, _, high) = blend.crossed(1 - direction);
+        steps(low.max(0) as usize, (high as usize).min(self.sides[1 - direction]))
+    }
+
+    fn cuts(&self, direction: usize, position: i16, line: u128, blend: &Blend) -> bool {
+        let (low, mid, high) = blend.crossed(direction);
+        low < position && position < high && position != mid && {
+            let needed = self.needed(direction, blend);
+            line & needed == needed
+        }
+    }
+
+    /// The halves of a blend, if any line cuts it: at the cut next to its anchor, so that few halves come up twice.
+    fn halves(&self, blend: &Blend) -> Option<[Blend; 2]> {
+        (0..2).find_map(|direction| {
+            let (low, mid, high) = blend.crossed(direction);
+            let needed = self.needed(direction, blend);
+            let lines = &self.lines[direction];
+            let cuts = |z: &i16| lines[*z as usize] & needed == needed;
+            let z = (low + 1..mid).rev().find(cuts).or_else(|| (mid + 1..high).find(cuts))?;
+            Some(blend.halves(direction, z))
+        })
+    }
+
+    fn crossed_at(&self, direction: usize, position: usize, end: usize) -> bool {
+        self.lines[1 - direction][end] >> (position - 1) & 3 != 0
+    }
+
+    /// Refusals 3 to 7.
+    fn look(&self, [direction, position, from, to]: [usize; 4]) -> Result<Split, No> {
+        if direction > 1
+            || position < 1
+            || position >= self.sides[direction]
+            || from >= to
+            || to > self.sides[1 - direction]
+        {
+            return Err(3);
+        }
+        if self.splits.len() == MOST_SPLITS {
+            return Err(4);
+        }
+        let line = self.lines[direction][position];
+        if line & steps(from, to) != 0 {
+            return Err(5);
+        }
+        if !self.crossed_at(direction, position, from) || !self.crossed_at(direction, position, to) {
+            return Err(6);
+        }
+        let joined = line | steps(from, to);
+        if !self.table.iter().any(|blend| self.cuts(direction, position as i16, joined, blend)) {
+            return Err(7);
+        }
+        Ok(Split { direction, position, from, to })
+    }
+
+    /// Adds to, or takes from, the counts of all unit squares of a support.
+    fn count(&mut self, blend: &Blend, change: fn(u8) -> u8) {
+        let [w, h] = self.sides;
+        let rows = blend.b.max(0) as usize..(blend.t as usize).min(h);
+        for x in blend.l.max(0) as usize..(blend.r as usize).min(w) {
+            for count in &mut self.supports[x * h..][rows.clone()] {
+                *count = change(*count);
+            }
+        }
+    }
+
+    /// Draws a line and says whether the map is still sound; if not, it is of no more use. Only what is new is looked at:
+    /// the rest was sound before.
+    fn draw(&mut self, split: Split) -> bool {
+        let Split { direction, position, from, to } = split;
+        self.lines[direction][position] |= steps(from, to);
+        self.splits.push(split);
+        let line = self.lines[direction][position];
+
+        let mut table = std::mem::take(&mut self.table);
+        let mut left = Vec::new();
+        table.retain(|blend| {
+            let cut = self.cuts(direction, position as i16, line, blend);
+            if cut {
+                left.push(*blend);
+            }
+            !cut
+        });
+        for blend in &left {
+            self.count(blend, |count| count - 1);
+        }
+
+        let mut added = Vec::new();
+        while !left.is_empty() {
+            let mut next = Vec::with_capacity(2 * left.len());
+            for blend in &left {
+                match self.halves(blend) {
+                    Some(halves) => next.extend(halves),
+                    None => added.push(*blend),
+                }
+            }
+            next.sort_unstable();
+            next.dedup();
+            left = next;
+        }
+        added.sort_unstable();
+        added.dedup();
+        added.retain(|blend| table.binary_search(blend).is_err());
+        for blend in &added {
+            self.count(blend, |count| count.saturating_add(1));
+        }
+
+        // The table and the new blends are each in order, which makes this sort a merge.
+        table.extend_from_slice(&added);
+        table.sort();
+        self.table = table;
+        self.supports == FOURS[..self.supports.len()]
+            && !anchor_inside(&added, &self.table)
+            && !anchor_inside(&self.table, &added)
+    }
+
+    fn anchor(&self, m: i16, n: i16) -> Result<usize, No> {
+        self.table.binary_search_by_key(&(m, n), |blend| (blend.m, blend.n)).or(Err(9))
+    }
+
+    /// Gives the anchors of a map with one more line their values.
+    fn hand_over(&self, next: &mut Map) {
+        let value = |blend: &Blend| match self.anchor(blend.m, blend.n) {
+            Ok(place) => self.values[place],
+            Err(_) => self.sum(blend.m, blend.n),
+        };
+        next.values = next.table.iter().map(value).collect();
+    }
+
+    fn exact_split(&self, split: [usize; 4]) -> Result<Map, No> {
+        let split = self.look(split)?;
+        let mut next = self.clone();
+        if !next.draw(split) {
+            return Err(8);
+        }
+        self.hand_over(&mut next);
+        Ok(next)
+    }
+
+    fn lengthened_split(&self, split: [usize; 4]) -> Result<Map, No> {
+        let given = self.look(split)?;
+        let Split { direction, position, from, to } = given;
+        let side = self.sides[1 - direction];
+        for length in to - from..=side {
+            for start in to.saturating_sub(length)..=from.min(side - length) {
+                let end = start + length;
+                if !self.crossed_at(direction, position, start)
+                    || !self.crossed_at(direction, position, end)
+                    || self.lines[direction][position] & steps(start, end) != 0
+                {
+                    continue;
+                }
+                let mut next = self.clone();
+                if next.draw(Split { from: start, to: end, ..given }) {
+                    self.hand_over(&mut next);
+                    return Ok(next);
+                }
+            }
+        }
+        Err(8)
+    }
+
+    fn point(&self, u: usize, v: usize) -> Result<(i16, i16), No> {
+        if u > self.sides[0] || v > self.sides[1] {
+            return Err(10);
+        }
+        Ok((u as i16, v as i16))
+    }
+
+    /// The sum of value times weight, rounded down: over the product of the four gaps, which fits with room.
+    fn sum(&self, u: i16, v: i16) -> u16 {
+        let (mut numerator, mut denominator) = (0u128, 1u128);
+        for (blend, value) in self.table.iter().zip(&self.values) {
+            let Blend { m, n, l, r, b, t } = *blend;
+            if l < u && u < r && b < v && v < t {
+                let (across, across_gap) = if u <= m { (u - l, m - l) } else { (r - u, r - m) };
+                let (up, up_gap) = if v <= n { (v - b, n - b) } else { (t - v, t - n) };
+                let gaps = across_gap as u128 * up_gap as u128;
+                numerator = numerator * gaps + *value as u128 * across as u128 * up as u128 * denominator;
+                denominator *= gaps;
+            }
+        }
+        (numerator / denominator) as u16
+    }
+
+    /// Four times l m r b n t numerator denominator.
+    fn weights(&self, u: i16, v: i16) -> [[i16; 8]; 4] {
+        let x = u.min(self.sides[0] as i16 - 1);
+        let y = v.min(self.sides[1] as i16 - 1);
+        let mut entries = [[0; 8]; 4];
+        let over = self.table.iter().filter(|blend| blend.l <= x && x < blend.r && blend.b <= y && y < blend.t);
+        for (entry, blend) in entries.iter_mut().zip(over) {
+            let Blend { m, n, l, r, b, t } = *blend;
+            let (across, across_gap) = if x < m { (u - l, m - l) } else { (r - u, r - m) };
+            let (up, up_gap) = if y < n { (v - b, n - b) } else { (t - v, t - n) };
+            *entry = [l, m, r, b, n, t, across * up, across_gap * up_gap];
+        }
+        entries
+    }
+
+    fn file_length(&self) -> usize {
+        12 + 12 * self.splits.len() + 10 * self.table.len()
+    }
+
+    fn write(&self, buffer: &mut [u8], used: &mut usize) -> Result<(), No> {
+        let length = self.file_length();
+        if buffer.len() < length {
+            return Err(12);
+        }
+        let mut at = 0;
+        let mut put = |numbers: &[u16]| {
+            for number in numbers {
+                buffer[at..at + 2].copy_from_slice(&number.to_le_bytes());
+                at += 2;
+            }
+        };
+        put(&[6, 1, self.sides[0] as u16, self.sides[1] as u16]);
+        for split in &self.splits {
+            put(&[10, 2, split.direction as u16, split.position as u16, split.from as u16, split.to as u16]);
+        }
+        for (blend, value) in self.table.iter().zip(&self.values) {
+            put(&[8, 3, blend.m as u16, blend.n as u16, *value]);
+        }
+        put(&[2, 4]);
+        *used = length;
+        Ok(())
+    }
+
+    fn read(bytes: &[u8]) -> Result<Map, No> {
+        const NO: No = 11;
+        let number = |at: usize| u16::from_le_bytes([bytes[at], bytes[at + 1]]);
+        let begins = |at: usize, length, kind| number(at) == length && number(at + 2) == kind;
+        if bytes.len() < 12 || !begins(0, 6, 1) {
+            return Err(NO);
+        }
+        let mut map = Map::fresh(number(4) as usize, number(6) as usize).or(Err(NO))?;
+        let mut at = 8;
+        while at + 12 <= bytes.len() && begins(at, 10, 2) {
+            let split = map.look([4, 6, 8, 10].map(|field| number(at + field) as usize)).or(Err(NO))?;
+            if !map.draw(split) {
+                return Err(NO);
+            }
+            at += 12;
+        }
+        if map.file_length() != bytes.len() {
+            return Err(NO);
+        }
+        map.values.clear();
+        for blend in &map.table {
+            if !begins(at, 8, 3) || number(at + 4) != blend.m as u16 || number(at + 6) != blend.n as u16 {
+                return Err(NO);
+            }
+            map.values.push(number(at + 8));
+            at += 10;
+        }
+        if !begins(at, 2, 4) {
+            return Err(NO);
+        }
+        Ok(map)
+    }
+}
+
+/// The map in the first `used` bytes of a buffer.
+fn lent(buffer: &[u8], used: usize) -> Result<Map, No> {
+    Map::read(buffer.get(..used).ok_or(11usize)?)
+}
+
+/// Puts 16-bit numbers into the lent bytes as C lays them out.
+fn put(numbers: impl Iterator<Item = i16>, size: usize, out: &mut [u8]) -> Result<(), No> {
+    if out.len() < size {
+        return Err(12);
+    }
+    for (place, number) in out.chunks_exact_mut(2).zip(numbers) {
+        place.copy_from_slice(&number.to_ne_bytes());
+    }
+    Ok(())
+}
+
+/// Writes a number and a mark after it.
+fn put_number(out: &mut [u8], at: &mut usize, number: i32, mark: u8) {
+    let mut digits = [0; 8];
+    let mut count = 0;
+    let mut rest = number.unsigned_abs();
+    loop {
+        digits[count] = b'0' + (rest % 10) as u8;
+        count += 1;
+        rest /= 10;
+        if rest == 0 {
+            break;
+        }
+    }
+    if number < 0 {
+        digits[count] = b'-';
+        count += 1;
+    }
+    for digit in digits[..count].iter().rev() {
+        out[*at] = *digit;
+        *at += 1;
+    }
+    out[*at] = mark;
+    *at += 1;
+}
+
+fn payload(bytes: &[u8], place: usize) -> Result<(usize, usize), No> {
+    let after = bytes.get(place..).ok_or(11usize)?;
+    let [low, high, rest @ ..] = after else {
+        return Err(11);
+    };
+    let length = u16::from_le_bytes([*low, *high]) as usize;
+    if length < 2 || length > rest.len() {
+        return Err(11);
+    }
+    Ok((place + 4, length - 2))
+}
+
+fn number(outcome: Result<(), No>) -> usize {
+    outcome.err().unwrap_or(0)
+}
+
+pub struct Plain;
+
+impl Pump for Plain {
+    fn name(&self) -> &'static str {
+        "plain"
+    }
+
+    fn fresh(&self, w: usize, h: usize, buffer: &mut [u8], used: &mut usize) -> usize {
+        *used = 0;
+        number(Map::fresh(w, h).and_then(|map| map.write(buffer, used)))
+    }
+
+    fn set(&self, buffer: &mut [u8], used: &mut usize, m: usize, n: usize, value: u16) -> usize {
+        number(lent(buffer, *used).and_then(|map| {
+            if m > LARGEST_SIDE || n > LARGEST_SIDE {
+                return Err(9);
+            }
+            let place = map.anchor(m as i16, n as i16)?;
+            let at = 8 + 12 * map.splits.len() + 10 * place + 8;
+            buffer[at..at + 2].copy_from_slice(&value.to_le_bytes());
+            Ok(())
+        }))
+    }
+
+    fn exact_split(&self, buffer: &mut [u8], used: &mut usize, split: [usize; 4]) -> usize {
+        let next = lent(buffer, *used).and_then(|map| map.exact_split(split));
+        number(next.and_then(|map| map.write(buffer, used)))
+    }
+
+    fn lengthened_split(&self, buffer: &mut [u8], used: &mut usize, split: [usize; 4]) -> usize {
+        let next = lent(buffer, *used).and_then(|map| map.lengthened_split(split));
+        number(next.and_then(|map| map.write(buffer, used)))
+    }
+
+    fn place(&self, file: &[u8], place: usize, out: &mut [u8]) -> usize {
+        number(Map::read(file).and_then(|map| {
+            let Blend { m, n, l, r, b, t } = *map.table.get(place).ok_or(9usize)?;
+            put([l, m, r, b, n, t, map.values[place] as i16].into_iter(), ENTRY, out)
+        }))
+    }
+
+    fn reading(&self, file: &[u8], u: usize, v: usize, litres: &mut usize) -> usize {
+        *litres = 0;
+        number(Map::read(file).and_then(|map| {
+            let (u, v) = map.point(u, v)?;
+            *litres = map.sum(u, v) as usize;
+            Ok(())
+        }))
+    }
+
+    fn weights(&self, file: &[u8], u: usize, v: usize, out: &mut [u8]) -> usize {
+        number(Map::read(file).and_then(|map| {
+            let (u, v) = map.point(u, v)?;
+            put(map.weights(u, v).into_iter().flatten(), WEIGHTS, out)
+        }))
+    }
+
+    fn same(&self, first: &[u8], second: &[u8], yes: &mut usize) -> usize {
+        *yes = 0;
+        number(Map::read(first).and_then(|first| {
+            let second = Map::read(second)?;
+            let same = first.sides == second.sides && first.table == second.table && first.values == second.values;
+            *yes = same as usize;
+            Ok(())
+        }))
+    }
+
+    fn check(&self, file: &[u8]) -> usize {
+        number(Map::read(file).map(|_| ()))
+    }
+
+    fn payload(&self, bytes: &[u8], place: usize, from: &mut usize, count: &mut usize) -> usize {
+        (*from, *count) = (0, 0);
+        number(payload(bytes, place).map(|part| (*from, *count) = part))
+    }
+
+    fn table(&self, file: &[u8], out: &mut [u8], count: &mut usize) -> usize {
+        *count = 0;
+        number(Map::read(file).and_then(|map| {
+            if out.len() < TABLE_TEXT {
+                return Err(12);
+            }
+            put_number(out, count, map.table.len() as i32, b'\n');
+            for (blend, value) in map.table.iter().zip(&map.values) {
+                let Blend { m, n, l, r, b, t } = *blend;
+                for number in [l, m, r, b, n, t] {
+                    put_number(out, count, number as i32, b' ');
+                }
+                put_number(out, count, *value as i32, b'\n');
+            }
+            Ok(())
+        }))
+    }
+}

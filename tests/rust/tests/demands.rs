@@ -1,0 +1,174 @@
+//! What must hold of every history, looked at directly: on the model's blends and readings, and on the files of two
+//! histories whose lines cover the same points.
+
+use pump_tests::calls::{compare, Call, Lent};
+use pump_tests::draw::{self, Random};
+use pump_tests::model::{first_four, live, reading, sum, table, Blend, Lines, Map, Split, LEVEL, UPRIGHT};
+use std::collections::BTreeSet;
+
+/// Maps to look at, fewer than histories.
+fn maps(test: &str) -> impl Iterator<Item = (Random, Map)> {
+    let seed = draw::seed(test);
+    (0..draw::count() / 6).map(move |number| {
+        let mut random = Random(seed ^ number << 32);
+        let (largest, tries) = (random.pick(&[4, 8, 12]), random.below(16));
+        let map = draw::map(&mut random, largest, tries);
+        (random, map)
+    })
+}
+
+/// The weights add up to exactly one at every point of the domain whose coordinates are whole numbers over d, and inside
+/// each unit square the same four blends are positive.
+#[test]
+fn weights_add_up() {
+    let mut points = 0;
+    for (mut random, map) in maps("weights_add_up") {
+        let table = map.table();
+        let d = random.pick(&[1, 2, 3, 5, 7]);
+        for x in 0..=map.w * d {
+            for y in 0..=map.h * d {
+                assert_eq!(sum(table.iter().map(|blend| blend.weight(x, y, d))), (1, 1), "{map:?} at {x}/{d} {y}/{d}");
+                points += 1;
+                if x % d != 0 && y % d != 0 {
+                    let positive = |blend: &&Blend| blend.weight(x, y, d).0 > 0;
+                    let over = |blend: &&Blend| blend.over(x / d, y / d);
+                    let four: Vec<_> = table.iter().filter(positive).collect();
+                    assert_eq!(four.len(), 4);
+                    assert_eq!(four, table.iter().filter(over).collect::<Vec<_>>());
+                }
+            }
+        }
+    }
+    println!("{points} points");
+}
+
+/// Across a split, readings at old anchors stay; at no whole point is the reading raised or lowered by more than one.
+#[test]
+fn splits_keep_readings() {
+    let (mut kept, mut lowered) = (0, 0);
+    for (mut random, mut map) in maps("splits_keep_readings") {
+        for _ in 0..6 {
+            let before = map.clone();
+            let [direction, position, from, to] = draw::split(&mut random, &map, &map.lines());
+            let outcome = match random.chance(50) {
+                true => map.exact_split(direction, position, from, to),
+                false => map.lengthened_split(direction, position, from, to),
+            };
+            if outcome.is_err() {
+                assert_eq!(map, before);
+                continue;
+            }
+            let (old, new) = (before.table(), map.table());
+            let anchors: BTreeSet<_> = old.iter().map(Blend::anchor).collect();
+            for u in 0..=map.w {
+                for v in 0..=map.h {
+                    let drop = reading(&old, &before.values, u, v) - reading(&new, &map.values, u, v);
+                    let allowed = if anchors.contains(&(u, v)) { 0..=0 } else { 0..=1 };
+                    assert!(allowed.contains(&drop), "{before:?} to {map:?}: {drop} at {u} {v}");
+                    kept += 1;
+                    lowered += drop;
+                }
+            }
+        }
+    }
+    println!("{kept} readings, {lowered} of them lowered");
+    assert!(kept == 0 || lowered > 0);
+}
+
+/// The stretches of the lines inside the domain, each as one split: the fewest that cover the same points.
+fn stretches(map: &Map) -> Vec<Split> {
+    let lines = map.lines();
+    let mut stretches = vec![];
+    for (direction, across, along) in [(UPRIGHT, map.w, map.h), (LEVEL, map.h, map.w)] {
+        for position in 1..across {
+            let has = |low: i64| 0 <= low && low < along && lines.has(direction, position, low);
+            let starts = (0..along).filter(|low| has(*low) && !has(low - 1));
+            let to = |from| (from..).find(|low| !has(*low)).unwrap();
+            stretches.extend(starts.map(|from| Split { direction, position, from, to: to(from) }));
+        }
+    }
+    stretches
+}
+
+/// The map of these splits, taken in an order in which all are accepted, if one is found.
+fn in_some_order(map: &Map, splits: &[Split]) -> Option<Map> {
+    let mut other = Map::fresh(map.w as usize, map.h as usize).unwrap();
+    let mut left = splits.to_vec();
+    while !left.is_empty() {
+        let numbers = |split: &Split| [split.position, split.from, split.to].map(|number| number as usize);
+        let next = left.iter().position(|split| {
+            let [position, from, to] = numbers(split);
+            other.exact_split(split.direction, position, from, to).is_ok()
+        })?;
+        left.remove(next);
+    }
+    Some(other)
+}
+
+/// Two histories whose lines cover the same points end with the same blends: the same splits in another order, and the
+/// joined stretches of the lines. The subjects build up their tables split by split, so they may not see the order.
+#[test]
+fn lines_alone_count() {
+    let (mut shuffled, mut joined) = (0, 0);
+    for (mut random, mut map) in maps("lines_alone_count") {
+        let mut splits = map.splits.clone();
+        random.shuffle(&mut splits);
+        let mut whole = stretches(&map);
+        random.shuffle(&mut whole);
+        for (list, count) in [(splits, &mut shuffled), (whole, &mut joined)] {
+            let Some(mut other) = in_some_order(&map, &list) else {
+                continue;
+            };
+            let changed = other.splits != map.splits;
+            *count += changed as usize;
+            assert_eq!(other.table(), map.table());
+            map.values.iter_mut().for_each(|value| *value = random.draw() as u16);
+            other.values = map.values.clone();
+            let lent = Lent::file(&map.write());
+            let text = compare(&Call::Table, &lent, &String::new);
+            let same = compare(&Call::Same(other.write(), random.chance(50)), &lent, &String::new);
+            assert_eq!((same.number, same.numbers[0]), (0, 1));
+            let lent = Lent::file(&other.write());
+            assert_eq!(compare(&Call::Table, &lent, &String::new).out(), text.out());
+            let place = random.below(map.values.len());
+            other.values[place] ^= 1 << random.below(16);
+            let same = compare(&Call::Same(map.write(), true), &Lent::file(&other.write()), &String::new);
+            assert_eq!((same.number, same.numbers[0]), (0, 0));
+        }
+    }
+    println!("{shuffled} in another order, {joined} joined");
+}
+
+/// The live blends of any lines, sound or not, do not depend on which cut is made first.
+#[test]
+fn order_of_cutting_does_not_matter() {
+    let mut random = Random(draw::seed("order_of_cutting"));
+    for _ in 0..draw::count() {
+        let (w, h) = (random.between(1, 8), random.between(1, 8));
+        let mut lines = Lines::fresh(w as i64, h as i64);
+        for _ in 0..random.below(12) {
+            let direction = random.below(2);
+            let (across, along) = if direction == UPRIGHT { (w, h) } else { (h, w) };
+            if across > 1 {
+                let position = random.between(1, across - 1) as i64;
+                let from = random.below(along);
+                let to = random.between(from + 1, along);
+                lines.draw(Split { direction, position, from: from as i64, to: to as i64 });
+            }
+        }
+        let mut blends: Vec<Blend> = first_four(w as i64, h as i64).into_iter().collect();
+        let mut done = BTreeSet::new();
+        while !blends.is_empty() {
+            let blend = blends.swap_remove(random.below(blends.len()));
+            let cuts: Vec<[Blend; 2]> = blend.cuts(&lines).collect();
+            if cuts.is_empty() {
+                done.insert(blend);
+            } else {
+                blends.extend(random.pick(&cuts).into_iter().filter(|half| !done.contains(half)));
+                blends.sort();
+                blends.dedup();
+            }
+        }
+        assert_eq!(table(done), table(live(&lines)));
+    }
+}

@@ -1,0 +1,236 @@
+//! Random histories: every answer of every subject is compared with the model's.
+
+use pump_tests::calls::{compare, Call, Lent, Outcome};
+use pump_tests::draw::{self, Random};
+use pump_tests::maps;
+use pump_tests::model::Map;
+use pump_tests::plain::Plain;
+use pump_tests::Pump;
+use std::collections::BTreeMap;
+
+/// How often each call gave each number, and how often two maps were the same.
+#[derive(Default)]
+struct Seen {
+    numbers: BTreeMap<(&'static str, usize), usize>,
+    same: [usize; 2],
+}
+
+impl Seen {
+    fn note(&mut self, call: &Call, outcome: &Outcome) {
+        *self.numbers.entry((call.name(), outcome.number)).or_default() += 1;
+        if matches!(call, Call::Same(..)) && outcome.number == 0 {
+            self.same[outcome.numbers[0]] += 1;
+        }
+    }
+
+    fn count(&self, call: &'static str, number: usize) -> usize {
+        self.numbers.get(&(call, number)).copied().unwrap_or(0)
+    }
+
+    /// Every call must have given every number that it can give, and no other. 1 and 4 have tests of their own. Nobody has
+    /// seen a lengthened split say 8, so that one may be missing.
+    fn assert_all(&self) {
+        let can: [(&'static str, &[usize]); 10] = [
+            ("set", &[0, 9, 11]),
+            ("exact", &[0, 3, 5, 6, 7, 8, 11, 12]),
+            ("lengthened", &[0, 3, 5, 6, 7, 11, 12]),
+            ("place", &[0, 9, 11, 12]),
+            ("reading", &[0, 10, 11]),
+            ("weights", &[0, 10, 11, 12]),
+            ("same", &[0, 11]),
+            ("check", &[0, 11]),
+            ("payload", &[0, 11]),
+            ("table", &[0, 11, 12]),
+        ];
+        for (call, numbers) in can {
+            let counts: Vec<usize> = (0..=12).map(|number| self.count(call, number)).collect();
+            println!("{call:>10} gave 0 to 12: {counts:?}");
+            for (number, count) in counts.into_iter().enumerate() {
+                let may = number == 4 || (call, number) == ("lengthened", 8);
+                assert!(may || numbers.contains(&number) == (count > 0), "{call} gave {number} {count} times");
+            }
+        }
+        assert!(self.same[0] > 0 && self.same[1] > 0);
+    }
+}
+
+/// The bytes lent: the file with room after it or none, sometimes too little, sometimes a length beyond the bytes.
+fn lend(random: &mut Random, call: &Call, file: &[u8]) -> Lent {
+    if call.changes() {
+        let size = match random.below(20) {
+            0 => file.len(),
+            1 => file.len() + random.below(60),
+            2 => 10_972,
+            _ => file.len() + random.between(300, 900),
+        };
+        let mut lent = Lent::buffer(file, size);
+        if random.chance(2) {
+            lent.used = match random.below(3) {
+                0 => size + random.between(1, 9),
+                1 => random.below(file.len()),
+                _ => draw::extreme(random, file.len()),
+            };
+        }
+        return lent;
+    }
+    let mut lent = Lent::file(file);
+    lent.out = match call {
+        Call::Place(_) => random.pick(&[0, 13, 14, 14, 14, 15, 40]),
+        Call::Weights(..) => random.pick(&[0, 63, 64, 64, 64, 65, 100]),
+        _ => random.pick(&[0, 65_535, 65_536, 65_536, 65_536, 65_600]),
+    };
+    if random.chance(2) {
+        lent.used = random.below(file.len());
+    }
+    lent
+}
+
+/// One history, from a fresh map; any calls, or splits alone. The model's map goes along, for the draws and as a check
+/// on the model's own files.
+fn history(random: &mut Random, seen: &mut Seen, (w, h): (usize, usize), length: usize, splits_alone: bool) -> Map {
+    let mut story = vec![];
+    let mut map = Map::fresh(w, h).unwrap();
+    let mut file = map.write();
+    let mut others = vec![file.clone()];
+    for _ in 0..length {
+        let call = match splits_alone {
+            true if random.chance(50) => Call::Exact(draw::split(random, &map, &map.lines())),
+            true => Call::Lengthened(draw::split(random, &map, &map.lines())),
+            false => draw::call(random, &map, &others),
+        };
+        let lent = lend(random, &call, &file);
+        story.push((call.clone(), lent.bytes.len(), lent.used));
+        let tell = || format!("sides {w} by {h}; calls, each with size and used: {story:?}");
+        let outcome = compare(&call, &lent, &tell);
+        seen.note(&call, &outcome);
+        if outcome.number != 0 || !call.changes() {
+            continue;
+        }
+        file = outcome.bytes()[..outcome.used].to_vec();
+        match call {
+            Call::Set(m, n, value) => map.set(m, n, value).unwrap(),
+            Call::Exact([d, p, f, t]) => drop(map.exact_split(d, p, f, t).unwrap()),
+            Call::Lengthened([d, p, f, t]) => drop(map.lengthened_split(d, p, f, t).unwrap()),
+            _ => unreachable!(),
+        }
+        assert_eq!(map.write(), file);
+        others.push(file.clone());
+    }
+    map
+}
+
+#[test]
+fn random_histories() {
+    let seed = draw::seed("random_histories");
+    let count = draw::count();
+    let mut seen = Seen::default();
+    let (mut accepted, mut drawn) = (0, 0);
+    for number in 0..count {
+        let mut random = Random(seed ^ number << 32);
+        let (sides, length) = (draw::sides(&mut random), random.below(40));
+        accepted += history(&mut random, &mut seen, sides, length, false).splits.len();
+        drawn += length;
+    }
+    println!("{count} histories, {drawn} calls, {accepted} splits accepted");
+    if count >= 1000 {
+        seen.assert_all();
+    }
+}
+
+/// Histories long enough to fill a map with 60 splits, on sides that hold them.
+#[test]
+fn full_histories() {
+    let seed = draw::seed("full_histories");
+    let mut seen = Seen::default();
+    for (number, (sides, length)) in [((70, 2), 160), ((30, 40), 110), ((128, 128), 90)].into_iter().enumerate() {
+        let mut random = Random(seed ^ (number as u64) << 32);
+        let map = history(&mut random, &mut seen, sides, length, true);
+        println!("{sides:?}: {} splits, {} blends", map.splits.len(), map.values.len());
+    }
+    assert!(seen.count("exact", 4) > 0 && seen.count("lengthened", 4) > 0);
+}
+
+/// The map of these splits on sides of 128, by the plain implementation, with values.
+fn largest(splits: &[maps::Split]) -> Vec<u8> {
+    let (mut buffer, mut used) = (vec![0; 10_972], 0);
+    assert_eq!(Plain.fresh(128, 128, &mut buffer, &mut used), 0);
+    for split in splits {
+        assert_eq!(Plain.exact_split(&mut buffer, &mut used, *split), 0);
+    }
+    buffer.truncate(used);
+    // The value stands at the end of each record of kind 3, and those are the last but one.
+    let values = (8 + 12 * splits.len()..used - 4).step_by(10);
+    for (at, record) in values.enumerate() {
+        let value = (at * 40_503 % 65_536) as u16;
+        buffer[record + 8..record + 10].copy_from_slice(&value.to_le_bytes());
+    }
+    buffer
+}
+
+/// The largest file there is, and the split that makes it in a buffer that just holds it.
+#[test]
+fn most_blends() {
+    let (last, first) = maps::grid().split_last().map(|(last, first)| (*last, first.to_vec())).unwrap();
+    let before = largest(&first);
+    let short = compare(&Call::Exact(last), &Lent::buffer(&before, 10_971), &String::new);
+    let whole = compare(&Call::Exact(last), &Lent::buffer(&before, 10_972), &String::new);
+    assert_eq!((short.number, whole.number, whole.used), (12, 0, 10_972));
+    let file = largest(&maps::grid());
+    for call in [
+        Call::Table,
+        Call::Place(1023),
+        Call::Place(1024),
+        Call::Reading(127, 126),
+        Call::Weights(128, 77),
+        Call::Same(whole.bytes().to_vec(), true),
+        Call::Set(128, 120, 65_535),
+        Call::Exact([0, 2, 0, 4]),
+    ] {
+        compare(&call, &Lent::file(&file), &String::new);
+    }
+}
+
+/// A lengthened split that finds its line as the last of very many.
+#[test]
+fn longest_search() {
+    let (last, first) = maps::fan().split_last().map(|(last, first)| (*last, first.to_vec())).unwrap();
+    let before = Lent::buffer(&largest(&first), 10_972);
+    let searched = compare(&Call::Lengthened(maps::FAN_GIVEN), &before, &String::new);
+    let drawn = compare(&Call::Exact(last), &before, &String::new);
+    assert_eq!((searched.number, searched.bytes()), (0, drawn.bytes()));
+}
+
+/// Calls on different bytes may run at the same time.
+#[test]
+fn at_the_same_time() {
+    let seed = draw::seed("at_the_same_time");
+    std::thread::scope(|scope| {
+        for number in 0..4 {
+            scope.spawn(move || {
+                let mut random = Random(seed ^ (100 + number) << 32);
+                for _ in 0..20 {
+                    history(&mut random, &mut Seen::default(), (9, 8), 30, false);
+                }
+            });
+        }
+    });
+}
+
+/// Fresh maps of all sides, good and bad, in buffers of all sizes around the file's.
+#[test]
+fn fresh_maps() {
+    let mut random = Random(draw::seed("fresh_maps"));
+    let mut seen = Seen::default();
+    for round in 0..2000 {
+        let mut side = || match random.below(4) {
+            0 => draw::extreme(&mut random, 128),
+            _ => random.between(0, 129),
+        };
+        let call = Call::Fresh(side(), side());
+        let mut lent = Lent::buffer(&[], random.pick(&[0, 1, 51, 52, 53, 100]));
+        lent.used = round;
+        let outcome = compare(&call, &lent, &String::new);
+        seen.note(&call, &outcome);
+    }
+    assert!([0, 1, 12].iter().all(|number| seen.count("fresh", *number) > 100));
+}
