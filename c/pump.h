@@ -7,7 +7,8 @@
  *
  * Every call returns a number. 0 is yes; any other is the first refusal that applies, of the table below. After a
  * refusal the bytes that were lent, and *used, are as they were; every other number handed back is 0.
- * Nothing is kept between calls, so calls on different bytes may run at the same time.
+ * Nothing is kept between calls, so calls on different bytes may run at the same time. A call allocates nothing and needs
+ * less than half a megabyte of stack.
  *
  * The caller owes what C cannot say: each pointer points to as many bytes as the size after it says (a pointer with
  * size 0 is not null), no two of the things that a call may change overlap each other or anything else that is lent to
