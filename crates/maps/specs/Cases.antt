@@ -2,7 +2,7 @@
 use Prim.Native.Nat.{ℕ}
 use mathlib.Core.Path.{_≡_, refl}
 use mathlib.Core.List.{List, [], _∷_}
-use lib.ListN.{length}
+use lib.ListN.{length, replicate}
 use Rattle.mesh.specs.declared.Split.{Split}
 use Rattle.mesh.specs.Triple as Triple
 use Rattle.mesh.specs.Lines as Lines
@@ -91,9 +91,9 @@ beside =
     on 4 1 (row (set 4 0 6) 0 4 ∷ row (exact (upright 1 0 1)) 0 6 ∷ row (reads 1 0) 0 1 ∷ row (reads 4 0) 0 6 ∷ []) ∷
     -- points and anchors outside; far sides
     on 8 8 (row (reads 8 8) 0 0 ∷ row (reads 9 0) 10 0 ∷ row (set 1 0 7) 9 4 ∷ row (set 8 8 65535) 0 4 ∷ row (reads 8 8) 0 65535 ∷ []) ∷
-    -- lines that touch are one line; a line grows to the left
+    -- lines that share one step; lines that touch are one line; a line grows to the left
     on 8 8
-    (row (exact (level 4 0 8)) 0 6 ∷ row (exact (upright 4 0 4)) 0 7 ∷ row (exact (upright 4 4 8)) 0 9 ∷ row (exact (upright 6 0 4)) 0 10 ∷
+    (row (exact (level 4 0 8)) 0 6 ∷ row (exact (upright 4 0 4)) 0 7 ∷ row (exact (upright 4 3 8)) 5 7 ∷ row (exact (upright 4 4 8)) 0 9 ∷ row (exact (upright 6 0 4)) 0 10 ∷
     row (lengthened (level 2 6 8)) 0 14 ∷ []) ∷
     -- sides of one step
     on 1 1 (row (reads 1 1) 0 0 ∷ row (exact (upright 1 0 1)) 3 4 ∷ []) ∷
@@ -110,4 +110,12 @@ all-starred = ((refl, refl, (refl, refl, (refl, refl, (refl, refl, (refl, refl, 
 
 all-beside : AllRight beside
 unfolding AllRight on starred beside Right row upright level numberOf shownBy setPlain drawn given exactNumber containing candidate chosen readingAt carried freshPlain Triple.half Triple.hat Lines.inRange Lines.draws Lines.freshMesh Lines.mesh Lines.onLine Lines.shares Lines.ended Blends.halve Blends.below Blends.above Blends.nearest Blends.isCut Blends.leaves Blends.leavesOf Blends.once Blends.inTableOrder Blends.refine Blends.live Sound.fourEverywhere Sound.noneNested Sound.sound
-all-beside = ((refl, refl, (refl, refl, (refl, refl, (refl, refl, tt)))), ((refl, refl, (refl, refl, (refl, refl, (refl, refl, (refl, refl, tt))))), ((refl, refl, (refl, refl, (refl, refl, (refl, refl, (refl, refl, tt))))), ((refl, refl, (refl, refl, tt)), tt))))
+all-beside = ((refl, refl, (refl, refl, (refl, refl, (refl, refl, tt)))), ((refl, refl, (refl, refl, (refl, refl, (refl, refl, (refl, refl, tt))))), ((refl, refl, (refl, refl, (refl, refl, (refl, refl, (refl, refl, (refl, refl, tt)))))), ((refl, refl, (refl, refl, tt)), tt))))
+
+-- A map of 60 splits takes no more: 4 comes after 3 and before 5; with 59 the next check is made.
+crowded : ℕ → Plain
+crowded n = record { w = 8; h = 8; splits = replicate n (upright 4 0 8); values = [] }
+
+sixty-splits : (given (crowded 60) (upright 8 0 8) ≡ 3) × (given (crowded 60) (upright 4 0 8) ≡ 4) × (given (crowded 59) (upright 4 0 8) ≡ 5)
+unfolding crowded upright given Lines.inRange Lines.draws Lines.freshMesh Lines.mesh Lines.shares
+sixty-splits = (refl, refl, refl)
