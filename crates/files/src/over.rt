@@ -5,9 +5,9 @@ use crate::listing::put_map;
 use crate::put::put_pair;
 use crate::put_whole;
 use crate::read;
+use crate::read_with_table;
 use crate::refused;
 use crate::write;
-use maps::Changed;
 use maps::Map;
 use maps::Shape;
 use maps::Weight;
@@ -20,19 +20,19 @@ ghost use Prim.Native.Nat.{ℕ, _+_, _≤_, _<_};
 ghost use lib.Dec.{leb};
 ghost use lib.ListN.{length};
 ghost use Rattle.maps.specs.Record.{good, opened, plain};
-ghost use Rattle.maps.specs.Calls.{setValue, exactSplit, lengthenedSplit};
+ghost use Rattle.maps.specs.Calls.{withTable, setValue, exactSplit, lengthenedSplit};
 ghost use Rattle.files.specs.File.{put, fileOf};
 ghost use Rattle.files.specs.Calls.{readFile, writeNumber, payloadNumber};
 ghost use Rattle.files.specs.Over.{answered, lent, changeNumber, changeBytes, changeUsed, freshNumber, freshBytes, freshUsed, signed, shapeBytes, placeNumber, placeAfter, weightBytes, weightsNumber, weightsAfter, readingNumber, readingLitres, sameNumber, sameYes, checkNumber, payloadFrom, payloadCount, textNumber, textAfter, textCount};
 
-// The map whose file the first `used` of the bytes are; refused with 11 where they are none, or fewer are lent.
-fn read_lent(bytes: &[u8], used: usize) -> Changed
-    ensures { λ r. ⌜ r ≡ readFile (lent (now (bytes .entry)) used) ⌝ }
+// The map whose file the first `used` of the bytes are, with its table; refused with 11 where they are none, or fewer are lent.
+fn read_lent(bytes: &[u8], used: usize) -> WithTable
+    ensures { λ r. ⌜ r ≡ withTable (readFile (lent (now (bytes .entry)) used)) ⌝ }
 {
     if bytes.len() < used {
         return refused();
     }
-    read(&bytes[..used])
+    read_with_table(&bytes[..used])
 }
 
 // Ends a call that changes a map: its own refusal, or the new file in the place of the old one; refused with 12.
@@ -272,7 +272,7 @@ pub fn text(bytes: &[u8], out: &mut [u8], count: &mut usize) -> usize
         (now (count .exit) ≡ textCount (now (bytes .entry)) (now (out .entry))) ⌝ }
 {
     *count = 0;
-    let file = read(bytes);
+    let file = read_with_table(bytes);
     if file.number != 0 {
         return file.number;
     }
@@ -280,6 +280,7 @@ pub fn text(bytes: &[u8], out: &mut [u8], count: &mut usize) -> usize
         return 12;
     }
     let map = file.map;
-    *count = put_map(out, map);
+    let table = file.table;
+    *count = put_map(out, map, table);
     0
 }
