@@ -106,11 +106,11 @@ pub(crate) fn read_with_table(bytes: &[u8]) -> WithTable
         return refused();
     }
     let map = taken(bytes, count, places);
-    let opened = open(map);
-    if !opened.good {
+    let known = open(map);
+    if !known.good {
         return refused();
     }
-    let table = opened.table;
+    let table = known.table;
     let mut buffer = [0u8; 10972];
     let file = put_whole(&mut buffer, map, table);
     if file.number != 0 {

@@ -18,7 +18,7 @@ ghost use Prim.Native.Nat.{ℕ, _<_};
 ghost use Rattle.maps.specs.Record.{good, plain, recordOf};
 ghost use Rattle.maps.specs.Splits.{drawn, soundWith};
 ghost use Rattle.maps.specs.Plain.{blends};
-ghost use Rattle.maps.specs.Calls.{setValue, exactSplit, lengthenedSplit, withTable};
+ghost use Rattle.maps.specs.Calls.{setValue, exactSplit, lengthenedSplit, withTable, setIn};
 ghost use Rattle.maps.specs.Inner.{linesOf};
 ghost use Rattle.mesh.specs.Sound.{table};
 
@@ -94,28 +94,41 @@ impl Map {
                 table: none,
             };
         }
-        let live = opened.table;
+        self.set_in(opened.table, m, n, value)
+    }
+
+    // `set_with_table`, with the map's table in hand.
+    pub fn set_in(self, table: Table, m: usize, n: usize, value: u16) -> WithTable
+        ensures { λ r. ⌜ r ≡ setIn self table m n value ⌝ }
+    {
+        if 1024 < table.count {
+            return WithTable {
+                number: 2,
+                map: self,
+                table: table,
+            };
+        }
         // An anchor lies within the sides, so that its knots fit.
         if Map::LARGEST_SIDE < m {
             return WithTable {
                 number: 9,
                 map: self,
-                table: live,
+                table: table,
             };
         }
         if Map::LARGEST_SIDE < n {
             return WithTable {
                 number: 9,
                 map: self,
-                table: live,
+                table: table,
             };
         }
-        let place = place_of(live, m + 1, n + 1);
-        if live.count <= place {
+        let place = place_of(table, m + 1, n + 1);
+        if table.count <= place {
             return WithTable {
                 number: 9,
                 map: self,
-                table: live,
+                table: table,
             };
         }
         let mut next = self;
@@ -123,7 +136,7 @@ impl Map {
         WithTable {
             number: 0,
             map: next,
-            table: live,
+            table: table,
         }
     }
 
