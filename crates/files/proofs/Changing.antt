@@ -12,6 +12,7 @@ use Rattle.maps.specs.declared.WithTable.{WithTable}
 use Rattle.maps.specs.Plain.{freshPlain}
 use Rattle.maps.specs.Record.{noSplit, recordOf, plain, good, opened}
 use Rattle.maps.specs.Calls.{changed, withTable}
+use Rattle.maps.proofs.Recording.{GoodMap, opened-map}
 use Rattle.files.specs.declared.Written.{Written}
 use Rattle.files.specs.File.{fileOf, guessed}
 use Rattle.files.specs.Calls.{writeNumber, written, after, readFile}
@@ -60,6 +61,9 @@ module _ (bytes : List ℕ) {file : WithTable} (is : file ≡ withTable (readFil
 
   pub taken-room : length (file .map .values) ≡ 1024
   taken-room = rw is (read-room bytes accepted)
+
+  pub taken-map : GoodMap (file .map) (file .table)
+  taken-map = opened-map (file .map) (file .table) taken-places taken-room (taken-handed .0) (taken-handed .1)
 
 -- no bytes are no file
 pub no-bytes : readFile [] ≡ changed 11 (recordOf (freshPlain 1 1))

@@ -83,7 +83,7 @@ pub fn set(buffer: &mut [u8], used: &mut usize, m: usize, n: usize, value: u16) 
         return old.number;
     }
     let map = old.map;
-    let next = map.set_with_table(m, n, value);
+    let next = map.set_in(old.table, m, n, value);
     replace(buffer, used, next)
 }
 
@@ -143,12 +143,12 @@ fn put_shape(out: &mut [u8], at: usize, s: Shape)
 pub fn place(bytes: &[u8], i: usize, out: &mut [u8]) -> usize
     ensures { λ r. ⌜ (r ≡ placeNumber (now (bytes .entry)) i (now (out .entry))) × (now (out .exit) ≡ placeAfter (now (bytes .entry)) i (now (out .entry))) ⌝ }
 {
-    let file = read(bytes);
+    let file = read_with_table(bytes);
     if file.number != 0 {
         return file.number;
     }
     let map = file.map;
-    let p = map.place(i);
+    let p = map.place_in(file.table, i);
     if p.number != 0 {
         return p.number;
     }
@@ -166,12 +166,12 @@ pub fn reading(bytes: &[u8], u: usize, v: usize, litres: &mut usize) -> usize
     ensures { λ r. ⌜ (r ≡ readingNumber (now (bytes .entry)) u v) × (now (litres .exit) ≡ readingLitres (now (bytes .entry)) u v) ⌝ }
 {
     *litres = 0;
-    let file = read(bytes);
+    let file = read_with_table(bytes);
     if file.number != 0 {
         return file.number;
     }
     let map = file.map;
-    let answer = map.reading(u, v);
+    let answer = map.reading_in(file.table, u, v);
     if answer.number != 0 {
         return answer.number;
     }
@@ -194,12 +194,12 @@ pub fn weights(bytes: &[u8], u: usize, v: usize, out: &mut [u8]) -> usize
     ensures { λ r. ⌜ (r ≡ weightsNumber (now (bytes .entry)) u v (now (out .entry))) ×
         (now (out .exit) ≡ weightsAfter (now (bytes .entry)) u v (now (out .entry))) ⌝ }
 {
-    let file = read(bytes);
+    let file = read_with_table(bytes);
     if file.number != 0 {
         return file.number;
     }
     let map = file.map;
-    let four = map.weights(u, v);
+    let four = map.weights_in(file.table, u, v);
     if four.number != 0 {
         return four.number;
     }
@@ -222,17 +222,17 @@ pub fn same<'a>(one: &'a [u8], two: &'a [u8], yes: &mut usize) -> usize
     ensures { λ r. ⌜ (r ≡ sameNumber (now (one .entry)) (now (two .entry))) × (now (yes .exit) ≡ sameYes (now (one .entry)) (now (two .entry))) ⌝ }
 {
     *yes = 0;
-    let left = read(one);
+    let left = read_with_table(one);
     if left.number != 0 {
         return left.number;
     }
-    let right = read(two);
+    let right = read_with_table(two);
     if right.number != 0 {
         return right.number;
     }
     let map = left.map;
     let other = right.map;
-    let answer = map.same(other);
+    let answer = map.same_in(left.table, other, right.table);
     if answer.number != 0 {
         return answer.number;
     }

@@ -6,8 +6,8 @@ use mathlib.Core.Logic.{⊎-elim}
 use mathlib.Core.Bool.{true, false, not, _&&_}
 use mathlib.Core.List.{List, [], _∷_, _++_, map, append-assoc, List·Memᴰ, Memᴰ·append-left}
 use mathlib.Core.List.List·Memᴰ.{List·Memᴰ·head}
-use borrow.Author.Tests.{eq-eqb, leb-true, not-false, ltb-true, ltb-false, le-ltb, lt-ltb}
-use lib.Dec.{ltb, leb}
+use borrow.Author.Tests.{eq-eqb, not-false, ltb-true, ltb-false, le-ltb, lt-ltb}
+use lib.Dec.{ltb}
 use lib.ListN.{length, getD, set, take, drop, take-append-drop, replicate, length-append, length-map, length-set}
 use lib.Seq.{getD-take, set-append-seam, set-append-left}
 use mir.Val.{Val}
@@ -21,9 +21,8 @@ use Rattle.mesh.specs.Sound.{none, proper, sound, table, blendsOf}
 use Rattle.mesh.specs.Range.{all, only}
 use Rattle.mesh.proofs.SoundMaps.{live-proper}
 use Rattle.mesh.proofs.Places.{proper-facts}
-use Rattle.mesh.proofs.Cutting.{proper-most}
 use Rattle.mesh.proofs.AtMost.{at-most}
-use Rattle.mesh.proofs.Tests.{only-mem, all-of, all-at, either, and-both, true-not-false, cond-true, cond-false}
+use Rattle.mesh.proofs.Tests.{only-mem, all-of, either, and-both, true-not-false, cond-true, cond-false}
 use Rattle.maps.specs.declared.Map.{Map}
 use Rattle.maps.specs.declared.splits.Step.{Step}
 use Rattle.maps.specs.declared.splits.Found.{Found}
@@ -40,7 +39,7 @@ use Rattle.maps.proofs.Exact.{entry}
 use Rattle.maps.proofs.Readings.{place-found}
 use Rattle.maps.proofs.Replay.{opened-good, opened-table}
 use Rattle.maps.proofs.Good.{GoodFacts, good-facts}
-use Rattle.maps.proofs.InHand.{hand-sides, hand-few, hand-length, hand-count, hand-blends, hand-proper, table-count, table-blends, given-says, exact-says}
+use Rattle.maps.proofs.InHand.{hand-sides, hand-few, hand-length, hand-count, hand-blends, table-count, table-blends, given-says, exact-says}
 
 -- a list padded to a length: with one entry more, and with one of its entries set
 module _ {A : Type 0} (xs : List A) (n : ℕ) (d x : A) where

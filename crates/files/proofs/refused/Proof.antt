@@ -1,6 +1,6 @@
 -- `refused` meets its contract: what `Map::fresh` gives for sides 1 and 1, opened.
 use borrow.Author.Needs.{needs}
-use mathlib.Core.Path.{ap, _∙_}
+use mathlib.Core.Path.{ap}
 use Rattle.maps.specs.declared.Changed.{Changed}
 use Rattle.maps.specs.Calls.{changed, freshMap}
 use Rattle.maps.proofs.Handed.{kept-table}
