@@ -51,7 +51,7 @@ module _ {m : Map} {t : Table} (g : GoodMap m t) where
   drawn-table s z = new-table (drawn (plain m) s) (drawn-holds (g .facts .holds) s z)
 
   -- a value set
-  pub set-table : (i j v : ℕ) → let k = placeOf (blends (plain m)) (i + 1) (j + 1) in k < length (blends (plain m)) →
+  set-table : (i j v : ℕ) → let k = placeOf (blends (plain m)) (i + 1) (j + 1) in k < length (blends (plain m)) →
       record {
         number = 0;
         map = record { w = m .w; h = m .h; count = m .count; splits = m .splits; values = set (m .values) k v };

@@ -64,7 +64,14 @@ impl Map {
     pub fn set(self, m: usize, n: usize, value: u16) -> Changed
         ensures { λ r. ⌜ r ≡ setValue self m n value ⌝ }
     {
-        without_table(self.set_with_table(m, n, value))
+        let opened = open(self);
+        if !opened.good {
+            return Changed {
+                number: 2,
+                map: self,
+            };
+        }
+        without_table(self.set_in(opened.table, m, n, value))
     }
 
     // Draws a line as given: refused with 2 to 8.
@@ -81,23 +88,7 @@ impl Map {
         without_table(self.lengthened_with_table(s))
     }
 
-    // `set`, with the table of the map handed back.
-    pub fn set_with_table(self, m: usize, n: usize, value: u16) -> WithTable
-        ensures { λ r. ⌜ r ≡ withTable (setValue self m n value) ⌝ }
-    {
-        let opened = open(self);
-        if !opened.good {
-            let none = opened.table;
-            return WithTable {
-                number: 2,
-                map: self,
-                table: none,
-            };
-        }
-        self.set_in(opened.table, m, n, value)
-    }
-
-    // `set_with_table`, with the map's table in hand.
+    // `set`, with the table of the map in hand, and handed back.
     pub fn set_in(self, table: Table, m: usize, n: usize, value: u16) -> WithTable
         ensures { λ r. ⌜ r ≡ setIn self table m n value ⌝ }
     {
