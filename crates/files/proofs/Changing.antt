@@ -12,6 +12,7 @@ use Rattle.maps.specs.declared.WithTable.{WithTable}
 use Rattle.maps.specs.Plain.{freshPlain}
 use Rattle.maps.specs.Record.{noSplit, recordOf, plain, good, opened}
 use Rattle.maps.specs.Calls.{changed, withTable}
+use Rattle.maps.proofs.Recording.{GoodMap, opened-map}
 use Rattle.files.specs.declared.Written.{Written}
 use Rattle.files.specs.File.{fileOf, guessed}
 use Rattle.files.specs.Calls.{writeNumber, written, after, readFile}
@@ -43,13 +44,17 @@ module _ (bytes : List ℕ) (z : readFile bytes .number ≡ 0) where
       rw (a .2)
       (omega (arith, length-append (P .values) (replicate (1024 - length (P .values)) zero), length-replicate {A = ℕ} (1024 - length (P .values)) 0, guessed-values bytes, told-length bytes few (a .1), few))
 
--- the same of the map that was read from them, with the table that a call on it hands back
-module _ (bytes : List ℕ) {file : Changed} (is : file ≡ readFile bytes) (z : file .number ≡ 0) where
+-- the table that a call hands back with a good map
+pub handed : (w : WithTable) (c : Changed) → w ≡ withTable c → good (c .map) ≡ true → (good (w .map) ≡ true) × (w .table ≡ opened (w .map) .table)
+handed w c is y = rw is (y, refl)
+
+-- the same of the map that was read from them, and its table
+module _ (bytes : List ℕ) {file : WithTable} (is : file ≡ withTable (readFile bytes)) (z : file .number ≡ 0) where
   accepted : readFile bytes .number ≡ 0
   accepted = rw is at z
 
-  pub taken-good : good (file .map) ≡ true
-  taken-good = rw is (read-good bytes accepted)
+  pub taken-handed : (good (file .map) ≡ true) × (file .table ≡ opened (file .map) .table)
+  taken-handed = handed file _ is (read-good bytes accepted)
 
   pub taken-places : length (file .map .splits) ≡ 60
   taken-places = rw is (read-places bytes accepted)
@@ -57,8 +62,8 @@ module _ (bytes : List ℕ) {file : Changed} (is : file ≡ readFile bytes) (z :
   pub taken-room : length (file .map .values) ≡ 1024
   taken-room = rw is (read-room bytes accepted)
 
-pub handed : (w : WithTable) (c : Changed) → w ≡ withTable c → good (c .map) ≡ true → (good (w .map) ≡ true) × (w .table ≡ opened (w .map) .table)
-handed w c is y = rw is (y, refl)
+  pub taken-map : GoodMap (file .map) (file .table)
+  taken-map = opened-map (file .map) (file .table) taken-places taken-room (taken-handed .0) (taken-handed .1)
 
 -- no bytes are no file
 pub no-bytes : readFile [] ≡ changed 11 (recordOf (freshPlain 1 1))

@@ -45,7 +45,7 @@ module _ (m : Map) {o : Opened} (e : o ≡ opened m) where
   in-hand t = (sym same-good ∙ t, ap (λ (x : Opened). x .table) e)
 
 module _ (m : Map) (t : Table) (good? : good m ≡ true) (its : t ≡ opened m .table) where
-  its-table : t ≡ table (blends (bare m))
+  pub its-table : t ≡ table (blends (bare m))
   unfolding opened
   its-table = its ∙ rw good?
 

@@ -76,8 +76,11 @@ module _ (bytes : List ℕ) where
       let long = told-length bytes few e in
       record { least = omega (arith, long, guessed-splits bytes); most = omega (arith, long, guessed-splits bytes) }
 
-  -- the map that they tell, written into a buffer that any file fits
+  -- the map that they tell, opened, and written into a buffer that any file fits
   module _ (m : Map) (is : m ≡ told bytes) where
+    pub not-opened : good m ≡ false → readFile bytes ≡ changed 11 (recordOf (freshPlain 1 1))
+    not-opened f = is-refused bytes (λ g e. true-not-false _ g (rw is at f))
+
     pub not-written : (buffer : List ℕ) {w : Written} → w ≡ written m buffer → length buffer ≡ 10972 → (w .number ≡ 0 → ⊥) →
         readFile bytes ≡ changed 11 (recordOf (freshPlain 1 1))
     not-written buffer {w} p room ne =

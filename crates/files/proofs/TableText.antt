@@ -10,35 +10,26 @@ use borrow.Author.Tests.{lt-ltb, le-ltb, eq-eqb, eqb-true}
 use lib.Dec.{eqb, ltb}
 use lib.ListN.{length, length-append}
 use Rattle.mesh.specs.Range.{joined}
-use Rattle.mesh.specs.Sound.{table}
+use Rattle.mesh.specs.declared.Table.{Table}
 use Rattle.mesh.proofs.Tests.{either, and-both, false-of}
 use Rattle.maps.specs.declared.Map.{Map}
 use Rattle.maps.specs.declared.Changed.{Changed}
-use Rattle.maps.specs.declared.record.Opened.{Opened}
-use Rattle.maps.specs.Plain.{blends}
-use Rattle.maps.specs.Record.{recordOf, bare, plain, good, opened}
+use Rattle.maps.specs.Record.{recordOf, plain, good, opened}
 use Rattle.maps.proofs.InHand.{table-blends, table-count}
 use Rattle.files.specs.declared.Written.{Written}
 use Rattle.files.specs.File.{fileOf, guessed, sameBytes, put}
 use Rattle.files.specs.Calls.{readFile}
-use Rattle.files.specs.Inner.{Listed, Puts, terms}
+use Rattle.files.specs.Inner.{Puts, terms}
 use Rattle.files.specs.Listing.{ended, line, tableText, refusal, listing, listed, listedAfter}
 use Rattle.files.specs.Over.{shortOf, textNumber, textAfter, textCount}
 use Rattle.files.proofs.Refusals.{second-says, third-says, left-so, given-so}
-use Rattle.files.proofs.Filing.{ready}
+use Rattle.files.proofs.Filing.{its-table}
 
 -- a good map's table, in hand, has the map's text
-module _ (m : Map) {o : Opened} (e : o ≡ opened m) (g : good m ≡ true) where
-  opened-good : o ≡ record { good = true; table = table (blends (bare m)) }
-  unfolding opened
-  opened-good = e ∙ rw g
-
-  pub hand-listed : length (m .splits) ≡ 60 → length (m .values) ≡ 1024 → Listed (o .table)
-  hand-listed places full = ready m (o .table) g (ap (λ (x : Opened). x .table) e) places full .listed
-
-  pub hand-text : ended (o .table .count) ++ joined line (terms (o .table) (m .values)) ≡ tableText (plain m)
-  unfolding plain
-  hand-text = rw (opened-good, table-blends, table-count)
+pub hand-text : (m : Map) (t : Table) → good m ≡ true → t ≡ opened m .table →
+    ended (t .count) ++ joined line (terms t (m .values)) ≡ tableText (plain m)
+unfolding plain
+hand-text m t g its = rw (its-table m t g its, table-blends, table-count)
 
 module _ (bytes out : List ℕ) where
   abbrev outcome : ℕ → ℕ → List ℕ → Type 0

@@ -11,13 +11,14 @@ use crate::take::equal;
 use crate::take::taken;
 use maps::Changed;
 use maps::Map;
+use maps::WithTable;
 use maps::record::open;
 use mesh::Table;
 ghost use mathlib.Core.Path.{_≡_};
 ghost use Rattle.maps.specs.Plain.{freshPlain};
 ghost use mathlib.Core.Bool.{true};
 ghost use Rattle.maps.specs.Record.{recordOf, good, opened};
-ghost use Rattle.maps.specs.Calls.{changed};
+ghost use Rattle.maps.specs.Calls.{changed, withTable};
 ghost use Rattle.files.specs.Calls.{written, after, readFile};
 
 // A number, and how many bytes were written.
@@ -59,22 +60,37 @@ pub(crate) fn put_whole(buffer: &mut [u8], map: Map, table: Table) -> Written
     }
 }
 
-// The fresh 1 by 1 map, with 11.
-pub(crate) fn refused() -> Changed
-    ensures { λ r. ⌜ r ≡ changed 11 (recordOf (freshPlain 1 1)) ⌝ }
+// The fresh 1 by 1 map and its table, with 11.
+pub(crate) fn refused() -> WithTable
+    ensures { λ r. ⌜ r ≡ withTable (changed 11 (recordOf (freshPlain 1 1))) ⌝ }
 {
     let fresh = Map::fresh(1, 1);
     let map = fresh.map;
-    Changed {
+    let opened = open(map);
+    let table = opened.table;
+    WithTable {
         number: 11,
+        map: map,
+        table: table,
+    }
+}
+
+// The map whose file the bytes are: refused with 11.
+pub fn read(bytes: &[u8]) -> Changed
+    ensures { λ r. ⌜ r ≡ readFile (now (bytes .entry)) ⌝ }
+{
+    let file = read_with_table(bytes);
+    let map = file.map;
+    Changed {
+        number: file.number,
         map: map,
     }
 }
 
-// The map whose file the bytes are: refused with 11. The numbers at a file's places make a map;
-// the bytes are its file where writing it gives the same bytes.
-pub fn read(bytes: &[u8]) -> Changed
-    ensures { λ r. ⌜ r ≡ readFile (now (bytes .entry)) ⌝ }
+// `read`, with the table of the map, so that the record is not opened again for a call on it. The numbers at a file's places
+// make a map; the bytes are its file where writing it gives the same bytes.
+pub(crate) fn read_with_table(bytes: &[u8]) -> WithTable
+    ensures { λ r. ⌜ r ≡ withTable (readFile (now (bytes .entry))) ⌝ }
 {
     let length = bytes.len();
     if length < 12 {
@@ -90,8 +106,13 @@ pub fn read(bytes: &[u8]) -> Changed
         return refused();
     }
     let map = taken(bytes, count, places);
+    let known = open(map);
+    if !known.good {
+        return refused();
+    }
+    let table = known.table;
     let mut buffer = [0u8; 10972];
-    let file = write(map, &mut buffer);
+    let file = put_whole(&mut buffer, map, table);
     if file.number != 0 {
         return refused();
     }
@@ -99,8 +120,9 @@ pub fn read(bytes: &[u8]) -> Changed
     if !equal(bytes, &buffer[..size]) {
         return refused();
     }
-    Changed {
+    WithTable {
         number: 0,
         map: map,
+        table: table,
     }
 }

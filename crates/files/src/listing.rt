@@ -1,8 +1,7 @@
 // The table of a map file as text: what the table program prints.
 use crate::Written;
-use crate::read;
+use crate::read_with_table;
 use maps::Map;
-use maps::record::open;
 use mesh::Blend;
 use mesh::Table;
 use mesh::Triple;
@@ -13,7 +12,7 @@ ghost use mathlib.Core.List.{[], _∷_, _++_};
 ghost use Prim.Native.Nat.{_+_, _%_, _≤_, _<_};
 ghost use lib.ListN.{length};
 ghost use Rattle.mesh.specs.Range.{joined};
-ghost use Rattle.maps.specs.Record.{plain, good};
+ghost use Rattle.maps.specs.Record.{plain, good, opened};
 ghost use Rattle.files.specs.File.{put};
 ghost use Rattle.files.specs.Inner.{Listed, Puts, terms};
 ghost use Rattle.files.specs.Listing.{digits, coordinate, spaced, ended, knots, line, tableText, refusal, listed, listedAfter};
@@ -140,14 +139,12 @@ fn put_refusal(out: &mut [u8])
     out[10] = b'\n';
 }
 
-// Puts the table of a good map.
-pub(crate) fn put_map(out: &mut [u8], map: Map) -> usize
-    requires { ⌜ (good map ≡ true) × (65536 ≤ length (now out)) ⌝ }
+// Puts the table of a good map whose table is in hand.
+pub(crate) fn put_map(out: &mut [u8], map: Map, table: Table) -> usize
+    requires { ⌜ (good map ≡ true) × (table ≡ opened map .table) × (65536 ≤ length (now out)) ⌝ }
     ensures { λ r. ⌜ Puts (now (out .entry)) 0 (tableText (plain map)) (now (out .exit)) r ⌝ }
 {
     let values = map.values;
-    let opened = open(map);
-    let table = opened.table;
     put_table(out, table, values)
 }
 
@@ -161,7 +158,7 @@ pub fn list(bytes: &[u8], out: &mut [u8]) -> Written
             length: 0,
         };
     }
-    let file = read(bytes);
+    let file = read_with_table(bytes);
     if file.number != 0 {
         put_refusal(out);
         return Written {
@@ -170,7 +167,8 @@ pub fn list(bytes: &[u8], out: &mut [u8]) -> Written
         };
     }
     let map = file.map;
-    let length = put_map(out, map);
+    let table = file.table;
+    let length = put_map(out, map, table);
     Written {
         number: 0,
         length: length,

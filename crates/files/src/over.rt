@@ -5,9 +5,9 @@ use crate::listing::put_map;
 use crate::put::put_pair;
 use crate::put_whole;
 use crate::read;
+use crate::read_with_table;
 use crate::refused;
 use crate::write;
-use maps::Changed;
 use maps::Map;
 use maps::Shape;
 use maps::Weight;
@@ -20,19 +20,19 @@ ghost use Prim.Native.Nat.{ℕ, _+_, _≤_, _<_};
 ghost use lib.Dec.{leb};
 ghost use lib.ListN.{length};
 ghost use Rattle.maps.specs.Record.{good, opened, plain};
-ghost use Rattle.maps.specs.Calls.{setValue, exactSplit, lengthenedSplit};
+ghost use Rattle.maps.specs.Calls.{withTable, setValue, exactSplit, lengthenedSplit};
 ghost use Rattle.files.specs.File.{put, fileOf};
 ghost use Rattle.files.specs.Calls.{readFile, writeNumber, payloadNumber};
 ghost use Rattle.files.specs.Over.{answered, lent, changeNumber, changeBytes, changeUsed, freshNumber, freshBytes, freshUsed, signed, shapeBytes, placeNumber, placeAfter, weightBytes, weightsNumber, weightsAfter, readingNumber, readingLitres, sameNumber, sameYes, checkNumber, payloadFrom, payloadCount, textNumber, textAfter, textCount};
 
-// The map whose file the first `used` of the bytes are; refused with 11 where they are none, or fewer are lent.
-fn read_lent(bytes: &[u8], used: usize) -> Changed
-    ensures { λ r. ⌜ r ≡ readFile (lent (now (bytes .entry)) used) ⌝ }
+// The map whose file the first `used` of the bytes are, with its table; refused with 11 where they are none, or fewer are lent.
+fn read_lent(bytes: &[u8], used: usize) -> WithTable
+    ensures { λ r. ⌜ r ≡ withTable (readFile (lent (now (bytes .entry)) used)) ⌝ }
 {
     if bytes.len() < used {
         return refused();
     }
-    read(&bytes[..used])
+    read_with_table(&bytes[..used])
 }
 
 // Ends a call that changes a map: its own refusal, or the new file in the place of the old one; refused with 12.
@@ -83,7 +83,7 @@ pub fn set(buffer: &mut [u8], used: &mut usize, m: usize, n: usize, value: u16) 
         return old.number;
     }
     let map = old.map;
-    let next = map.set_with_table(m, n, value);
+    let next = map.set_in(old.table, m, n, value);
     replace(buffer, used, next)
 }
 
@@ -143,12 +143,12 @@ fn put_shape(out: &mut [u8], at: usize, s: Shape)
 pub fn place(bytes: &[u8], i: usize, out: &mut [u8]) -> usize
     ensures { λ r. ⌜ (r ≡ placeNumber (now (bytes .entry)) i (now (out .entry))) × (now (out .exit) ≡ placeAfter (now (bytes .entry)) i (now (out .entry))) ⌝ }
 {
-    let file = read(bytes);
+    let file = read_with_table(bytes);
     if file.number != 0 {
         return file.number;
     }
     let map = file.map;
-    let p = map.place(i);
+    let p = map.place_in(file.table, i);
     if p.number != 0 {
         return p.number;
     }
@@ -166,12 +166,12 @@ pub fn reading(bytes: &[u8], u: usize, v: usize, litres: &mut usize) -> usize
     ensures { λ r. ⌜ (r ≡ readingNumber (now (bytes .entry)) u v) × (now (litres .exit) ≡ readingLitres (now (bytes .entry)) u v) ⌝ }
 {
     *litres = 0;
-    let file = read(bytes);
+    let file = read_with_table(bytes);
     if file.number != 0 {
         return file.number;
     }
     let map = file.map;
-    let answer = map.reading(u, v);
+    let answer = map.reading_in(file.table, u, v);
     if answer.number != 0 {
         return answer.number;
     }
@@ -194,12 +194,12 @@ pub fn weights(bytes: &[u8], u: usize, v: usize, out: &mut [u8]) -> usize
     ensures { λ r. ⌜ (r ≡ weightsNumber (now (bytes .entry)) u v (now (out .entry))) ×
         (now (out .exit) ≡ weightsAfter (now (bytes .entry)) u v (now (out .entry))) ⌝ }
 {
-    let file = read(bytes);
+    let file = read_with_table(bytes);
     if file.number != 0 {
         return file.number;
     }
     let map = file.map;
-    let four = map.weights(u, v);
+    let four = map.weights_in(file.table, u, v);
     if four.number != 0 {
         return four.number;
     }
@@ -222,17 +222,17 @@ pub fn same<'a>(one: &'a [u8], two: &'a [u8], yes: &mut usize) -> usize
     ensures { λ r. ⌜ (r ≡ sameNumber (now (one .entry)) (now (two .entry))) × (now (yes .exit) ≡ sameYes (now (one .entry)) (now (two .entry))) ⌝ }
 {
     *yes = 0;
-    let left = read(one);
+    let left = read_with_table(one);
     if left.number != 0 {
         return left.number;
     }
-    let right = read(two);
+    let right = read_with_table(two);
     if right.number != 0 {
         return right.number;
     }
     let map = left.map;
     let other = right.map;
-    let answer = map.same(other);
+    let answer = map.same_in(left.table, other, right.table);
     if answer.number != 0 {
         return answer.number;
     }
@@ -272,7 +272,7 @@ pub fn text(bytes: &[u8], out: &mut [u8], count: &mut usize) -> usize
         (now (count .exit) ≡ textCount (now (bytes .entry)) (now (out .entry))) ⌝ }
 {
     *count = 0;
-    let file = read(bytes);
+    let file = read_with_table(bytes);
     if file.number != 0 {
         return file.number;
     }
@@ -280,6 +280,7 @@ pub fn text(bytes: &[u8], out: &mut [u8], count: &mut usize) -> usize
         return 12;
     }
     let map = file.map;
-    *count = put_map(out, map);
+    let table = file.table;
+    *count = put_map(out, map, table);
     0
 }

@@ -1,21 +1,22 @@
 -- Are two maps the same: what the tests of the call, one by one, say of the answer.
 use Prim.Native.Nat.{suc}
 use mathlib.Core.Path.{_≡_, refl, sym, ap, _∙_}
-use mathlib.Core.Bool.{Bool, true, false, and-false}
+use mathlib.Core.Logic.{⊎-elim}
+use mathlib.Core.Bool.{Bool, true, false, _&&_, and-false}
 use mathlib.Core.List.{List, [], _∷_}
-use borrow.Author.Tests.{eq-eqb, ne-eqb}
+use borrow.Author.Tests.{le-leb}
 use lib.Dec.{eqb}
 use lib.ListN.{length, take}
 use Rattle.mesh.specs.declared.Table.{Table}
 use Rattle.mesh.specs.Blends.{same}
 use Rattle.mesh.specs.Sound.{blendsOf}
-use Rattle.mesh.proofs.Tests.{true-not-false, and-both}
+use Rattle.mesh.proofs.Tests.{either, true-not-false, and-both}
 use Rattle.maps.specs.declared.Map.{Map}
 use Rattle.maps.specs.declared.Same.{Same}
 use Rattle.maps.specs.Plain.{blends}
 use Rattle.maps.specs.Record.{plain, good}
-use Rattle.maps.specs.Sameness.{agree, samePlain, sameness}
-use Rattle.maps.proofs.Recording.{GoodMap, live-blends, live-count, live-values}
+use Rattle.maps.specs.Sameness.{agree, samePlain, sameness, sameIn}
+use Rattle.maps.proofs.Recording.{GoodMap, few, live-blends, live-count, live-values}
 
 -- lists that agree entry by entry have one length
 pub agree-length {ℓ} : {A : Type ℓ} (test : A → A → Bool) (xs ys : List A) → agree test xs ys ≡ true → length xs ≡ length ys
@@ -37,39 +38,26 @@ module _ (a b : Map) where
   unfolding sameness
   second-bad e = rw (e, and-false (good a))
 
--- Two good records:
+-- Two good records and their tables:
 module _ {a b : Map} {s t : Table} (p : GoodMap a s) (q : GoodMap b t) where
   both-good : (told : Bool) → samePlain (plain a) (plain b) ≡ told → answer told ≡ sameness a b
   unfolding sameness
   both-good told e = rw (p .is-good, q .is-good, e)
 
-  pub other-width : (a .w ≡ b .w → ⊥) → answer false ≡ sameness a b
-  unfolding samePlain plain
-  other-width ne = both-good false (rw (ne-eqb _ _ ne))
+  -- where the blends agree, their values are as many
+  same-values : agree same (blendsOf s) (blendsOf t) ≡ true → take (s .count) (b .values) ≡ plain b .values
+  same-values e =
+      let agreed = rw (live-blends p, live-blends q) at e in
+      let counts : s .count ≡ t .count = live-count p ∙ agree-length same (blends (plain a)) (blends (plain b)) agreed ∙ sym (live-count q) in
+      rw counts (live-values q)
 
-  -- on the same sides the blends decide, and then the values
-  module _ (wide : a .w ≡ b .w) where
-    pub other-height : (a .h ≡ b .h → ⊥) → answer false ≡ sameness a b
-    unfolding samePlain plain
-    other-height ne = both-good false (rw (eq-eqb _ _ wide, ne-eqb _ _ ne))
-
-    module _ (tall : a .h ≡ b .h) where
-      same-sides : (plain a .w ≡ plain b .w) × (plain a .h ≡ plain b .h)
-      unfolding plain
-      same-sides = (wide, tall)
-
-      pub other-blends : agree same (blendsOf s) (blendsOf t) ≡ false → answer false ≡ sameness a b
-      unfolding samePlain
-      other-blends e =
-          let blends-differ = rw (live-blends p, live-blends q) at e in
-          both-good false (rw (eq-eqb _ _ (same-sides .0), eq-eqb _ _ (same-sides .1), blends-differ))
-
-      pub values-decide : agree same (blendsOf s) (blendsOf t) ≡ true →
-          answer (agree eqb (take (s .count) (a .values)) (take (s .count) (b .values))) ≡ sameness a b
-      unfolding samePlain
-      values-decide e =
-          let blends-agree = rw (live-blends p, live-blends q) at e in
-          let counts : s .count ≡ t .count = live-count p ∙ agree-length same (blends (plain a)) (blends (plain b)) blends-agree ∙ sym (live-count q) in
-          let mine = live-values p in
-          let others : take (s .count) (b .values) ≡ plain b .values = rw counts (live-values q) in
-          both-good _ (rw (eq-eqb _ _ (same-sides .0), eq-eqb _ _ (same-sides .1), blends-agree, mine, others))
+  pub own-same : sameIn a s b t ≡ sameness a b
+  unfolding sameIn samePlain plain
+  own-same =
+      let front = eqb (a .w) (b .w) && eqb (a .h) (b .h) && agree same (blendsOf s) (blendsOf t) in
+      rw (le-leb _ _ (few p), le-leb _ _ (few q))
+      (⊎-elim
+      (λ (e : front ≡ true).
+      both-good _ (rw (live-values p, same-values (and-both (eqb (a .w) (b .w) && eqb (a .h) (b .h)) (agree same (blendsOf s) (blendsOf t)) e .1), live-blends p, live-blends q)))
+      (λ (e : front ≡ false). rw e (both-good _ (rw (← live-blends p, ← live-blends q, e))))
+      (either front))

@@ -1,16 +1,18 @@
 -- The table that a changing call hands back with its map: of the map as it came on a refusal, else of the new one.
-use Prim.Native.Nat.{ℕ, _+_, _<_}
+use Prim.Native.Nat.{ℕ, _+_, _≤_, _<_}
+use native.Mathlib.Omega.{arith}
 use mathlib.Core.Path.{_≡_, refl, sym, ap, _∙_}
-use mathlib.Core.Bool.{Bool, true, false, cond, not}
+use mathlib.Core.Bool.{Bool, true, false, cond, not, _&&_}
+use mathlib.Core.Logic.{⊎-elim}
 use mathlib.Core.List.{List, [], _∷_}
 use lib.ListN.{length, set}
 use Rattle.mesh.specs.declared.Split.{Split}
 use Rattle.mesh.specs.declared.Lines.{Lines}
 use Rattle.mesh.specs.declared.Table.{Table}
-use Rattle.mesh.specs.Sound.{table}
-use Rattle.mesh.proofs.Tests.{true-not-false, cond-true, cond-false}
-use borrow.Author.Tests.{lt-ltb, eqb-true}
-use lib.Dec.{ltb, eqb}
+use Rattle.mesh.specs.Sound.{table, blendsOf}
+use Rattle.mesh.proofs.Tests.{either, true-not-false, and-both, and-of, and-fails, cond-true, cond-false}
+use borrow.Author.Tests.{lt-ltb, ltb-true, ltb-false, le-leb, eqb-true}
+use lib.Dec.{ltb, leb, eqb}
 use Rattle.maps.specs.declared.Map.{Map}
 use Rattle.maps.specs.declared.Changed.{Changed}
 use Rattle.maps.specs.declared.WithTable.{WithTable}
@@ -20,13 +22,13 @@ use Rattle.maps.specs.Plain.{Plain, blends}
 use Rattle.maps.specs.Values.{placeOf}
 use Rattle.maps.specs.Splits.{given, exactNumber, chosen, drawn}
 use Rattle.maps.specs.Record.{recordOf, plain, good, opened}
-use Rattle.maps.specs.Calls.{changed, withTable, setPlain, setValue, exactSplit, drawnFirst, lengthenedSplit}
+use Rattle.maps.specs.Calls.{changed, withTable, setPlain, setValue, exactSplit, drawnFirst, lengthenedSplit, setIn}
 use Rattle.maps.specs.Inner.{linesOf, held, found}
 use Rattle.maps.proofs.Replay.{opened-table}
 use Rattle.maps.proofs.Good.{Holds, record-good, GoodFacts, good-facts, set-holds, drawn-holds}
 use Rattle.maps.proofs.InHand.{hand-sides}
 use Rattle.maps.proofs.Longest.{chosen-exact}
-use Rattle.maps.proofs.Recording.{GoodMap, live-table, passed, set-some, chosen-lines}
+use Rattle.maps.proofs.Recording.{GoodMap, live-table, live-blends, live-count, few, passed, beyond, set-none, set-some, chosen-lines}
 
 -- a refusal
 pub kept-table : (m : Map) (o : Opened) → o ≡ opened m → (n : ℕ) (c : Changed) → changed n m ≡ c →
@@ -49,7 +51,7 @@ module _ {m : Map} {t : Table} (g : GoodMap m t) where
   drawn-table s z = new-table (drawn (plain m) s) (drawn-holds (g .facts .holds) s z)
 
   -- a value set
-  pub set-table : (i j v : ℕ) → let k = placeOf (blends (plain m)) (i + 1) (j + 1) in k < length (blends (plain m)) →
+  set-table : (i j v : ℕ) → let k = placeOf (blends (plain m)) (i + 1) (j + 1) in k < length (blends (plain m)) →
       record {
         number = 0;
         map = record { w = m .w; h = m .h; count = m .count; splits = m .splits; values = set (m .values) k v };
@@ -63,6 +65,34 @@ module _ {m : Map} {t : Table} (g : GoodMap m t) where
       let is-set : setValue m i j v ≡ changed 0 (recordOf Q) = cond-false _ _ _ (passed g) ∙ cond-true _ _ _ (lt-ltb _ _ lt) in
       ap (λ (n : Map). record { number = 0; map = n; table = t }) (ap (λ (c : Changed). c .map) (set-here ∙ is-set)) ∙
       new-table Q (set-holds (g .facts .holds) i j v) t (live-table g) _ (sym is-set)
+
+  -- and the same from the table in hand
+  own-table : t ≡ opened m .table
+  unfolding plain
+  own-table = live-table g ∙ sym (opened-table m (g .is-good))
+
+  no-anchor : (i j : ℕ) → let k = placeOf (blendsOf t) (i + 1) (j + 1) in (leb i 128 && leb j 128 && ltb k (t .count)) ≡ false →
+      length (blends (plain m)) ≤ placeOf (blends (plain m)) (i + 1) (j + 1)
+  no-anchor i j e =
+      ⊎-elim
+      (λ out. beyond g (i + 1) (j + 1)
+      (λ x y. true-not-false (leb i 128 && leb j 128) (and-of (leb i 128) (leb j 128) (le-leb i 128 (omega arith)) (le-leb j 128 (omega arith))) out))
+      (λ past. rw (live-blends g, live-count g) at (ltb-false (placeOf (blendsOf t) (i + 1) (j + 1)) (t .count) past))
+      (and-fails (leb i 128 && leb j 128) (ltb (placeOf (blendsOf t) (i + 1) (j + 1)) (t .count)) e)
+
+  pub own-set : (i j v : ℕ) → setIn m t i j v ≡ withTable (setValue m i j v)
+  unfolding setIn
+  own-set i j v =
+      let k = placeOf (blendsOf t) (i + 1) (j + 1) in
+      let found = leb i 128 && leb j 128 && ltb k (t .count) in
+      cond-true _ _ _ (le-leb _ _ (few g)) ∙
+      ⊎-elim
+      (λ (e : found ≡ true).
+      let lt = ltb-true k (t .count) (and-both (leb i 128 && leb j 128) (ltb k (t .count)) e .1) in
+      cond-true _ _ _ e ∙ rw (live-blends g) (set-table i j v (rw (live-blends g, live-count g) at lt)))
+      (λ (e : found ≡ false).
+      cond-false _ _ _ e ∙ ap (λ (t : Table). record { number = 9; map = m; table = t }) own-table ∙ ap withTable (set-none g i j v (no-anchor i j e)))
+      (either found)
 
   -- the line that a lengthened split takes
   module _ (L : Lines) (e : L ≡ linesOf m) (s : Split) (r : Found) where

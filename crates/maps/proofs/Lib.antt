@@ -4,6 +4,7 @@ pub mod Demand3
 pub mod Exact
 pub mod Filling
 pub mod Following
+pub mod FromHand
 pub mod Gentle
 pub mod Good
 pub mod Handed

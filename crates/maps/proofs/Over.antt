@@ -2,7 +2,7 @@
 use Prim.Native.Nat.{ℕ, _+_, _*_, _-_, _<_, _≤_}
 use native.Mathlib.Omega.{arith}
 use native.Mathlib.Nat.{mul-pos, mul-le-mul, mul-one, mul-comm, zero-mul, mul-zero}
-use mathlib.Core.Path.{_≡_}
+use mathlib.Core.Path.{_≡_, refl}
 use mathlib.Core.Logic.{_⊎_, inl, inr, ⊎-elim}
 use mathlib.Core.Bool.{true, false}
 use borrow.Author.Tests.{ltb-true, ltb-false, leb-true, leb-false, le-leb, eqb-true, eqb-false}
@@ -117,13 +117,20 @@ module _ (side u r : ℕ) (pos : 1 ≤ side) (le : u ≤ side) (e : r ≡ corner
   corner-end = ⊎-elim (λ (t : (u ≡ side) × (r ≡ u - 1)). omega arith) (λ (t : (u < side) × (r ≡ u)). omega arith) corner-cases
 
 -- exactly four blends of a sound map lie over each square of the domain
-pub four-over : (w h : ℕ) (bs : List Blend) → sound w h bs ≡ true → (x y : ℕ) → 1 ≤ x → x ≤ w → 1 ≤ y → y ≤ h →
+four-over : (w h : ℕ) (bs : List Blend) → sound w h bs ≡ true → (x y : ℕ) → 1 ≤ x → x ≤ w → 1 ≤ y → y ≤ h →
     length (only (overSquare x y) bs) ≡ 4
 unfolding sound fourEverywhere
 four-over w h bs e x y x1 xw y1 yh =
     let four = and-both (fourEverywhere w h bs) (noneNested bs) e .0 in
     let row = every-at 1 w (λ a. every 1 h (λ b. eqb (length (only (overSquare a b) bs)) 4)) four x x1 (omega arith) in
     eqb-true _ _ (every-at 1 h (λ b. eqb (length (only (overSquare x b) bs)) 4) row y y1 (omega arith))
+
+pub four-at : (w h : ℕ) (bs : List Blend) → sound w h bs ≡ true → (u v : ℕ) → 1 ≤ w → 1 ≤ h → u ≤ w → v ≤ h →
+    length (only (overSquare (corner w u + 1) (corner h v + 1)) bs) ≡ 4
+four-at w h bs e u v w1 h1 uw vh =
+    let i = corner-in w u (corner w u) w1 uw refl in
+    let j = corner-in h v (corner h v) h1 vh refl in
+    four-over w h bs e _ _ (i .0) (i .1) (j .0) (j .1)
 
 -- a blend of a table that is proper for sides of at most 128
 pub proper-at : (w h : ℕ) → w ≤ 128 → h ≤ 128 → (t : Table) → all (proper w h) (blendsOf t) ≡ true → (i : ℕ) → i < t .count →

@@ -6,8 +6,8 @@ use mathlib.Core.Logic.{⊎-elim}
 use mathlib.Core.Bool.{true, false, not, _&&_}
 use mathlib.Core.List.{List, [], _∷_, _++_, map, append-assoc, List·Memᴰ, Memᴰ·append-left}
 use mathlib.Core.List.List·Memᴰ.{List·Memᴰ·head}
-use borrow.Author.Tests.{eq-eqb, leb-true, not-false, ltb-true, ltb-false, le-ltb, lt-ltb}
-use lib.Dec.{ltb, leb}
+use borrow.Author.Tests.{eq-eqb, not-false, ltb-true, ltb-false, le-ltb, lt-ltb}
+use lib.Dec.{ltb}
 use lib.ListN.{length, getD, set, take, drop, take-append-drop, replicate, length-append, length-map, length-set}
 use lib.Seq.{getD-take, set-append-seam, set-append-left}
 use mir.Val.{Val}
@@ -21,9 +21,8 @@ use Rattle.mesh.specs.Sound.{none, proper, sound, table, blendsOf}
 use Rattle.mesh.specs.Range.{all, only}
 use Rattle.mesh.proofs.SoundMaps.{live-proper}
 use Rattle.mesh.proofs.Places.{proper-facts}
-use Rattle.mesh.proofs.Cutting.{proper-most}
 use Rattle.mesh.proofs.AtMost.{at-most}
-use Rattle.mesh.proofs.Tests.{only-mem, all-of, all-at, either, and-both, true-not-false, cond-true, cond-false}
+use Rattle.mesh.proofs.Tests.{only-mem, all-of, either, and-both, true-not-false, cond-true, cond-false}
 use Rattle.maps.specs.declared.Map.{Map}
 use Rattle.maps.specs.declared.splits.Step.{Step}
 use Rattle.maps.specs.declared.splits.Found.{Found}
@@ -40,7 +39,7 @@ use Rattle.maps.proofs.Exact.{entry}
 use Rattle.maps.proofs.Readings.{place-found}
 use Rattle.maps.proofs.Replay.{opened-good, opened-table}
 use Rattle.maps.proofs.Good.{GoodFacts, good-facts}
-use Rattle.maps.proofs.InHand.{hand-sides, hand-few, hand-length, hand-count, hand-blends, hand-proper, table-count, table-blends, given-says, exact-says}
+use Rattle.maps.proofs.InHand.{hand-sides, hand-few, hand-length, hand-count, hand-blends, table-count, table-blends, given-says, exact-says}
 
 -- a list padded to a length: with one entry more, and with one of its entries set
 module _ {A : Type 0} (xs : List A) (n : ℕ) (d x : A) where
@@ -94,11 +93,19 @@ pub record GoodMap (m : Map) (t : Table) : Type 0 where
   pub facts : GoodFacts m
   pub hand : InHand (linesOf m) t
 
+held-map : (m : Map) (t : Table) → length (m .splits) ≡ 60 → length (m .values) ≡ 1024 → good m ≡ true → t ≡ table (blends (plain m)) →
+    GoodMap m t
+held-map m t places room y e =
+    let f = good-facts m places room y in
+    record { is-good = y; facts = f; hand = rw (e, f .same-blends) (f .hand) }
+
 pub good-map : (m : Map) (t : Table) (vs : List Val) → shadow (row the-type .own m vs) → good m ≡ true → t ≡ table (blends (plain m)) →
     GoodMap m t
-good-map m t vs p y e =
-    let f = good-facts m (full m vs p .0) (full m vs p .1) y in
-    record { is-good = y; facts = f; hand = rw (e, f .same-blends) (f .hand) }
+good-map m t vs p = held-map m t (full m vs p .0) (full m vs p .1)
+
+pub opened-map : (m : Map) (t : Table) → length (m .splits) ≡ 60 → length (m .values) ≡ 1024 → good m ≡ true → t ≡ opened m .table → GoodMap m t
+unfolding plain
+opened-map m t places room y e = held-map m t places room y (e ∙ opened-table m y)
 
 -- What opening a record says of it.
 module _ (m : Map) (o : Opened) (e : o ≡ opened m) where
@@ -109,10 +116,8 @@ module _ (m : Map) (o : Opened) (e : o ≡ opened m) where
   not-good n = ap not (sym same-test) ∙ n
 
   pub good-opened : (vs : List Val) → shadow (row the-type .own m vs) → not (o .good) ≡ false → GoodMap m (o .table)
-  unfolding plain
   good-opened vs p n =
-      let y : good m ≡ true = sym same-test ∙ not-false (o .good) n in
-      good-map m (o .table) vs p y (ap (λ (r : Opened). r .table) e ∙ opened-table m y)
+      opened-map m (o .table) (full m vs p .0) (full m vs p .1) (sym same-test ∙ not-false (o .good) n) (ap (λ (r : Opened). r .table) e)
 
 module _ {m : Map} {t : Table} (g : GoodMap m t) where
   -- its table and values are those of what it holds
@@ -159,24 +164,8 @@ module _ {m : Map} {t : Table} (g : GoodMap m t) where
     pub live-blend : getD (t .blends) i none ≡ getD (blends (plain m)) i none
     live-blend = rw (← live-blends) (sym (getD-take (t .count) (t .blends) i none lt))
 
-    pub live-knots : proper 128 128 (getD (t .blends) i none) ≡ true
-    live-knots =
-        let a = hand-sides (g .hand) in
-        let all-proper = proper-most (m .w) (m .h) (blendsOf t) (a .across .1) (a .up .1) (hand-proper (g .hand)) in
-        rw live-blend (all-at (proper 128 128) (blends (plain m)) (rw live-blends at all-proper) _ (entry (blends (plain m)) i none (rw live-count at lt)))
-
     pub live-value : getD (m .values) i 0 ≡ getD (plain m .values) i 0
     live-value = rw (← live-values) (sym (getD-take (t .count) (m .values) i 0 lt))
-
-  -- what reading the table at a point of the domain asks
-  pub at-point : (u v : ℕ) → (leb u (m .w) && leb v (m .h)) ≡ true →
-      (t .count ≤ 1024) × (all (proper (m .w) (m .h)) (blendsOf t) ≡ true) × (sound (m .w) (m .h) (blendsOf t) ≡ true) ×
-      (1 ≤ m .w) × (m .w ≤ 128) × (1 ≤ m .h) × (m .h ≤ 128) × (u ≤ m .w) × (v ≤ m .h)
-  at-point u v e =
-      let a = hand-sides (g .hand) in
-      let s : sound (m .w) (m .h) (blendsOf t) ≡ true = rw (hand-blends (g .hand)) (g .hand .is-sound) in
-      let b = and-both (leb u (m .w)) (leb v (m .h)) e in
-      (few, hand-proper (g .hand), s, a .across .0, a .across .1, a .up .0, a .up .1, leb-true _ _ (b .0), leb-true _ _ (b .1))
 
   pub splits-counted : length (plain m .splits) ≡ m .count
   unfolding plain

@@ -4,12 +4,14 @@ use mathlib.Core.Bool.{Bool, cond, _&&_, not}
 use mathlib.Core.List.{List, [], _∷_, map}
 use lib.Dec.{leb, ltb, eqb}
 use lib.IntN.{ℤ, pos, predℤ}
-use lib.ListN.{length, getD, set}
+use lib.ListN.{length, getD, set, take}
 use Rattle.mesh.specs.declared.Split.{Split}
 use Rattle.mesh.specs.declared.Triple.{Triple}
 use Rattle.mesh.specs.declared.Blend.{Blend}
+use Rattle.mesh.specs.declared.Table.{Table}
+use Rattle.mesh.specs.Range.{all, only}
 use Rattle.mesh.specs.Lines.{allowedSide}
-use Rattle.mesh.specs.Sound.{none}
+use Rattle.mesh.specs.Sound.{none, proper, overSquare, blendsOf}
 use Rattle.maps.specs.declared.Map.{Map}
 use Rattle.maps.specs.declared.Shape.{Shape}
 use Rattle.maps.specs.declared.Changed.{Changed}
@@ -120,3 +122,41 @@ lengthenedSplit map s =
     cond (not (good map)) (changed 2 map)
     (cond (eqb n 0) (drawnFirst map P (chosen P s))
     (changed n map))
+
+-- The same answers from a table in hand, which on the table of a good map are the call's own. 2 for a table that is that of no map of these
+-- sides: more blends than places, a blend out of range, or not four over the unit square of the point.
+unfoldable pub fitting : Map → Table → Bool
+fitting m t = allowedSide (m .w) && allowedSide (m .h) && leb (t .count) 1024 && all (proper (m .w) (m .h)) (blendsOf t)
+
+abbrev pub overIn : Map → Table → ℕ → ℕ → List Blend
+overIn m t u v = only (overSquare (corner (m .w) u + 1) (corner (m .h) v + 1)) (blendsOf t)
+
+unfoldable pub placeIn : Map → Table → ℕ → Placed
+placeIn m t i =
+    cond (not (fitting m t)) (record { number = 2; blend = noShape; value = 0 })
+    (cond (ltb i (t .count)) (record { number = 0; blend = shape (getD (t .blends) i none); value = getD (m .values) i 0 })
+    (record { number = 9; blend = noShape; value = 0 }))
+
+unfoldable pub readingIn : Map → Table → ℕ → ℕ → Reading
+readingIn m t u v =
+    cond (not (fitting m t)) (record { number = 2; litres = 0 })
+    (cond (not (leb u (m .w) && leb v (m .h))) (record { number = 10; litres = 0 })
+    (cond (eqb (length (overIn m t u v)) 4) (record { number = 0; litres = readingAt (blendsOf t) (take (t .count) (m .values)) u v })
+    (record { number = 2; litres = 0 })))
+
+unfoldable pub weightsIn : Map → Table → ℕ → ℕ → Weights
+weightsIn m t u v =
+    cond (not (fitting m t)) (noWeights 2)
+    (cond (not (leb u (m .w) && leb v (m .h))) (noWeights 10)
+    (cond (eqb (length (overIn m t u v)) 4) (record { number = 0; entries = map (weightOver (m .w) (m .h) u v) (overIn m t u v) })
+    (noWeights 2)))
+
+-- An anchor out of range has no blend.
+unfoldable pub setIn : Map → Table → ℕ → ℕ → ℕ → WithTable
+setIn m t i j v =
+    let k = placeOf (blendsOf t) (i + 1) (j + 1) in
+    let next : Map = record { w = m .w; h = m .h; count = m .count; splits = m .splits; values = set (m .values) k v } in
+    cond (leb (t .count) 1024)
+    (cond (leb i 128 && leb j 128 && ltb k (t .count)) (record { number = 0; map = next; table = t })
+    (record { number = 9; map = m; table = t }))
+    (record { number = 2; map = m; table = t })

@@ -1,18 +1,22 @@
-// The calls that ask of a map. Each opens the record first, once.
+// The calls that ask of a map. Each opens the record first, once, or is handed the table that it gave.
 use crate::Map;
 use crate::Placed;
 use crate::Reading;
 use crate::Shape;
 use crate::Weight;
 use crate::Weights;
+use crate::allowed_side;
 use crate::record::open;
+use crate::values::all_proper;
+use crate::values::count_over;
 use crate::values::reading_of;
 use crate::values::shape_of;
 use crate::values::weights_of;
+use mesh::Table;
 ghost use mathlib.Core.Path.{_≡_};
 ghost use mathlib.Core.Bool.{_&&_};
 ghost use lib.Dec.{leb};
-ghost use Rattle.maps.specs.Calls.{noShape, noWeights, tablePlace, reading, weights};
+ghost use Rattle.maps.specs.Calls.{noShape, noWeights, tablePlace, reading, weights, fitting, placeIn, readingIn, weightsIn};
 
 fn no_shape() -> Shape
     ensures { λ r. ⌜ r ≡ noShape ⌝ }
@@ -51,6 +55,32 @@ fn in_domain(w: usize, h: usize, u: usize, v: usize) -> bool
     v <= h
 }
 
+// Whether a table may be that of a map with the sides of this one.
+fn fits_map(map: Map, table: Table) -> bool
+    ensures { λ r. ⌜ r ≡ fitting map table ⌝ }
+{
+    if !allowed_side(map.w) {
+        return false;
+    }
+    if !allowed_side(map.h) {
+        return false;
+    }
+    if 1024 < table.count {
+        return false;
+    }
+    all_proper(table, map.w, map.h)
+}
+
+fn no_place(number: usize) -> Placed
+    ensures { λ r. ⌜ r ≡ record { number = number; blend = noShape; value = 0 } ⌝ }
+{
+    Placed {
+        number: number,
+        blend: no_shape(),
+        value: 0,
+    }
+}
+
 impl Map {
     // The blend and value at a table place, from 0: refused with 2 or 9.
     pub fn place(self, i: usize) -> Placed
@@ -58,26 +88,9 @@ impl Map {
     {
         let opened = open(self);
         if !opened.good {
-            return Placed {
-                number: 2,
-                blend: no_shape(),
-                value: 0,
-            };
+            return no_place(2);
         }
-        let live = opened.table;
-        if live.count <= i {
-            return Placed {
-                number: 9,
-                blend: no_shape(),
-                value: 0,
-            };
-        }
-        let x = live.blends[i];
-        Placed {
-            number: 0,
-            blend: shape_of(x),
-            value: self.values[i] as usize,
-        }
+        self.place_in(opened.table, i)
     }
 
     // The reading at a whole point: refused with 2 or 10.
@@ -91,18 +104,7 @@ impl Map {
                 litres: 0,
             };
         }
-        if !in_domain(self.w, self.h, u, v) {
-            return Reading {
-                number: 10,
-                litres: 0,
-            };
-        }
-        let live = opened.table;
-        let values = self.values;
-        Reading {
-            number: 0,
-            litres: reading_of(live, values, self.w, self.h, u, v),
-        }
+        self.reading_in(opened.table, u, v)
     }
 
     // The weights at a whole point: refused with 2 or 10.
@@ -113,10 +115,67 @@ impl Map {
         if !opened.good {
             return no_weights(2);
         }
+        self.weights_in(opened.table, u, v)
+    }
+
+    // `place`, with the map's table in hand.
+    pub fn place_in(self, table: Table, i: usize) -> Placed
+        ensures { λ r. ⌜ r ≡ placeIn self table i ⌝ }
+    {
+        if !fits_map(self, table) {
+            return no_place(2);
+        }
+        if table.count <= i {
+            return no_place(9);
+        }
+        let x = table.blends[i];
+        Placed {
+            number: 0,
+            blend: shape_of(x),
+            value: self.values[i] as usize,
+        }
+    }
+
+    // `reading`, with the map's table in hand.
+    pub fn reading_in(self, table: Table, u: usize, v: usize) -> Reading
+        ensures { λ r. ⌜ r ≡ readingIn self table u v ⌝ }
+    {
+        let refused = Reading {
+            number: 2,
+            litres: 0,
+        };
+        if !fits_map(self, table) {
+            return refused;
+        }
+        if !in_domain(self.w, self.h, u, v) {
+            return Reading {
+                number: 10,
+                litres: 0,
+            };
+        }
+        if count_over(table, self.w, self.h, u, v) != 4 {
+            return refused;
+        }
+        let values = self.values;
+        Reading {
+            number: 0,
+            litres: reading_of(table, values, self.w, self.h, u, v),
+        }
+    }
+
+    // `weights`, with the map's table in hand.
+    pub fn weights_in(self, table: Table, u: usize, v: usize) -> Weights
+        ensures { λ r. ⌜ r ≡ weightsIn self table u v ⌝ }
+    {
+        if !fits_map(self, table) {
+            return no_weights(2);
+        }
         if !in_domain(self.w, self.h, u, v) {
             return no_weights(10);
         }
-        let live = opened.table;
-        weights_of(live, self.w, self.h, u, v)
+        if count_over(table, self.w, self.h, u, v) != 4 {
+            return no_weights(2);
+        }
+        weights_of(table, self.w, self.h, u, v)
     }
 }

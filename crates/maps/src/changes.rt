@@ -18,7 +18,7 @@ ghost use Prim.Native.Nat.{ℕ, _<_};
 ghost use Rattle.maps.specs.Record.{good, plain, recordOf};
 ghost use Rattle.maps.specs.Splits.{drawn, soundWith};
 ghost use Rattle.maps.specs.Plain.{blends};
-ghost use Rattle.maps.specs.Calls.{setValue, exactSplit, lengthenedSplit, withTable};
+ghost use Rattle.maps.specs.Calls.{setValue, exactSplit, lengthenedSplit, withTable, setIn};
 ghost use Rattle.maps.specs.Inner.{linesOf};
 ghost use Rattle.mesh.specs.Sound.{table};
 
@@ -64,7 +64,14 @@ impl Map {
     pub fn set(self, m: usize, n: usize, value: u16) -> Changed
         ensures { λ r. ⌜ r ≡ setValue self m n value ⌝ }
     {
-        without_table(self.set_with_table(m, n, value))
+        let opened = open(self);
+        if !opened.good {
+            return Changed {
+                number: 2,
+                map: self,
+            };
+        }
+        without_table(self.set_in(opened.table, m, n, value))
     }
 
     // Draws a line as given: refused with 2 to 8.
@@ -81,41 +88,38 @@ impl Map {
         without_table(self.lengthened_with_table(s))
     }
 
-    // `set`, with the table of the map handed back.
-    pub fn set_with_table(self, m: usize, n: usize, value: u16) -> WithTable
-        ensures { λ r. ⌜ r ≡ withTable (setValue self m n value) ⌝ }
+    // `set`, with the table of the map in hand, and handed back.
+    pub fn set_in(self, table: Table, m: usize, n: usize, value: u16) -> WithTable
+        ensures { λ r. ⌜ r ≡ setIn self table m n value ⌝ }
     {
-        let opened = open(self);
-        if !opened.good {
-            let none = opened.table;
+        if 1024 < table.count {
             return WithTable {
                 number: 2,
                 map: self,
-                table: none,
+                table: table,
             };
         }
-        let live = opened.table;
         // An anchor lies within the sides, so that its knots fit.
         if Map::LARGEST_SIDE < m {
             return WithTable {
                 number: 9,
                 map: self,
-                table: live,
+                table: table,
             };
         }
         if Map::LARGEST_SIDE < n {
             return WithTable {
                 number: 9,
                 map: self,
-                table: live,
+                table: table,
             };
         }
-        let place = place_of(live, m + 1, n + 1);
-        if live.count <= place {
+        let place = place_of(table, m + 1, n + 1);
+        if table.count <= place {
             return WithTable {
                 number: 9,
                 map: self,
-                table: live,
+                table: table,
             };
         }
         let mut next = self;
@@ -123,7 +127,7 @@ impl Map {
         WithTable {
             number: 0,
             map: next,
-            table: live,
+            table: table,
         }
     }
 

@@ -12,7 +12,7 @@ ghost use lib.ListN.{take};
 ghost use Rattle.mesh.specs.Triple.{sameTriple};
 ghost use Rattle.mesh.specs.Blends.{same};
 ghost use Rattle.mesh.specs.Sound.{blendsOf};
-ghost use Rattle.maps.specs.Sameness.{agree, sameness};
+ghost use Rattle.maps.specs.Sameness.{agree, sameness, sameIn};
 
 impl Map {
     // Whether two maps are the same; 2 where either record is not good, and then "no".
@@ -23,10 +23,6 @@ impl Map {
             number: 2,
             yes: false,
         };
-        let differ = Same {
-            number: 0,
-            yes: false,
-        };
         let mine = open(self);
         if !mine.good {
             return refused;
@@ -35,16 +31,35 @@ impl Map {
         if !theirs.good {
             return refused;
         }
+        self.same_in(mine.table, other, theirs.table)
+    }
+
+    // `same`, with the tables of both maps in hand.
+    pub fn same_in(self, mine: Table, other: Map, theirs: Table) -> Same
+        ensures { λ r. ⌜ r ≡ sameIn self mine other theirs ⌝ }
+    {
+        let refused = Same {
+            number: 2,
+            yes: false,
+        };
+        let differ = Same {
+            number: 0,
+            yes: false,
+        };
+        if 1024 < mine.count {
+            return refused;
+        }
+        if 1024 < theirs.count {
+            return refused;
+        }
         if self.w != other.w {
             return differ;
         }
         if self.h != other.h {
             return differ;
         }
-        let a = mine.table;
-        let b = theirs.table;
-        let count = a.count;
-        if !same_tables(a, b) {
+        let count = mine.count;
+        if !same_tables(mine, theirs) {
             return differ;
         }
         let values = self.values;

@@ -11,11 +11,11 @@ ghost use mathlib.Core.Bool.{true};
 ghost use mathlib.Core.List.{map};
 ghost use Prim.Native.Nat.{_+_, _*_, _/_, _%_, _^_, _≤_, _<_};
 ghost use lib.IntN.{pos, predℤ};
-ghost use lib.ListN.{take};
+ghost use lib.ListN.{length, take};
 ghost use Rattle.mesh.specs.Range.{all, only};
-ghost use Rattle.mesh.specs.Triple.{spans};
+ghost use Rattle.mesh.specs.Triple.{rising, spans};
 ghost use Rattle.mesh.specs.Blends.{anchored};
-ghost use Rattle.mesh.specs.Sound.{sound, proper, overSquare, blendsOf};
+ghost use Rattle.mesh.specs.Sound.{proper, overSquare, blendsOf};
 ghost use Rattle.maps.specs.Values.{corner, gap, share, placeOf, readingAt};
 ghost use Rattle.maps.specs.Calls.{shape, weightOver};
 
@@ -177,6 +177,60 @@ fn added(s: Sum, product: usize, den: usize) -> Sum
     }
 }
 
+// Whether a triple rises within the side.
+fn rises(t: Triple, side: usize) -> bool
+    requires { ⌜ side ≤ 128 ⌝ }
+    ensures { λ r. ⌜ r ≡ rising side t ⌝ }
+{
+    if t.m <= t.l {
+        return false;
+    }
+    if t.r <= t.m {
+        return false;
+    }
+    knots::wide(t.r) <= side + 2
+}
+
+// Whether the table's blends all rise within the sides.
+pub(crate) fn all_proper(table: Table, w: usize, h: usize) -> bool
+    requires { ⌜ (table .count ≤ 1024) × (w ≤ 128) × (h ≤ 128) ⌝ }
+    ensures { λ r. ⌜ r ≡ all (proper w h) (blendsOf table) ⌝ }
+{
+    let count = table.count;
+    let mut i = 0;
+    while i < count {
+        let b = table.blends[i];
+        if !rises(b.across, w) {
+            return false;
+        }
+        if !rises(b.up, h) {
+            return false;
+        }
+        i += 1;
+    }
+    true
+}
+
+// How many of the table's blends lie over the unit square at a whole point.
+pub(crate) fn count_over(table: Table, w: usize, h: usize, u: usize, v: usize) -> usize
+    requires { ⌜ (table .count ≤ 1024) × (1 ≤ w) × (w ≤ 128) × (1 ≤ h) × (h ≤ 128) × (u ≤ w) × (v ≤ h) ⌝ }
+    ensures { λ r. ⌜ r ≡ length (only (overSquare (corner w u + 1) (corner h v + 1)) (blendsOf table)) ⌝ }
+{
+    let x = corner_of(w, u) + 1;
+    let y = corner_of(h, v) + 1;
+    let count = table.count;
+    let mut found = 0;
+    let mut i = 0;
+    while i < count {
+        let b = table.blends[i];
+        if is_over(b, x, y) {
+            found += 1;
+        }
+        i += 1;
+    }
+    found
+}
+
 // The reading at the whole point (u, v): the weights of the blends over its unit square times their values, rounded down.
 pub(crate) fn reading_of(
     table: Table,
@@ -186,7 +240,8 @@ pub(crate) fn reading_of(
     u: usize,
     v: usize,
 ) -> usize
-    requires { ⌜ (table .count ≤ 1024) × (all (proper w h) (blendsOf table) ≡ true) × (sound w h (blendsOf table) ≡ true) ×
+    requires { ⌜ (table .count ≤ 1024) × (all (proper w h) (blendsOf table) ≡ true) ×
+        (length (only (overSquare (corner w u + 1) (corner h v + 1)) (blendsOf table)) ≡ 4) ×
         (1 ≤ w) × (w ≤ 128) × (1 ≤ h) × (h ≤ 128) × (u ≤ w) × (v ≤ h) ⌝ }
     ensures { λ r. ⌜ r ≡ readingAt (blendsOf table) (take (table .count) values) u v ⌝ }
 {
@@ -213,7 +268,8 @@ pub(crate) fn reading_of(
 
 // The weights of the four blends over the unit square at a whole point, in table order.
 pub(crate) fn weights_of(table: Table, w: usize, h: usize, u: usize, v: usize) -> Weights
-    requires { ⌜ (table .count ≤ 1024) × (all (proper w h) (blendsOf table) ≡ true) × (sound w h (blendsOf table) ≡ true) ×
+    requires { ⌜ (table .count ≤ 1024) × (all (proper w h) (blendsOf table) ≡ true) ×
+        (length (only (overSquare (corner w u + 1) (corner h v + 1)) (blendsOf table)) ≡ 4) ×
         (1 ≤ w) × (w ≤ 128) × (1 ≤ h) × (h ≤ 128) × (u ≤ w) × (v ≤ h) ⌝ }
     ensures { λ r. ⌜ (r .number ≡ 0) × (r .entries ≡ map (weightOver w h u v) (only (overSquare (corner w u + 1) (corner h v + 1)) (blendsOf table))) ⌝ }
 {

@@ -1,17 +1,23 @@
--- `refused` meets its contract: what `Map::fresh` gives for sides 1 and 1.
+-- `refused` meets its contract: what `Map::fresh` gives for sides 1 and 1, opened.
 use borrow.Author.Needs.{needs}
 use mathlib.Core.Path.{ap}
 use Rattle.maps.specs.declared.Changed.{Changed}
 use Rattle.maps.specs.Calls.{changed, freshMap}
+use Rattle.maps.proofs.Handed.{kept-table}
 use Rattle.files.proofs.refused.Statement.{statement}
 use Rattle.files.proofs.refused.Tie as tie
 
 fresh-requires : tie.Need-fresh-requires
 fresh-requires c κs = search needs
 
+open-requires : tie.Need-open-requires
+open-requires c κs = search needs
+
 returns : tie.Need-returns
 unfolding freshMap
-returns c = ap (λ (x : Changed). changed 11 (x .map)) (c .before .fresh .ensures)
+returns c =
+    let o = c .before .«open» in
+    kept-table _ (o .result) (o .ensures) 11 _ (ap (λ (x : Changed). changed 11 (x .map)) (c .before .before .before .fresh .ensures))
 
 pub refused-spec : {M : Type 1} → statement M
-refused-spec = tie.close (tie.spec fresh-requires returns)
+refused-spec = tie.close (tie.spec fresh-requires open-requires returns)

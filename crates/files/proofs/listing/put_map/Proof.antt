@@ -1,21 +1,17 @@
 -- `listing::put_map` meets its contract: the table in hand has the map's text.
 use borrow.Author.Needs.{needs}
 use lib.ListN.{length-map}
-use Rattle.files.proofs.TableText.{hand-listed, hand-text}
+use Rattle.files.proofs.Filing.{ready}
+use Rattle.files.proofs.TableText.{hand-text}
 use Rattle.files.proofs.listing.put_map.Statement.{statement}
 use Rattle.files.proofs.listing.put_map.Tie as tie
 
-open-requires : tie.Need-open-requires
-open-requires c κs = search needs
-
 put-table-requires : tie.Need-put-table-requires
 put-table-requires c κs =
-    let o = c .before .before in
-    let start = o .before .before .before in
-    let m = start .args .map in (
-      hand-listed m (o .«open» .ensures) (start .pre .0) (simp length-map at (start .good .1 .0 .1 .1 .1 .1 .1 .0 .1 .0 .1))
-          (simp length-map at (start .good .1 .0 .1 .1 .1 .1 .1 .1 .0 .1 .0 .1)),
-      start .pre .1,
+    let s = c .before .before .before in
+    let g = s .good .1 .0 in (
+      ready _ _ (s .pre .0) (s .pre .1) (simp length-map at (g .1 .1 .1 .1 .1 .0 .1 .0 .1)) (simp length-map at (g .1 .1 .1 .1 .1 .1 .0 .1 .0 .1)) .listed,
+      s .pre .2,
     )
 
 same-length : tie.Need-same-length
@@ -24,9 +20,8 @@ same-length c = search needs
 returns : tie.Need-returns
 returns c =
     let put = c .before .before in
-    let o = put .before .before .before in
-    let start = o .before .before .before in
-    rw (← hand-text (start .args .map) (o .«open» .ensures) (start .pre .0)) (put .put-table .ensures)
+    let s = put .before .before .before .before in
+    rw (← hand-text (s .args .map) (s .args .table) (s .pre .0) (s .pre .1)) (put .put-table .ensures)
 
 pub put-map-spec : {M : Type 1} → statement M
-put-map-spec = tie.close (tie.spec open-requires put-table-requires same-length returns)
+put-map-spec = tie.close (tie.spec put-table-requires same-length returns)

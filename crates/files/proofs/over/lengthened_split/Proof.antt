@@ -1,10 +1,10 @@
 -- `over::lengthened_split` meets its contract: the bytes are no file, or the call on their map ends as `replace` says.
 use borrow.Author.Needs.{needs}
 use mathlib.Core.Path.{sym, ap, _∙_}
-use Rattle.maps.specs.declared.Changed.{Changed}
+use Rattle.maps.specs.declared.WithTable.{WithTable}
 use Rattle.maps.specs.Calls.{withTable, lengthenedSplit}
 use Rattle.maps.proofs.Handed.{lengthened-good}
-use Rattle.files.proofs.Changing.{taken-good, taken-places, taken-room, handed, Left, change-refused, change-done}
+use Rattle.files.proofs.Changing.{taken-handed, taken-places, taken-room, handed, Left, change-refused, change-done}
 use Rattle.files.proofs.over.lengthened_split.Statement.{statement}
 use Rattle.files.proofs.over.lengthened_split.Tie as tie
 
@@ -18,7 +18,7 @@ returns : tie.Need-returns
 returns c =
     let read = c .before .before in
     let a = read .before .before .before .before .args in
-    let l = change-refused (λ m. lengthenedSplit m (a .s)) (a .buffer .now) (a .used .now) (read .read-lent .result .number) (ap (λ (c : Changed). c .number) (read .read-lent .ensures)) (c .if1 .taken) in
+    let l = change-refused (λ m. lengthenedSplit m (a .s)) (a .buffer .now) (a .used .now) (read .read-lent .result .number) (ap (λ (c : WithTable). c .number) (read .read-lent .ensures)) (c .if1 .taken) in
     (l .is-number, l .is-bytes, l .is-used)
 
 lengthened-with-table-requires : tie.Need-lengthened-with-table-requires
@@ -32,7 +32,7 @@ replace-requires c κs =
     let a = else .before .before .before .before .before .before .args in
     let z = else .if1 .left in
     handed (call .lengthened-with-table .result) _ (call .lengthened-with-table .ensures)
-    (lengthened-good (file .result .map) (taken-places _ (file .ensures) z) (taken-room _ (file .ensures) z) (taken-good _ (file .ensures) z) (a .s))
+    (lengthened-good (file .result .map) (taken-places _ (file .ensures) z) (taken-room _ (file .ensures) z) (taken-handed _ (file .ensures) z .0) (a .s))
 
 same-length-2 : tie.Need-same-length-2
 same-length-2 c = search needs
@@ -44,8 +44,8 @@ returns-2 c =
     let else = call .before .before in
     let file = else .before .before .read-lent in
     let a = else .before .before .before .before .before .before .args in
-    let z = sym (ap (λ (r : Changed). r .number) (file .ensures)) ∙ else .if1 .left in
-    let w = call .lengthened-with-table .ensures ∙ ap (λ (r : Changed). withTable (lengthenedSplit (r .map) (a .s))) (file .ensures) in
+    let z = sym (ap (λ (r : WithTable). r .number) (file .ensures)) ∙ else .if1 .left in
+    let w = call .lengthened-with-table .ensures ∙ ap (λ (r : WithTable). withTable (lengthenedSplit (r .map) (a .s))) (file .ensures) in
     let l = change-done (λ m. lengthenedSplit m (a .s)) (a .buffer .now) (a .used .now) z (call .lengthened-with-table .result) w (end .result) (end .ensures .0) _ _ (end .ensures .1) (end .ensures .2) in
     (l .is-number, l .is-bytes, l .is-used)
 

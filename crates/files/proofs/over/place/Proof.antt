@@ -2,12 +2,15 @@
 use borrow.Author.Needs.{needs}
 use native.Mathlib.Omega.{arith}
 use Prim.Native.Nat.{ℕ}
-use mathlib.Core.Path.{refl}
+use mathlib.Core.Path.{refl, _∙_}
 use Rattle.maps.specs.declared.Placed.{Placed}
 use Rattle.maps.specs.Calls.{tablePlace}
+use Rattle.maps.proofs.Handed.{without}
+use Rattle.maps.proofs.FromHand.{own-place}
 use Rattle.files.specs.File.{word}
 use Rattle.files.specs.Over.{shapeBytes, placeBytes, placeNumber, placeAfter}
 use Rattle.files.proofs.Putting.{put-then}
+use Rattle.files.proofs.Changing.{taken-map}
 use Rattle.files.proofs.Answers.{Call, not-read, not-answered, too-short, is-put}
 use Rattle.files.proofs.over.place.Statement.{statement}
 use Rattle.files.proofs.over.place.Tie as tie
@@ -16,18 +19,18 @@ use Rattle.files.proofs.over.place.Tie as tie
 abbrev asked : ℕ → Call Placed
 asked i = record { answer = λ m. tablePlace m i; number = λ p. p .number; bytes = placeBytes; size = 14 }
 
-read-requires : tie.Need-read-requires
-read-requires c κs = search needs
+read-with-table-requires : tie.Need-read-with-table-requires
+read-with-table-requires c κs = search needs
 
 returns : tie.Need-returns
 unfolding placeNumber placeAfter
 returns c =
     let r = c .before .before in
     let a = r .before .before .before .args in
-    not-read (asked (a .i)) _ _ (r .read .ensures) (c .if1 .taken)
+    not-read (asked (a .i)) _ _ (without _ _ (r .read-with-table .ensures)) (c .if1 .taken)
 
-place-requires : tie.Need-place-requires
-place-requires c κs = search needs
+place-in-requires : tie.Need-place-in-requires
+place-in-requires c κs = search needs
 
 returns-2 : tie.Need-returns-2
 unfolding placeNumber placeAfter
@@ -36,7 +39,7 @@ returns-2 c =
     let i = p .before .before in
     let r = i .before .before in
     let a = r .before .before .before .args in
-    not-answered (asked (a .i)) _ _ (r .read .ensures) (i .if1 .left) (p .place .ensures) (c .if2 .taken)
+    not-answered (asked (a .i)) _ _ (without _ _ (r .read-with-table .ensures)) (i .if1 .left) (p .place-in .ensures ∙ own-place (taken-map _ (r .read-with-table .ensures) (i .if1 .left)) (a .i)) (c .if2 .taken)
 
 returns-3 : tie.Need-returns-3
 unfolding placeNumber placeAfter
@@ -46,7 +49,7 @@ returns-3 c =
     let i = p .before .before in
     let r = i .before .before in
     let a = r .before .before .before .args in
-    too-short (asked (a .i)) _ _ (r .read .ensures) (i .if1 .left) (p .place .ensures) (j .if2 .left) (c .if3 .taken)
+    too-short (asked (a .i)) _ _ (without _ _ (r .read-with-table .ensures)) (i .if1 .left) (p .place-in .ensures ∙ own-place (taken-map _ (r .read-with-table .ensures) (i .if1 .left)) (a .i)) (j .if2 .left) (c .if3 .taken)
 
 put-shape-requires : tie.Need-put-shape-requires
 put-shape-requires c κs = search needs
@@ -68,16 +71,16 @@ returns-4 c =
     let i = p .before .before in
     let r = i .before .before in
     let a = r .before .before .before .args in
-    is-put (asked (a .i)) _ (a .out .now) (r .read .ensures) (i .if1 .left) (p .place .ensures) (j .if2 .left) (k .if3 .left)
-    (put-then (a .out .now) 0 (shapeBytes (p .place .result .blend)) (word (p .place .result .value)) 12 (first .put-shape .ensures) (second .put-word .ensures) refl (omega (arith, k .if3 .left)))
+    is-put (asked (a .i)) _ (a .out .now) (without _ _ (r .read-with-table .ensures)) (i .if1 .left) (p .place-in .ensures ∙ own-place (taken-map _ (r .read-with-table .ensures) (i .if1 .left)) (a .i)) (j .if2 .left) (k .if3 .left)
+    (put-then (a .out .now) 0 (shapeBytes (p .place-in .result .blend)) (word (p .place-in .result .value)) 12 (first .put-shape .ensures) (second .put-word .ensures) refl (omega (arith, k .if3 .left)))
 
 pub place-spec : {M : Type 1} → statement M
 place-spec =
     tie.close
     (tie.spec
-    read-requires
+    read-with-table-requires
     returns
-    place-requires
+    place-in-requires
     returns-2
     returns-3
     put-shape-requires

@@ -2,8 +2,11 @@
 use borrow.Author.Needs.{needs}
 use borrow.Author.Tests.{le-leb, lt-leb}
 use mathlib.Core.Path.{sym, ap, _∙_}
+use mathlib.Core.List.{List}
+use Prim.Native.Nat.{ℕ}
 use lib.Seq.{length-take-le}
 use Rattle.mesh.proofs.Tests.{cond-true, cond-false}
+use Rattle.maps.specs.Calls.{withTable}
 use Rattle.files.specs.Calls.{readFile}
 use Rattle.files.proofs.Changing.{no-bytes}
 use Rattle.files.proofs.over.read_lent.Statement.{statement}
@@ -13,17 +16,17 @@ refused-requires : tie.Need-refused-requires
 refused-requires c κs = search needs
 
 returns : tie.Need-returns
-returns c = c .refused .ensures ∙ sym (ap readFile (cond-false _ _ _ (lt-leb _ _ (c .before .if1 .taken))) ∙ no-bytes)
+returns c = c .refused .ensures ∙ sym (ap withTable (ap readFile (cond-false _ _ _ (lt-leb _ _ (c .before .if1 .taken))) ∙ no-bytes))
 
-slice-aggregate-read : tie.Need-slice-aggregate-read
-slice-aggregate-read c = sym (length-take-le _ _ (c .before .if1 .left))
+slice-aggregate-read-with-table : tie.Need-slice-aggregate-read-with-table
+slice-aggregate-read-with-table c = sym (length-take-le _ _ (c .before .if1 .left))
 
-read-requires : tie.Need-read-requires
-read-requires c κs = search needs
+read-with-table-requires : tie.Need-read-with-table-requires
+read-with-table-requires c κs = search needs
 
 returns-2 : tie.Need-returns-2
-returns-2 c = c .read .ensures ∙ ap readFile (sym (cond-true _ _ _ (le-leb _ _ (c .before .before .if1 .left))))
+returns-2 c = c .read-with-table .ensures ∙ ap (λ (bytes : List ℕ). withTable (readFile bytes)) (sym (cond-true _ _ _ (le-leb _ _ (c .before .before .if1 .left))))
 
 pub read-lent-spec : {M : Type 1} → statement M
 read-lent-spec =
-    tie.close (tie.spec refused-requires returns slice-aggregate-read read-requires returns-2)
+    tie.close (tie.spec refused-requires returns slice-aggregate-read-with-table read-with-table-requires returns-2)

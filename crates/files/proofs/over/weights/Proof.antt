@@ -1,10 +1,14 @@
 -- `over::weights` meets its contract: each return is what the tests before it decide.
 use borrow.Author.Needs.{needs}
 use Prim.Native.Nat.{ℕ}
+use mathlib.Core.Path.{_∙_}
 use lib.ListN.{length-map}
 use Rattle.maps.specs.declared.Weights.{Weights}
 use Rattle.maps.specs.Calls.{weights}
+use Rattle.maps.proofs.Handed.{without}
+use Rattle.maps.proofs.FromHand.{own-weights}
 use Rattle.files.specs.Over.{weightsBytes, weightsNumber, weightsAfter}
+use Rattle.files.proofs.Changing.{taken-map}
 use Rattle.files.proofs.Answers.{Call, not-read, not-answered, too-short, is-put, four-put}
 use Rattle.files.proofs.over.weights.Statement.{statement}
 use Rattle.files.proofs.over.weights.Tie as tie
@@ -13,18 +17,18 @@ use Rattle.files.proofs.over.weights.Tie as tie
 abbrev asked : ℕ → ℕ → Call Weights
 asked u v = record { answer = λ m. weights m u v; number = λ w. w .number; bytes = weightsBytes; size = 64 }
 
-read-requires : tie.Need-read-requires
-read-requires c κs = search needs
+read-with-table-requires : tie.Need-read-with-table-requires
+read-with-table-requires c κs = search needs
 
 returns : tie.Need-returns
 unfolding weightsNumber weightsAfter
 returns c =
     let r = c .before .before in
     let a = r .before .before .before .args in
-    not-read (asked (a .u) (a .v)) _ _ (r .read .ensures) (c .if1 .taken)
+    not-read (asked (a .u) (a .v)) _ _ (without _ _ (r .read-with-table .ensures)) (c .if1 .taken)
 
-weights-requires : tie.Need-weights-requires
-weights-requires c κs = search needs
+weights-in-requires : tie.Need-weights-in-requires
+weights-in-requires c κs = search needs
 
 returns-2 : tie.Need-returns-2
 unfolding weightsNumber weightsAfter
@@ -33,7 +37,7 @@ returns-2 c =
     let i = w .before .before in
     let r = i .before .before in
     let a = r .before .before .before .args in
-    not-answered (asked (a .u) (a .v)) _ _ (r .read .ensures) (i .if1 .left) (w .weights .ensures) (c .if2 .taken)
+    not-answered (asked (a .u) (a .v)) _ _ (without _ _ (r .read-with-table .ensures)) (i .if1 .left) (w .weights-in .ensures ∙ own-weights (taken-map _ (r .read-with-table .ensures) (i .if1 .left)) (a .u) (a .v)) (c .if2 .taken)
 
 returns-3 : tie.Need-returns-3
 unfolding weightsNumber weightsAfter
@@ -43,7 +47,7 @@ returns-3 c =
     let i = w .before .before in
     let r = i .before .before in
     let a = r .before .before .before .args in
-    too-short (asked (a .u) (a .v)) _ _ (r .read .ensures) (i .if1 .left) (w .weights .ensures) (j .if2 .left) (c .if3 .taken)
+    too-short (asked (a .u) (a .v)) _ _ (without _ _ (r .read-with-table .ensures)) (i .if1 .left) (w .weights-in .ensures ∙ own-weights (taken-map _ (r .read-with-table .ensures) (i .if1 .left)) (a .u) (a .v)) (j .if2 .left) (c .if3 .taken)
 
 element-copy-out-first : tie.Need-element-copy-out-first
 element-copy-out-first c = search needs
@@ -85,17 +89,17 @@ returns-4 c =
     let i = w .before .before in
     let r = i .before .before in
     let a = r .before .before .before .args in
-    is-put (asked (a .u) (a .v)) _ (a .out .now) (r .read .ensures) (i .if1 .left) (w .weights .ensures) (j .if2 .left) (k .if3 .left)
-    (four-put (w .weights .result .entries) (a .out .now) (simp length-map at (w .weights .ok .1 .1 .1 .0 .1 .0 .1)) (k .if3 .left)
+    is-put (asked (a .u) (a .v)) _ (a .out .now) (without _ _ (r .read-with-table .ensures)) (i .if1 .left) (w .weights-in .ensures ∙ own-weights (taken-map _ (r .read-with-table .ensures) (i .if1 .left)) (a .u) (a .v)) (j .if2 .left) (k .if3 .left)
+    (four-put (w .weights-in .result .entries) (a .out .now) (simp length-map at (w .weights-in .ok .1 .1 .1 .0 .1 .0 .1)) (k .if3 .left)
     (first .put-weight .ensures) (second .put-weight2 .ensures) (third .put-weight3 .ensures) (fourth .put-weight4 .ensures))
 
 pub weights-spec : {M : Type 1} → statement M
 weights-spec =
     tie.close
     (tie.spec
-    read-requires
+    read-with-table-requires
     returns
-    weights-requires
+    weights-in-requires
     returns-2
     returns-3
     element-copy-out-first

@@ -1,13 +1,10 @@
--- `maps::Map::reading` meets its contract: each return is what the tests before it decide.
+-- `maps::Map::reading` meets its contract: a record that is not good is refused, else the answer is that of its own table.
 use borrow.Author.Needs.{needs}
-use mathlib.Core.Path.{_≡_, sym, _∙_}
-use mathlib.Core.Bool.{true, _&&_}
-use borrow.Author.Tests.{not-true, not-false}
-use lib.Dec.{leb}
-use Rattle.mesh.proofs.Tests.{cond-true, cond-false}
-use Rattle.maps.specs.Record.{plain}
+use mathlib.Core.Path.{sym, _∙_}
+use Rattle.mesh.proofs.Tests.{cond-true}
 use Rattle.maps.specs.Calls.{reading}
-use Rattle.maps.proofs.Recording.{GoodMap, not-good, good-opened, passed, at-point, live-blends, live-values}
+use Rattle.maps.proofs.Recording.{not-good, good-opened}
+use Rattle.maps.proofs.FromHand.{own-reading}
 use Rattle.maps.proofs.Map.reading.Statement.{statement}
 use Rattle.maps.proofs.Map.reading.Tie as tie
 
@@ -20,37 +17,15 @@ returns c =
     let o = c .before .before .«open» in
     sym (cond-true _ _ _ (not-good _ (o .result) (o .ensures) (c .if1 .taken)))
 
-good-self : (c : tie.Else1) → GoodMap (c .before .before .before .args .self) (c .before .before .«open» .result .table)
-good-self c =
-    let s = c .before .before .before in
-    let o = c .before .before .«open» in
-    good-opened (s .args .self) (o .result) (o .ensures) _ (s .good .0) (c .if1 .left)
-
-in-domain-requires : tie.Need-in-domain-requires
-in-domain-requires c κs = search needs
+reading-in-requires : tie.Need-reading-in-requires
+reading-in-requires c κs = search needs
 
 returns-2 : tie.Need-returns-2
-unfolding reading plain
 returns-2 c =
-    let d = c .before .in-domain in
-    sym (cond-false _ _ _ (passed (good-self (c .before .before))) ∙ cond-false _ _ _ (sym (d .ensures) ∙ not-true (d .result) (c .if2 .taken)))
-
-domain : (c : tie.Else2) → let a = c .before .before .before .before .before .args in (leb (a .u) (a .self .w) && leb (a .v) (a .self .h)) ≡ true
-domain c = let d = c .before .in-domain in sym (d .ensures) ∙ not-false (d .result) (c .if2 .left)
-
-reading-of-requires : tie.Need-reading-of-requires
-reading-of-requires c κs =
-    let i = c .before .before in
-    let a = i .before .before .before .before .before .args in
-    at-point (good-self (i .before .before)) (a .u) (a .v) (domain i)
-
-returns-3 : tie.Need-returns-3
-unfolding reading plain
-returns-3 c =
-    let i = c .before .before .before in
-    let g = good-self (i .before .before) in
-    rw (c .reading-of .ensures, live-blends g, live-values g) (sym (cond-false _ _ _ (passed g) ∙ cond-true _ _ _ (domain i)))
+    let e = c .before in
+    let s = e .before .before .before in
+    let o = e .before .before .«open» in
+    c .reading-in .ensures ∙ own-reading (good-opened (s .args .self) (o .result) (o .ensures) _ (s .good .0) (e .if1 .left)) (s .args .u) (s .args .v)
 
 pub reading-spec : {M : Type 1} → statement M
-reading-spec =
-    tie.close (tie.spec open-requires returns in-domain-requires returns-2 reading-of-requires returns-3)
+reading-spec = tie.close (tie.spec open-requires returns reading-in-requires returns-2)

@@ -11,6 +11,7 @@ use mir.Syntax.{w16}
 use borrow.Author.Needs.{needs, elem-fits}
 use Rattle.mesh.specs.declared.Blend.{Blend}
 use Rattle.maps.proofs.Exact.{entry}
+use Rattle.maps.proofs.Over.{four-at}
 use Rattle.maps.proofs.Readings.{Valued, reading-most}
 use Rattle.maps.proofs.Index.{OnKnots, on-knots, Indexed, old-valued, count-most, blends-of, values-of, old-indexed, old-table, noted-most, carried-new, carried-old, fill-more, fill-all}
 use Rattle.mesh.specs.Sound.{proper, none, blendsOf}
@@ -137,16 +138,19 @@ reading-of-requires c κs =
     let t = c .before .before .before .before .before in
     let old = t .before .before .before .before .before .pre .0 in
     let o = old-table old in
-    let k = knots t in (
+    let k = knots t in
+    let a = t .before .before .before .before .before .args in
+    let across : c .before .wide .result - 1 ≤ a .w = rw (c .before .wide .ensures) (k .1) in
+    let up : c .wide2 .result - 1 ≤ a .h = rw (c .wide2 .ensures) (k .3) in (
       count-most old,
       o .0,
-      o .1,
+      four-at _ _ _ (o .1) _ _ (old .sides .0) (old .sides .2) across up,
       old .sides .0,
       old .sides .1,
       old .sides .2,
       old .sides .3,
-      rw (c .before .wide .ensures) (k .1),
-      rw (c .wide2 .ensures) (k .3),
+      across,
+      up,
     )
 
 -- the reading at the next blend's anchor

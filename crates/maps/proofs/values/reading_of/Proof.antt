@@ -12,7 +12,7 @@ use Rattle.mesh.specs.Sound.{blendsOf, none, proper}
 use Rattle.mesh.proofs.Places.{proper-facts}
 use Rattle.mesh.proofs.Entries.{left-turn, left-none}
 use Rattle.maps.specs.Values.{paired, readingAt}
-use Rattle.maps.proofs.Over.{End, corner-in, corner-end, four-over, proper-at}
+use Rattle.maps.proofs.Over.{End, corner-in, corner-end, proper-at}
 use Rattle.maps.proofs.Adding.{Adding, adding-none, adding-all, adding-small, adding-outside, adding-fits, adding-over, value-positive}
 use Rattle.maps.proofs.values.reading_of.Statement.{statement}
 use Rattle.maps.proofs.values.reading_of.Tie as tie
@@ -85,10 +85,7 @@ loop-holds : tie.Need-loop-holds Inv-loop μ-loop
 loop-holds c =
     let a = c .before .before .args in
     let p = c .before .before .pre in
-    let i = corner-in (a .w) (a .u) _ (p .3) (p .7) (c .before .corner-of .ensures) in
-    let j = corner-in (a .h) (a .v) _ (p .5) (p .8) (c .corner-of2 .ensures) in
-    let four = four-over (a .w) (a .h) (blendsOf (a .t1)) (p .2) _ _ (i .0) (i .1) (j .0) (j .1) in
-    (omega arith, adding-none (blendsOf (a .t1)) (take (a .t1 .count) (a .t2)) refl four)
+    (omega arith, adding-none (blendsOf (a .t1)) (take (a .t1 .count) (a .t2)) refl (rw (c .before .corner-of .ensures, c .corner-of2 .ensures) (p .2)))
 
 mul-b : tie.Need-mul-b Inv-loop μ-loop
 mul-b c = omega arith

@@ -14,7 +14,7 @@ use Rattle.mesh.proofs.Entries.{left-turn, left-none}
 use Rattle.maps.specs.declared.Weight.{Weight}
 use Rattle.maps.specs.Calls.{weightOver, noWeight}
 use Rattle.maps.specs.Values.{corner, weightAt}
-use Rattle.maps.proofs.Over.{End, corner-in, corner-end, four-over, proper-at}
+use Rattle.maps.proofs.Over.{End, corner-in, corner-end, proper-at}
 use Rattle.maps.proofs.Filling.{Filling, filling-none, filling-room, filling-more, filling-all}
 use Rattle.maps.proofs.values.weights_of.Statement.{statement}
 use Rattle.maps.proofs.values.weights_of.Tie as tie
@@ -32,12 +32,7 @@ abbrev μ-loop : tie.MeasureT-loop
 
 -- there are four entries in all
 four : (c : tie.Start Inv-loop μ-loop) → let a = c .args in length (weighed (a .w) (a .h) (a .u) (a .v) (blendsOf (a .t1))) ≡ 4
-four c =
-    let a = c .args in
-    let p = c .pre in
-    let i = corner-in (a .w) (a .u) _ (p .3) (p .7) refl in
-    let j = corner-in (a .h) (a .v) _ (p .5) (p .8) refl in
-    simp length-map (four-over (a .w) (a .h) (blendsOf (a .t1)) (p .2) _ _ (i .0) (i .1) (j .0) (j .1))
+four c = simp length-map (c .pre .2)
 
 full : (c : tie.Start Inv-loop μ-loop) → length (c .args .t1 .blends) ≡ 1024
 full c = simp length-map at (c .good .0 .1 .1 .1 .0 .1 .0 .1)

@@ -1,0 +1,149 @@
+-- `read_with_table` meets its contract: no file has the lengths that are refused, and the map that the bytes tell is written again and compared.
+use borrow.Author.Needs.{needs}
+use native.Mathlib.Omega.{arith}
+use borrow.Author.Tests.{not-true, not-false}
+use mathlib.Core.Path.{refl, sym, ap, _∙_}
+use Rattle.maps.specs.Calls.{withTable}
+use Rattle.maps.proofs.Handed.{kept-table}
+use lib.Seq.{length-take-le}
+use Rattle.files.proofs.RoundTrip.{is-refused}
+use Rattle.files.proofs.Taking.{count-few}
+use Rattle.files.proofs.Filing.{not-good, in-hand}
+use Rattle.files.proofs.Reading.{Wrote, wrote, file-lengths, not-opened, not-written, not-same, all-same}
+use Rattle.files.proofs.read_with_table.Statement.{statement}
+use Rattle.files.proofs.read_with_table.Tie as tie
+
+refused-requires : tie.Need-refused-requires
+refused-requires c κs = search needs
+
+returns : tie.Need-returns
+returns c =
+    let bytes = c .before .before .before .args .bytes .now in
+    c .refused .ensures ∙ sym (ap withTable (is-refused bytes (λ g e. let f = file-lengths bytes g e in omega (arith, f .least))))
+
+count-splits-requires : tie.Need-count-splits-requires
+count-splits-requires c κs = search needs
+
+mul-used : tie.Need-mul-used
+mul-used c = omega (arith, count-few (c .before .before .before .args .bytes .now) 8 60)
+
+add-used : tie.Need-add-used
+add-used c = omega (arith, count-few (c .before .before .before .args .bytes .now) 8 60)
+
+refused-requires-2 : tie.Need-refused-requires-2
+refused-requires-2 c κs = search needs
+
+returns-2 : tie.Need-returns-2
+returns-2 c =
+    let bytes = c .before .before .before .before .before .args .bytes .now in
+    c .refused2 .ensures ∙ sym (ap withTable (is-refused bytes (λ g e. let f = file-lengths bytes g e in omega (arith, f .least))))
+
+refused-requires-3 : tie.Need-refused-requires-3
+refused-requires-3 c κs = search needs
+
+returns-3 : tie.Need-returns-3
+returns-3 c =
+    let bytes = c .before .before .before .before .before .before .args .bytes .now in
+    c .refused3 .ensures ∙ sym (ap withTable (is-refused bytes (λ g e. let f = file-lengths bytes g e in omega (arith, f .most))))
+
+taken-requires : tie.Need-taken-requires
+taken-requires c κs = search needs
+
+open-requires : tie.Need-open-requires
+open-requires c κs = search needs
+
+refused-requires-4 : tie.Need-refused-requires-4
+refused-requires-4 c κs = search needs
+
+returns-4 : tie.Need-returns-4
+returns-4 c =
+    let taken = c .before .before .before .before in
+    let start = taken .before .before .before .before .before .before in
+    c .refused4 .ensures ∙
+    sym (ap withTable (not-opened (start .args .bytes .now) (taken .taken .result) (taken .taken .ensures)
+    (not-good _ (c .before .before .before .«open» .ensures) (not-true _ (c .before .if4 .taken)))))
+
+slice-aggregate-put-whole : tie.Need-slice-aggregate-put-whole
+slice-aggregate-put-whole c = search needs
+
+put-whole-requires : tie.Need-put-whole-requires
+put-whole-requires c κs =
+    let else = c .before .before in
+    in-hand _ (else .before .before .«open» .ensures) (not-false _ (else .if4 .left))
+
+refused-requires-5 : tie.Need-refused-requires-5
+refused-requires-5 c κs = search needs
+
+returns-5 : tie.Need-returns-5
+returns-5 c =
+    let put = c .before .before .before .before in
+    let taken = put .before .before .before .before .before .before in
+    let start = taken .before .before .before .before .before .before in
+    c .refused5 .ensures ∙
+    sym (ap withTable (not-written (start .args .bytes .now) (taken .taken .result) (taken .taken .ensures) _ (put .put-whole .ensures .0) refl (c .before .if5 .taken)))
+
+filed : (c : tie.Else5) →
+    let put = c .before .before .before in
+    Wrote (put .before .before .before .before .before .before .taken .result) (put .put-whole .result .length) (put .put-whole .last .0)
+filed c =
+    let put = c .before .before .before in
+    wrote _ _ (put .put-whole .ensures .0) (put .put-whole .ensures .1) (c .if5 .left)
+
+array-share-prefix-buffer : tie.Need-array-share-prefix-buffer
+array-share-prefix-buffer c = filed c .fits
+
+slice-aggregate-equal : tie.Need-slice-aggregate-equal
+slice-aggregate-equal c = sym (length-take-le _ _ (filed (c .before) .fits))
+
+equal-requires : tie.Need-equal-requires
+equal-requires c κs = search needs
+
+refused-requires-6 : tie.Need-refused-requires-6
+refused-requires-6 c κs = search needs
+
+returns-6 : tie.Need-returns-6
+returns-6 c =
+    let same = c .before .before in
+    let at = same .before .before in
+    let taken = at .before .before .before .before .before .before .before .before .before in
+    let start = taken .before .before .before .before .before .before in
+    c .refused6 .ensures ∙
+    sym (ap withTable (not-same (start .args .bytes .now) (taken .taken .result) (taken .taken .ensures) (filed at) (sym (same .equal .ensures) ∙ not-true _ (c .before .if6 .taken))))
+
+returns-7 : tie.Need-returns-7
+returns-7 c =
+    let same = c .before in
+    let at = same .before .before in
+    let o = at .before .before .before .before .before .before .before .before in
+    let taken = o .before in
+    let start = taken .before .before .before .before .before .before in
+    kept-table _ (o .«open» .result) (o .«open» .ensures) 0 _
+    (all-same (start .args .bytes .now) (taken .taken .result) (taken .taken .ensures) (filed at) (sym (same .equal .ensures) ∙ not-false _ (c .if6 .left)))
+
+pub read-with-table-spec : {M : Type 1} → statement M
+read-with-table-spec =
+    tie.close
+    (tie.spec
+    refused-requires
+    returns
+    count-splits-requires
+    mul-used
+    add-used
+    refused-requires-2
+    returns-2
+    refused-requires-3
+    returns-3
+    taken-requires
+    open-requires
+    refused-requires-4
+    returns-4
+    slice-aggregate-put-whole
+    put-whole-requires
+    refused-requires-5
+    returns-5
+    array-share-prefix-buffer
+    slice-aggregate-equal
+    equal-requires
+    refused-requires-6
+    returns-6
+    returns-7)

@@ -1,0 +1,93 @@
+-- `maps::values::all_proper` meets its contract. The invariant: the blends that remain decide the whole answer.
+use Prim.Native.Nat.{_≤_, _+_, _-_}
+use native.Mathlib.Omega.{arith}
+use mathlib.Core.Path.{_≡_, refl, sym, ap, _∙_}
+use mathlib.Core.Bool.{_&&_}
+use lib.ListN.{drop, getD, length, length-map}
+use Rattle.mesh.specs.Range.{all}
+use Rattle.mesh.specs.Sound.{proper, blendsOf, none}
+use Rattle.mesh.proofs.Tests.{failed, passed}
+use Rattle.mesh.proofs.Cutting.{blends-turn, blends-end}
+use Rattle.maps.proofs.values.all_proper.Statement.{statement}
+use Rattle.maps.proofs.values.all_proper.Tie as tie
+
+abbrev Inv-loop : tie.InvT-loop
+Inv-loop w h table count i₀ i =
+    (i ≤ count) × (all (proper w h) (drop i (blendsOf table)) ≡ all (proper w h) (blendsOf table))
+
+abbrev μ-loop : tie.MeasureT-loop
+μ-loop w h table count i₀ i = count - i
+
+-- one turn decides the whole answer by the next blend and those behind it
+turn : (c : tie.In-loop Inv-loop μ-loop) →
+    let l = c .before .loop in
+    let a = c .before .before .args in
+    all (proper (a .w) (a .h)) (blendsOf (a .t1)) ≡
+    (proper (a .w) (a .h) (getD (a .t1 .blends) (l .i) none) && all (proper (a .w) (a .h)) (drop (l .i + 1) (blendsOf (a .t1))))
+turn c =
+    let l = c .before .loop in
+    let a = c .before .before .args in
+    let full : length (a .t1 .blends) ≡ 1024 = simp length-map at (c .before .before .good .0 .1 .1 .1 .0 .1 .0 .1) in
+    sym (l .inv .1) ∙ ap (all (proper (a .w) (a .h))) (blends-turn (a .t1) (l .i) (omega arith) (omega arith))
+
+loop-holds : tie.Need-loop-holds Inv-loop μ-loop
+loop-holds c = (omega arith, refl)
+
+mul-b : tie.Need-mul-b Inv-loop μ-loop
+mul-b c = omega arith
+
+element-copy-out-b : tie.Need-element-copy-out-b Inv-loop μ-loop
+element-copy-out-b c = omega arith
+
+rises-requires : tie.Need-rises-requires Inv-loop μ-loop
+rises-requires c κs = omega arith
+
+returns : tie.Need-returns Inv-loop μ-loop
+returns c = sym (turn (c .before .before .before) ∙ rw (failed (c .before .rises .ensures) (c .if1 .taken)))
+
+rises-requires-2 : tie.Need-rises-requires-2 Inv-loop μ-loop
+rises-requires-2 c κs = omega arith
+
+returns-2 : tie.Need-returns-2 Inv-loop μ-loop
+returns-2 c =
+    let first = c .before .before in
+    sym (turn (first .before .before .before) ∙ rw
+    (passed (first .before .rises .ensures) (first .if1 .left), failed (c .before .rises2 .ensures) (c .if2 .taken)))
+
+add-i : tie.Need-add-i Inv-loop μ-loop
+add-i c = omega arith
+
+loop-less : tie.Need-loop-less Inv-loop μ-loop
+loop-less c = omega arith
+
+loop-again : tie.Need-loop-again Inv-loop μ-loop
+loop-again c =
+    let first = c .before .before in (
+      omega arith,
+      sym (turn (first .before .before .before) ∙ rw
+          (passed (first .before .rises .ensures) (first .if1 .left), passed (c .before .rises2 .ensures) (c .if2 .left))),
+    )
+
+returns-3 : tie.Need-returns-3 Inv-loop μ-loop
+returns-3 c =
+    let l = c .before .loop in
+    let a = c .before .before .args in
+    sym (sym (l .inv .1) ∙ rw (blends-end (a .t1) (l .i) (omega arith)))
+
+pub all-proper-spec : {M : Type 1} → statement M
+all-proper-spec =
+    tie.close
+    (tie.spec
+    Inv-loop
+    μ-loop
+    loop-holds
+    mul-b
+    element-copy-out-b
+    rises-requires
+    returns
+    rises-requires-2
+    returns-2
+    add-i
+    loop-less
+    loop-again
+    returns-3)
