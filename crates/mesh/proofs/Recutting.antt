@@ -3,7 +3,7 @@ use Prim.Native.Nat.{ℕ, zero, suc, _+_, _-_, _≤_, _<_}
 use native.Mathlib.Omega.{arith}
 use mathlib.Core.Path.{_≡_, refl, sym, ap, subst, _∙_}
 use mathlib.Core.Logic.{⊎-elim}
-use mathlib.Core.Bool.{Bool, true, false, _&&_, _||_, not, or-false}
+use mathlib.Core.Bool.{Bool, true, false, cond, _&&_, _||_, not, or-false}
 use mathlib.Core.List.{List, [], _∷_, List·Memᴰ, List·Memᴰ·cases-cons, List·Memᴰ·not-nil}
 use mathlib.Core.List.List·Memᴰ.{List·Memᴰ·head, List·Memᴰ·tail}
 use borrow.Author.Tests.{eq-eqb, ne-eqb, lt-ltb, not-true}
@@ -11,11 +11,12 @@ use lib.ListN.{length, getD, set, drop, length-set}
 use lib.Seq.{getD-set-same, getD-set-other}
 use Rattle.mesh.specs.Range.{any, some, only}
 use Rattle.mesh.specs.Lines.{Direction, upright, level, Mesh, onLine, shares, ended, draws}
-use Rattle.mesh.specs.Blends.{leavesOf}
-use Rattle.mesh.specs.Bytes.{at, Square, stepOn, bytesMesh, ProperIn, place, keepAll, clearAll}
+use Rattle.mesh.specs.Blends.{cuts, leavesOf}
+use Rattle.mesh.specs.Bytes.{at, Square, stepOn, bytesMesh, ProperIn, place, keepAll, clearAll, recut, refused}
 use Rattle.mesh.specs.declared.Split.{Split}
 use Rattle.mesh.specs.declared.Blend.{Blend}
-use Rattle.mesh.proofs.Tests.{either, true-not-false, only-mem, mem-only}
+use Rattle.mesh.specs.declared.Refined.{Refined}
+use Rattle.mesh.proofs.Tests.{either, true-not-false, and-last, cond-false, only-mem, mem-only}
 use Rattle.mesh.proofs.Ascending.{OwnAnchors}
 use Rattle.mesh.proofs.Cutting.{Cut, cut-first}
 use Rattle.mesh.proofs.Places.{Kept, at-inj}
@@ -119,6 +120,16 @@ module _ (M : Mesh) (test : Blend → Bool) (bs : List Blend) where
     pub keeping-done : drop i bs ≡ [] → places ≡ keepAll before (leavesOf M (only test bs))
     unfolding keepAll leavesOf
     keeping-done none = rw none at (k .left)
+
+-- both passes together
+pub recut-done : (M : Mesh) (d : Direction) (z : ℕ) (bs : List Blend) (before cleared after : List ℕ) →
+    cleared ≡ clearAll before (only (cuts M d z) bs) → after ≡ keepAll cleared (leavesOf M (only (cuts M d z) bs)) → after ≡ recut M d z bs before
+unfolding recut
+recut-done M d z bs before cleared after e f = f ∙ ap (λ (P : List ℕ). keepAll P (leavesOf M (only (cuts M d z) bs))) e
+
+-- two blends met
+pub met-none : (some : Bool) {b : Bool} {r : Refined} (x : Refined) → b ≡ false → r ≡ refused → r ≡ cond (some && b) x refused
+met-none some x e q = q ∙ sym (cond-false _ _ _ (and-last some _ e))
 
 -- What clearing does to a place: one that is free stays so, that of a chosen blend becomes free, and any other stays as it is.
 clear-length : (T : List ℕ) (cs : List Blend) → length (clearAll T cs) ≡ length T

@@ -28,6 +28,13 @@ pub and-fails : (a b : Bool) → (a && b) ≡ false → (a ≡ false) ⊎ (b ≡
 and-fails true b e = inr e
 and-fails false b e = inl refl
 
+pub and-first : (a b : Bool) → a ≡ false → (a && b) ≡ false
+and-first a b e = rw e
+
+pub and-last : (a b : Bool) → b ≡ false → (a && b) ≡ false
+and-last true b e = e
+and-last false b e = refl
+
 pub or-either : (a b : Bool) → (a || b) ≡ true → (a ≡ true) ⊎ (b ≡ true)
 or-either true b e = inl refl
 or-either false b e = inr e
