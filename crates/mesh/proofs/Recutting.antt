@@ -12,7 +12,7 @@ use lib.Seq.{getD-set-same, getD-set-other}
 use Rattle.mesh.specs.Range.{any, some, only}
 use Rattle.mesh.specs.Lines.{Direction, upright, level, Mesh, onLine, shares, ended, draws}
 use Rattle.mesh.specs.Blends.{cuts, leavesOf}
-use Rattle.mesh.specs.Bytes.{at, Square, stepOn, bytesMesh, ProperIn, place, keepAll, clearAll, recut, refused}
+use Rattle.mesh.specs.Bytes.{at, stepOn, bytesMesh, place, keepAll, clearAll, recut, refused}
 use Rattle.mesh.specs.declared.Split.{Split}
 use Rattle.mesh.specs.declared.Blend.{Blend}
 use Rattle.mesh.specs.declared.Refined.{Refined}
@@ -170,7 +170,7 @@ clear-other T (C ∷ cs) i apart =
 -- Blends kept, each at an anchor of its own: with the chosen ones cleared, the others are kept.
 module _ (w h : ℕ) (hw : w ≤ 128) (hh : h ≤ 128) (T : List ℕ) (ds : List Blend) (K : Kept w h T ds) (clear : getD T 0 0 ≡ 0) (own : OwnAnchors ds)
     (test : Blend → Bool) where
-  abbrev pub others : List Blend
+  abbrev others : List Blend
   others = only (λ B. not (test B)) ds
 
   in-square : (B : Blend) → List·Memᴰ B ds → place B < length T

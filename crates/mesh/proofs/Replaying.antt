@@ -6,13 +6,13 @@ use mathlib.Core.Path.{_≡_, refl, sym, ap, subst, fun-ext, _∙_}
 use mathlib.Core.Logic.{_⊎_, inl, inr, ⊎-elim}
 use mathlib.Core.Bool.{Bool, true, false, cond, _&&_, _||_, not, or-false, or-assoc}
 use mathlib.Core.List.{List, [], _∷_, _++_, List·Memᴰ}
-use borrow.Author.Tests.{eqb-true, eqb-false, eq-eqb, lt-ltb, leb-true, le-leb, lt-leb, not-true}
-use lib.Dec.{eqb, ltb, leb}
+use borrow.Author.Tests.{eqb-true, eqb-false, lt-ltb, leb-true, le-leb, lt-leb, not-true}
+use lib.Dec.{eqb, leb}
 use lib.ListN.{length, getD, take, drop, length-append, length-take}
 use lib.Seq.{take-suc}
 use Rattle.mesh.specs.Range.{all, any, every, only}
 use Rattle.mesh.specs.Triple.{inside}
-use Rattle.mesh.specs.Lines.{Direction, upright, level, number, direction, Mesh, draws, allowedSide, inRange, mesh, freshMesh, shares, ended, splitsOf, meshOf}
+use Rattle.mesh.specs.Lines.{Direction, upright, level, number, direction, Mesh, draws, allowedSide, inRange, mesh, freshMesh, shares, ended, splitsOf}
 use Rattle.mesh.specs.Blends.{along, crossed, cuts, cutter, isCut, leavesOf, refine, firstFour, live}
 use Rattle.mesh.specs.Order.{Uncut, Coarser}
 use Rattle.mesh.specs.Sound.{sound, table, blendsOf, fitted, full, proper}
@@ -28,16 +28,15 @@ use Rattle.mesh.proofs.Tests.{either, true-not-false, false-of, and-bot
 use Rattle.mesh.proofs.Drawing.{Allowed, blank, left-turn, left-none}
 use Rattle.mesh.proofs.SingleSteps.{Small, in-range-small}
 use Rattle.mesh.proofs.Cuts.{RiseB, proper-facts, proper-rises, cutter-none, cutter-cuts}
-use Rattle.mesh.proofs.Order.{Rising, LeftOf, SameMembers, leavesOf-left, left-leavesOf, left-uncut, left-itself, finer-leaves}
-use Rattle.mesh.proofs.Ascending.{OwnAnchors}
+use Rattle.mesh.proofs.Order.{Rising, SameMembers, leavesOf-left, left-leavesOf, left-uncut, left-itself, finer-leaves}
 use Rattle.mesh.proofs.Places.{Kept, seen, mem-seen, seen-mem, keep-seen, kept-same, keep-list, nothing-kept}
-use Rattle.mesh.proofs.Live.{AllProper, leaves-proper, refine-leaves, finer-fitted}
+use Rattle.mesh.proofs.Live.{leaves-proper, finer-fitted}
 use Rattle.mesh.proofs.Fresh.{first-proper, firstFour-rises, fresh-live, fresh-sound}
 use Rattle.mesh.proofs.SoundMaps.{live-left, live-proper, live-leaves, own-anchors}
 use Rattle.mesh.proofs.Refining.{table-blends, table-count, some-line, no-line, met-fitted, read-fitted}
 use Rattle.mesh.proofs.Cutting.{proper-most}
 use Rattle.mesh.proofs.Fitted.{fits-held, unfit-unsound, full-sound}
-use Rattle.mesh.proofs.Recutting.{others, clear-kept}
+use Rattle.mesh.proofs.Recutting.{clear-kept}
 
 number-direction : (d : Direction) → direction (number d) ≡ d
 number-direction upright = refl

@@ -129,7 +129,14 @@ fn cuts_blend(uprights: &[u8], levels: &[u8], number: usize, z: u8, x: Blend) ->
 }
 
 // Makes the places of the blends that a line cuts free, and tells whether there are any.
-fn clear_cut(uprights: &[u8], levels: &[u8], number: usize, z: u8, table: Table, places: &mut [u32]) -> bool
+fn clear_cut(
+    uprights: &[u8],
+    levels: &[u8],
+    number: usize,
+    z: u8,
+    table: Table,
+    places: &mut [u32],
+) -> bool
     requires { ⌜ Square (now uprights) × Square (now levels) × Square (now places) × (z < 131) × (table .count ≤ 1024) ×
         (all (proper 128 128) (blendsOf table) ≡ true) ⌝ }
     ensures { λ r. ⌜ (r ≡ any (cuts (bytesMesh (now (uprights .entry)) (now (levels .entry))) (direction number) z) (blendsOf table)) ×
@@ -171,7 +178,16 @@ fn cut_those(uprights: &[u8], levels: &[u8], number: usize, z: u8, table: Table,
 
 // The table after a line more, if the line cuts a blend and a table holds what is left. All blends that it cuts make room before any
 // is cut, so that none of what is left meets one of them.
-fn recut(uprights: &[u8], levels: &[u8], number: usize, z: u8, table: Table, w: usize, h: usize, places: &mut [u32]) -> Refined
+fn recut(
+    uprights: &[u8],
+    levels: &[u8],
+    number: usize,
+    z: u8,
+    table: Table,
+    w: usize,
+    h: usize,
+    places: &mut [u32],
+) -> Refined
     requires { ⌜ Square (now uprights) × Square (now levels) × Square (now places) × (z < 131) × (table .count ≤ 1024) ×
         (all (proper 128 128) (blendsOf table) ≡ true) × (w ≤ 128) × (h ≤ 128) ⌝ }
     ensures { λ r. ⌜ (let M = bytesMesh (now (uprights .entry)) (now (levels .entry)) in

@@ -1,7 +1,7 @@
 -- `mesh::replay::clear_cut` meets its contract. The invariant: the blends that remain, cleared from the places as they are, give the whole answer.
 use Prim.Native.Nat.{_+_, _-_, _≤_, _<_}
 use native.Mathlib.Omega.{arith}
-use mathlib.Core.Path.{_≡_, refl, sym, _∙_}
+use mathlib.Core.Path.{_≡_, sym, _∙_}
 use mathlib.Core.Logic.{⊎-elim}
 use mathlib.Core.List.{_∷_}
 use lib.ListN.{drop, getD, length, length-map}

@@ -1,12 +1,12 @@
 -- `mesh::replay::draw_exact` meets its contract: the tests in their order, then the line in both meshes, of which one has its direction.
 use native.Mathlib.Omega.{arith}
 use borrow.Author.Needs.{needs}
-use mathlib.Core.Path.{_≡_, refl, sym, _∙_}
-use mathlib.Core.Bool.{true, false}
+use mathlib.Core.Path.{_≡_, refl, sym}
+use mathlib.Core.Bool.{true}
 use Rattle.mesh.specs.Lines.{upright, level, inRange}
 use Rattle.mesh.proofs.Tests.{refused, failed, passed, second, and-of, true-not-false}
 use Rattle.mesh.proofs.Drawing.{in-range-says}
-use Rattle.mesh.proofs.SingleSteps.{Small, in-range-small}
+use Rattle.mesh.proofs.SingleSteps.{in-range-small}
 use Rattle.mesh.proofs.Recutting.{both-drawn}
 use Rattle.mesh.proofs.replay.draw_exact.Statement.{statement}
 use Rattle.mesh.proofs.replay.draw_exact.Tie as tie

@@ -1,5 +1,4 @@
 -- `mesh::replay::may_be_drawn` meets its contract: by the split's direction, the bytes that it asks and those that cross it.
-use borrow.Author.Needs.{needs}
 use mathlib.Core.Path.{_∙_}
 use Rattle.mesh.proofs.Recutting.{stands-upright, stands-level}
 use Rattle.mesh.proofs.replay.may_be_drawn.Statement.{statement}

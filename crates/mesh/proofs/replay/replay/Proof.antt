@@ -1,5 +1,5 @@
 -- `mesh::replay::replay` meets its contract. The invariant: the map of the first `i` splits is in hand, and the splits that are left decide.
-use Prim.Native.Nat.{ℕ, _-_, _≤_, _<_}
+use Prim.Native.Nat.{ℕ, _-_}
 use native.Mathlib.Omega.{arith}
 use borrow.Author.Needs.{needs}
 use borrow.Author.Tests.{not-true, not-false}
@@ -7,13 +7,10 @@ use mathlib.Core.Path.{_≡_, refl, sym, ap, _∙_}
 use mathlib.Core.Bool.{true, false, _&&_, not}
 use mathlib.Core.List.{[], _∷_, _++_}
 use lib.ListN.{length, length-map, length-replicate, getD, take}
-use Rattle.mesh.specs.Lines.{upright, level, Mesh, mesh, allowedSide, inRange, shares, ended}
+use Rattle.mesh.specs.Lines.{upright, level, mesh, inRange, shares, ended}
 use Rattle.mesh.specs.Blends.{live}
-use Rattle.mesh.specs.Sound.{full, blendsOf}
 use Rattle.mesh.specs.Bytes.{bytesMesh}
 use Rattle.mesh.specs.Replay.{accepts, replayed}
-use Rattle.mesh.specs.declared.Split.{Split}
-use Rattle.mesh.specs.declared.Lines.{Lines}
 use Rattle.mesh.specs.declared.Refined.{Refined}
 use Rattle.mesh.specs.declared.Replayed.{Replayed}
 use Rattle.mesh.proofs.Tests.{failed, passed}

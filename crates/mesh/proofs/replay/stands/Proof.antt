@@ -1,7 +1,6 @@
 -- `mesh::replay::stands` meets its contract: one test behind the other.
 use native.Mathlib.Omega.{arith}
-use borrow.Author.Needs.{needs}
-use mathlib.Core.Path.{_≡_, sym, _∙_}
+use mathlib.Core.Path.{sym, _∙_}
 use Rattle.mesh.proofs.Tests.{failed, passed}
 use Rattle.mesh.proofs.replay.stands.Statement.{statement}
 use Rattle.mesh.proofs.replay.stands.Tie as tie
