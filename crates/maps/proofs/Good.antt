@@ -23,7 +23,7 @@ use Rattle.maps.specs.Record.{noSplit, isNoSplit, recordOf, bare, plain,
 use Rattle.maps.specs.Calls.{setPlain}
 use Rattle.maps.specs.Inner.{linesOf, InHand}
 use Rattle.maps.proofs.InHand.{hand-sides, hand-fresh, exact-says}
-use Rattle.maps.proofs.Replay.{isZero, freshLines, good-passes, passes-good}
+use Rattle.maps.proofs.Replay.{start, isZero, good-passes, passes-good}
 
 -- Lists padded to a length with one entry that a test knows:
 module _ {ℓ} {A : Type ℓ} (test : A → Bool) (d : A) where
@@ -63,10 +63,6 @@ all-join test [] ys p q = q
 all-join test (x ∷ xs) ys p q =
     let a = and-both (test x) (all test xs) p in and-of _ _ (a .0) (all-join test xs ys (a .1) q)
 
--- lines without splits, from which a record is replayed
-abbrev pub start : ℕ → ℕ → Plain
-start w h = record { w = w; h = h; splits = []; values = [] }
-
 abbrev pub withLines : Plain → List Split → Plain
 withLines P ss = record { w = P .w; h = P .h; splits = P .splits ++ ss; values = P .values }
 
@@ -94,7 +90,7 @@ pub record Replays (P : Plain) : Type 0 where
   pub replays : accepted (start (P .w) (P .h)) (P .splits) ≡ true
 
 module _ {P : Plain} (r : Replays P) where
-  fresh : InHand (freshLines (P .w) (P .h)) (table (firstFour (P .w) (P .h)))
+  fresh : InHand (record { w = P .w; h = P .h; count = 0; splits = replicate 60 noSplit }) (table (firstFour (P .w) (P .h)))
   fresh = hand-fresh (P .w) (P .h) (r .across) (r .up)
 
   pub replays-stands : Standing P

@@ -8,7 +8,7 @@ use mathlib.Core.Bool.{Bool, true, false, cond, _&&_, not}
 use mathlib.Core.List.{List, [], _∷_, _++_, List·Memᴰ·append-cases, List·Memᴰ·eq-of-singleton}
 use borrow.Author.Tests.{leb-true, leb-false, le-leb, ne-eqb, not-false}
 use lib.Dec.{leb, eqb}
-use lib.ListN.{length, replicate, length-set, length-append}
+use lib.ListN.{length, replicate, length-append}
 use lib.Seq.{take-suc-set, length-take-le}
 use Rattle.mesh.specs.declared.Split.{Split}
 use Rattle.mesh.specs.declared.Lines.{Lines}
@@ -18,7 +18,7 @@ use Rattle.mesh.specs.Range.{all, any}
 use Rattle.mesh.specs.Lines.{mesh, splitsOf, allowed, allowedSide, inRange, shares, ended}
 use Rattle.mesh.specs.Lines as lines
 use Rattle.mesh.specs.Blends.{isCut, live, firstFour}
-use Rattle.mesh.specs.Sound.{sound, table, proper, blendsOf, full, fitted, refined, someCut}
+use Rattle.mesh.specs.Sound.{table, proper, blendsOf, full, fitted, refined, someCut}
 use Rattle.mesh.proofs.Tests.{and-both, and-of, all-at, all-of}
 use Rattle.mesh.proofs.Drawing.{Allowed, allowed-says}
 pub use Rattle.mesh.proofs.Refining.{table-blends, table-count}
@@ -45,9 +45,6 @@ module _ (L : Lines) (room : L .count < 60) (places : length (L .splits) ≡ 60)
   pub hand-splits : splitsOf (withSplit L s) ≡ splitsOf L ++ s ∷ []
   hand-splits =
       let lt : L .count < length (L .splits) = omega arith in rw (add-one, take-suc-set (L .splits) (L .count) s lt)
-
-  pub hand-held : held (withSplit L s) ≡ withLine (held L) s
-  hand-held = ap (λ (l : List Split). record { w = L .w; h = L .h; splits = l; values = [] }) hand-splits
 
   pub hand-mesh : lines.meshOf (withSplit L s) ≡ meshOf (withLine (held L) s)
   hand-mesh = ap (mesh (L .w) (L .h)) hand-splits
@@ -163,22 +160,7 @@ module _ {L : Lines} {t : Table} (hand : InHand L t) (s : Split) (fits : inRange
     pub next-table : r .fits ≡ true → r .table ≡ table (blends (withLine (held L) s))
     next-table f = fits-held _ r is-next f .is-table
 
--- an accepted split leaves lines whose live blends are in hand;
-pub hand-next : {L : Lines} {t : Table} → InHand L t → (s : Split) → exactNumber (held L) s ≡ 0 →
-    InHand (withSplit L s) (table (blends (withLine (held L) s)))
-hand-next {L} hand s e =
-    let r = exact-says (held L) s e in
-    let g = r .0 in
-    let room : L .count < 60 = omega (arith, hand-length hand) in
-    let same = hand-splits L room (hand .places) s in
-    record {
-      allowed? = allowed-more L room (hand .places) s (hand .allowed?) (g .fits);
-      places = length-set (L .splits) (L .count) s ∙ hand .places;
-      is-sound = rw same (r .1);
-      is-table = rw same;
-    }
-
--- and so are those of a fresh map.
+-- The live blends of a fresh map are in hand.
 pub hand-fresh : (w h : ℕ) → allowedSide w ≡ true → allowedSide h ≡ true →
     InHand (record { w = w; h = h; count = 0; splits = replicate 60 noSplit }) (table (firstFour w h))
 unfolding allowed

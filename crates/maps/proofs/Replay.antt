@@ -1,33 +1,28 @@
 -- A record replayed: what the splits and places that are left say of the whole.
 use Prim.Native.Nat.{ℕ, _+_, _≤_, _<_}
-use native.Mathlib.Omega.{arith}
 use native.Mathlib.Numerals.{add-one}
 use mathlib.Core.Path.{_≡_, refl, sym, ap, _∙_}
 use mathlib.Core.Logic.{⊎-elim}
-use mathlib.Core.Bool.{Bool, true, false, _&&_}
-use mathlib.Core.List.{List, []}
-use borrow.Author.Tests.{leb-true, le-leb, eq-eqb, ne-eqb}
-use lib.Dec.{leb, eqb}
-use lib.ListN.{length, getD, take, drop, replicate, drop-of-length-le}
-use lib.Seq.{drop-cons, take-suc}
-use Rattle.mesh.specs.declared.Lines.{Lines}
-use Rattle.mesh.specs.declared.Table.{Table}
-use Rattle.mesh.specs.Range.{all}
-use Rattle.mesh.specs.Lines.{allowedSide}
-use Rattle.mesh.specs.Blends.{firstFour}
-use Rattle.mesh.specs.Sound.{table, answer, liveTable}
-use Rattle.mesh.proofs.Tests.{either, true-not-false, false-of, and-both, and-of, cond-true, cond-false}
-use Rattle.mesh.proofs.Drawing.{left-turn, left-none}
-use Rattle.mesh.proofs.Fresh.{fresh-live, fresh-sound}
+use mathlib.Core.Bool.{Bool, true, false, cond, _&&_, not}
+use mathlib.Core.List.{List, [], _∷_}
+use borrow.Author.Tests.{leb-true, leb-false, le-leb, le-ltb, lt-ltb}
+use lib.Dec.{leb, ltb, eqb}
+use lib.ListN.{length, getD, take, drop, drop-of-length-le}
+use lib.Seq.{drop-cons}
+use Rattle.mesh.specs.declared.Split.{Split}
+use Rattle.mesh.specs.declared.Replayed.{Replayed}
+use Rattle.mesh.specs.Range.{all, any}
+use Rattle.mesh.specs.Lines.{allowedSide, inRange, shares, ended}
+use Rattle.mesh.specs.Blends.{isCut}
+use Rattle.mesh.specs.Sound.{table}
+use Rattle.mesh.specs.Replay.{accepts, allAccepted, replayed}
+use Rattle.mesh.proofs.Tests.{either, true-not-false, false-of, and-both, cond-true, cond-false}
 use Rattle.maps.specs.declared.Map.{Map}
 use Rattle.maps.specs.declared.record.Opened.{Opened}
-use Rattle.maps.specs.declared.splits.Step.{Step}
-use Rattle.maps.specs.Plain.{Plain, blends}
-use Rattle.maps.specs.Splits.{exactNumber, withLine}
-use Rattle.maps.specs.Record.{noSplit, isNoSplit, bare, accepted, good}
-use Rattle.maps.specs.Inner.{held, withSplit, InHand, stepped}
-use Rattle.maps.specs.Record.{opened}
-use Rattle.maps.proofs.InHand.{hand-held, hand-sides, hand-next, hand-fresh}
+use Rattle.maps.specs.Plain.{Plain, meshOf, blends}
+use Rattle.maps.specs.Splits.{given, exactNumber, withLine, soundWith}
+use Rattle.maps.specs.Record.{isNoSplit, bare, accepted, good, opened}
+use Rattle.maps.specs.Inner.{linesOf}
 
 -- a test of the entries from a place on, as a loop takes them
 module _ {ℓ} {A : Type ℓ} (test : A → Bool) (xs : List A) (i : ℕ) where
@@ -40,19 +35,16 @@ module _ {ℓ} {A : Type ℓ} (test : A → Bool) (xs : List A) (i : ℕ) where
 abbrev pub isZero : ℕ → Bool
 isZero v = eqb v 0
 
--- the lines of a map's first i splits
-abbrev pub upTo : Map → ℕ → Plain
-upTo m i = record { w = m .w; h = m .h; splits = take i (m .splits); values = [] }
-
-abbrev pub freshLines : ℕ → ℕ → Lines
-freshLines w h = record { w = w; h = h; count = 0; splits = replicate 60 noSplit }
+-- lines without splits, from which a record is replayed
+abbrev pub start : ℕ → ℕ → Plain
+start w h = record { w = w; h = h; splits = []; values = [] }
 
 -- the tests of a good record, one by one
 pub record Passes (m : Map) : Type 0 where
   pub across : allowedSide (m .w) ≡ true
   pub up : allowedSide (m .h) ≡ true
   pub few : m .count ≤ 60
-  pub replays : accepted (upTo m 0) (take (m .count) (m .splits)) ≡ true
+  pub replays : accepted (start (m .w) (m .h)) (take (m .count) (m .splits)) ≡ true
   pub no-splits : all isNoSplit (drop (m .count) (m .splits)) ≡ true
   pub no-values : all isZero (drop (length (blends (bare m))) (m .values)) ≡ true
 
@@ -62,7 +54,7 @@ module _ (m : Map) where
   good-passes e =
       let a = and-both _ (all isZero (drop (length (blends (bare m))) (m .values))) e in
       let b = and-both _ (all isNoSplit (drop (m .count) (m .splits))) (a .0) in
-      let c = and-both _ (accepted (upTo m 0) (take (m .count) (m .splits))) (b .0) in
+      let c = and-both _ (accepted (start (m .w) (m .h)) (take (m .count) (m .splits))) (b .0) in
       let d = and-both _ (leb (m .count) 60) (c .0) in
       let f = and-both (allowedSide (m .w)) (allowedSide (m .h)) (d .0) in
       record {
@@ -94,83 +86,71 @@ module _ (m : Map) where
   pub opened-table : good m ≡ true → opened m .table ≡ table (blends (bare m))
   opened-table e = ap (λ (o : Opened). o .table) (is-opened (good-passes e))
 
--- the blends of a fresh map, cut anew, are the first four
-pub live-fresh : (w h : ℕ) → allowedSide w ≡ true → allowedSide h ≡ true →
-    liveTable (freshLines w h) ≡ record { sound = true; table = table (firstFour w h) }
-unfolding liveTable answer
-live-fresh w h a b =
-    let hand = hand-fresh w h a b in
-    let s = hand-sides hand in
-    cond-true _ _ _ (hand .allowed?) ∙
-    rw (fresh-live w h (s .across .0) (s .up .0) (s .up .1))
-    (cond-true _ _ _ (and-of _ _ (fresh-sound w h (s .across .0) (s .up .0)) refl))
+-- An exact split is accepted where its number is 0,
+first-number : (a b c d f g : Bool) →
+    let n : ℕ = cond (not a) 3 (cond b 4 (cond c 5 (cond (not d) 6 (cond (not f) 7 0)))) in
+    eqb (cond (eqb n 0) (cond g 0 8) n) 0 ≡ (a && not b && not c && d && f && g)
+first-number false b c d f g = refl
+first-number true true c d f g = refl
+first-number true false true d f g = refl
+first-number true false false false f g = refl
+first-number true false false true false g = refl
+first-number true false false true true false = refl
+first-number true false false true true true = refl
 
--- Part of the way through a record: the lines of its first i splits are in hand, and the splits that are left decide.
-pub record Replayed (m : Map) (i : ℕ) (L : Lines) (t : Table) : Type 0 where
-  pub hand : InHand L t
-  pub within : i ≤ m .count
-  pub few : m .count ≤ 60
-  pub places : length (m .splits) ≡ 60
-  pub counted : L .count ≡ i
-  pub holds : held L ≡ upTo m i
-  pub decides :
-      accepted (upTo m 0) (take (m .count) (m .splits)) ≡ accepted (held L) (drop i (take (m .count) (m .splits)))
+exact-accepts : (P : Plain) (s : Split) → eqb (exactNumber P s) 0 ≡ accepts (P .w) (P .h) (P .splits) s
+unfolding exactNumber given accepts
+exact-accepts P s =
+    first-number (inRange (P .w) (P .h) s) (leb 60 (length (P .splits))) (shares (meshOf P) s) (ended (meshOf P) s)
+    (any (isCut (meshOf (withLine P s))) (blends P)) (soundWith P s) ∙ rw (room (length (P .splits)))
+  where
+    room : (n : ℕ) → not (leb 60 n) ≡ ltb n 60
+    room n =
+        ⊎-elim (λ e. ap not e ∙ sym (le-ltb n 60 (leb-true 60 n e))) (λ e. ap not e ∙ sym (lt-ltb n 60 (leb-false 60 n e)))
+        (either (leb 60 n))
 
-pub replayed-none : (m : Map) → allowedSide (m .w) ≡ true → allowedSide (m .h) ≡ true → m .count ≤ 60 → length (m .splits) ≡ 60 →
-    Replayed m 0 (freshLines (m .w) (m .h)) (table (firstFour (m .w) (m .h)))
-replayed-none m a b few places =
-    record {
-      hand = hand-fresh (m .w) (m .h) a b;
-      within = omega arith;
-      few = few;
-      places = places;
-      counted = refl;
-      holds = refl;
-      decides = refl;
-    }
+-- so splits taken in order are.
+all-accepted : (P : Plain) (rest : List Split) → accepted P rest ≡ allAccepted (P .w) (P .h) (P .splits) rest
+unfolding accepted allAccepted
+all-accepted P [] = refl
+all-accepted P (s ∷ rest) = rw (exact-accepts P s, all-accepted (withLine P s) rest)
 
-module _ {m : Map} {i : ℕ} {L : Lines} {t : Table} (r : Replayed m i L t) where
-  -- the number of the next split, and those after it, decide
-  turn : i < m .count → let s = getD (m .splits) i noSplit in
-      accepted (upTo m 0) (take (m .count) (m .splits)) ≡
-      (eqb (exactNumber (held L) s) 0 && accepted (withLine (held L) s) (drop (i + 1) (take (m .count) (m .splits))))
-  unfolding accepted
-  turn lt = r .decides ∙ rw (left-turn (m .splits) (m .count) i (omega arith) noSplit lt)
+-- What it says that the lines of a record were replayed.
+module _ (m : Map) {r : Replayed} (e : r ≡ replayed (linesOf m)) where
+  abbrev splits : List Split
+  splits = take (m .count) (m .splits)
 
-  module _ (lt : i < m .count) (step : Step) (is-step : step ≡ stepped L t (getD (m .splits) i noSplit)) where
-    number : step .number ≡ exactNumber (held L) (getD (m .splits) i noSplit)
-    unfolding stepped
-    number = ap (λ (x : Step). x .number) is-step
+  abbrev tests : Bool → Bool
+  tests b = allowedSide (m .w) && allowedSide (m .h) && leb (m .count) 60 && b
 
-    -- a refused split: the record is not good
-    pub replayed-stop : (step .number ≡ 0 → ⊥) → Passes m → ⊥
-    replayed-stop ne p = true-not-false _ (p .replays) (turn lt ∙ rw (ne-eqb _ _ (λ e. ne (number ∙ e))))
+  by-lines : r .good ≡ tests (allAccepted (m .w) (m .h) [] splits)
+  unfolding replayed
+  by-lines =
+      ap (λ (x : Replayed). x .good) e ∙ ⊎-elim (λ q. rw q) (λ q. rw q) (either (tests (allAccepted (m .w) (m .h) [] splits)))
 
-    -- an accepted one: so far, one split more
-    pub replayed-more : step .number ≡ 0 → (next : Lines) → next ≡ withSplit L (getD (m .splits) i noSplit) →
-        Replayed m (i + 1) next (step .table)
-    unfolding stepped
-    replayed-more accept next is-next =
-        let s = getD (m .splits) i noSplit in
-        let e : exactNumber (held L) s ≡ 0 = sym number ∙ accept in
-        let room : L .count < 60 = omega arith in
-        let there : i < length (m .splits) = omega arith in
-        let more = hand-held L room (r .hand .places) s in
-        rw (is-next, is-step, eq-eqb _ _ e)
-        (record {
-          hand = hand-next (r .hand) s e;
-          within = omega arith;
-          few = r .few;
-          places = r .places;
-          counted = omega arith;
-          holds = more ∙ ap (λ (P : Plain). withLine P s) (r .holds) ∙ rw (add-one, take-suc (m .splits) i noSplit);
-          decides = turn lt ∙ rw (eq-eqb _ _ e, more);
-        })
+  by-record : r .good ≡ tests (accepted (start (m .w) (m .h)) splits)
+  by-record = by-lines ∙ ap tests (sym (all-accepted (start (m .w) (m .h)) splits))
 
-  pub replayed-done : m .count ≤ i → (t ≡ table (blends (bare m))) × (accepted (upTo m 0) (take (m .count) (m .splits)) ≡ true)
-  unfolding accepted
-  replayed-done done =
-      let all-of-it : i ≡ m .count = omega arith in (
-        r .hand .is-table ∙ ap (λ (P : Plain). table (blends P)) (r .holds) ∙ rw all-of-it,
-        r .decides ∙ rw (left-none (m .splits) (m .count) i (omega arith) done),
-      )
+  pub replay-fails : r .good ≡ false → Passes m → ⊥
+  replay-fails f p =
+      true-not-false (tests (accepted (start (m .w) (m .h)) splits)) (rw (p .across, p .up, le-leb (m .count) 60 (p .few), p .replays)) (sym by-record ∙ f)
+
+  module _ (f : r .good ≡ true) where
+    pub replay-table : r .table ≡ table (blends (bare m))
+    unfolding replayed
+    replay-table = ap (λ (x : Replayed). x .table) (e ∙ cond-true _ _ _ (sym by-lines ∙ f))
+
+    pub replay-passes : all isNoSplit (drop (m .count) (m .splits)) ≡ true →
+        all isZero (drop (length (blends (bare m))) (m .values)) ≡ true → Passes m
+    replay-passes no-splits no-values =
+        let a = and-both (allowedSide (m .w) && allowedSide (m .h) && leb (m .count) 60) _ (sym by-record ∙ f) in
+        let b = and-both (allowedSide (m .w) && allowedSide (m .h)) (leb (m .count) 60) (a .0) in
+        let c = and-both (allowedSide (m .w)) (allowedSide (m .h)) (b .0) in
+        record {
+          across = c .0;
+          up = c .1;
+          few = leb-true (m .count) 60 (b .1);
+          replays = a .1;
+          no-splits = no-splits;
+          no-values = no-values;
+        }

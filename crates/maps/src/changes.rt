@@ -4,12 +4,12 @@ use crate::Changed;
 use crate::Map;
 use crate::WithTable;
 use crate::carry::carried_values;
+use crate::record::lines_of;
 use crate::record::open;
 use crate::splits::exact_step;
 use crate::splits::given_number;
 use crate::splits::longer_line;
 use crate::values::place_of;
-use mesh::Lines;
 use mesh::Split;
 use mesh::Table;
 ghost use mathlib.Core.Path.{_≡_};
@@ -19,20 +19,7 @@ ghost use Rattle.maps.specs.Record.{good, plain, recordOf};
 ghost use Rattle.maps.specs.Splits.{drawn, soundWith};
 ghost use Rattle.maps.specs.Plain.{blends};
 ghost use Rattle.maps.specs.Calls.{setValue, exactSplit, lengthenedSplit, withTable, setIn};
-ghost use Rattle.maps.specs.Inner.{linesOf};
 ghost use Rattle.mesh.specs.Sound.{table};
-
-fn lines_of(map: Map) -> Lines
-    ensures { λ r. ⌜ r ≡ linesOf map ⌝ }
-{
-    let splits = map.splits;
-    Lines {
-        w: map.w,
-        h: map.h,
-        count: map.count,
-        splits: splits,
-    }
-}
 
 // The map with a line drawn that leaves it sound.
 fn with_line(map: Map, old: Table, s: Split, new: Table) -> Map

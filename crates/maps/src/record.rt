@@ -1,22 +1,19 @@
 // The record of a map: its splits replayed in order as exact splits. Every call on a map starts here, once.
 use crate::Map;
-use crate::allowed_side;
-use crate::splits::exact_step;
-use crate::splits::with_split;
 use mesh::Blend;
 use mesh::Lines;
 use mesh::Split;
 use mesh::Table;
 use mesh::Triple;
-use mesh::blends::live;
+use mesh::replay::replay;
 ghost use mathlib.Core.Path.{_≡_};
 ghost use mathlib.Core.List.{[]};
 ghost use lib.Dec.{eqb};
 ghost use Rattle.mesh.specs.Sound.{table};
-ghost use lib.ListN.{drop, replicate};
+ghost use lib.ListN.{drop};
 ghost use Rattle.mesh.specs.Range.{all};
-ghost use Rattle.maps.specs.Record.{noSplit, isNoSplit};
-ghost use Rattle.maps.specs.Record.{opened};
+ghost use Rattle.maps.specs.Record.{isNoSplit, opened};
+ghost use Rattle.maps.specs.Inner.{linesOf};
 
 // Whether a record is good, and then the table of its live blends.
 pub struct Opened {
@@ -84,21 +81,15 @@ fn no_table() -> Table
     }
 }
 
-// The lines of a fresh map.
-fn no_lines(w: usize, h: usize) -> Lines
-    ensures { λ r. ⌜ r ≡ record { w = w; h = h; count = 0; splits = replicate 60 noSplit } ⌝ }
+pub(crate) fn lines_of(map: Map) -> Lines
+    ensures { λ r. ⌜ r ≡ linesOf map ⌝ }
 {
-    let none = Split {
-        direction: 0,
-        position: 0,
-        from: 0,
-        to: 0,
-    };
+    let splits = map.splits;
     Lines {
-        w: w,
-        h: h,
-        count: 0,
-        splits: [none; 60],
+        w: map.w,
+        h: map.h,
+        count: map.count,
+        splits: splits,
     }
 }
 
@@ -110,34 +101,17 @@ pub fn open(map: Map) -> Opened
         good: false,
         table: no_table(),
     };
-    if !allowed_side(map.w) {
+    let found = replay(lines_of(map));
+    if !found.good {
         return refused;
     }
-    if !allowed_side(map.h) {
+    let splits = map.splits;
+    if !no_splits_from(splits, map.count) {
         return refused;
     }
-    let count = map.count;
-    if 60 < count {
-        return refused;
-    }
-    let mut lines = no_lines(map.w, map.h);
-    let first = live(lines);
-    let mut table = first.table;
-    let mut i = 0;
-    while i < count {
-        let s = map.splits[i];
-        let step = exact_step(lines, table, s);
-        if step.number != 0 {
-            return refused;
-        }
-        lines = with_split(lines, s);
-        table = step.table;
-        i += 1;
-    }
-    if !no_splits_from(map.splits, count) {
-        return refused;
-    }
-    if !no_values_from(map.values, table.count) {
+    let table = found.table;
+    let values = map.values;
+    if !no_values_from(values, table.count) {
         return refused;
     }
     Opened {

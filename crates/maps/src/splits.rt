@@ -29,7 +29,7 @@ pub struct Found {
 }
 
 // The lines with one split more.
-pub(crate) fn with_split(lines: Lines, s: Split) -> Lines
+fn with_split(lines: Lines, s: Split) -> Lines
     requires { ⌜ lines .count < 60 ⌝ }
     ensures { λ r. ⌜ r ≡ withSplit lines s ⌝ }
 {

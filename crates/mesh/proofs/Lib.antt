@@ -25,3 +25,5 @@ pub mod Reading
 pub mod Refining
 pub mod Fitted
 pub mod SingleSteps
+pub mod Recutting
+pub mod Replaying

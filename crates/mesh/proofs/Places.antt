@@ -22,6 +22,7 @@ pub use Rattle.mesh.proofs.Cuts.{proper-facts, proper-of}
 use Rattle.mesh.proofs.Cuts.{same-blend, blend-same}
 use Rattle.mesh.proofs.Tables.{Anchored, anchored-at, once-mem, mem-once, once-distinct, only-distinct, singleton, nothing, order-mem, mem-order}
 use Rattle.mesh.proofs.Ascending.{OwnAnchors}
+use Rattle.mesh.proofs.Order.{SameMembers}
 
 -- a proper blend's anchor lies in the domain
 pub proper-anchored : (w h : ℕ) (B : Blend) → ProperIn w h B → Anchored w h B
@@ -147,28 +148,48 @@ module _ (w h : ℕ) (hw : w ≤ 128) (hh : h ≤ 128) (T : List ℕ) (ds : List
       (either (eqb (getD T (place B) 0) 0))
 
 -- the blends that were kept, the last one first
-abbrev seen : List Blend → List Blend → List Blend
+abbrev pub seen : List Blend → List Blend → List Blend
 seen ds [] = ds
 seen ds (B ∷ bs) = seen (B ∷ ds) bs
 
-mem-seen : (ds bs : List Blend) (C : Blend) → List·Memᴰ C (seen ds bs) → List·Memᴰ C ds ⊎ List·Memᴰ C bs
+pub mem-seen : (ds bs : List Blend) (C : Blend) → List·Memᴰ C (seen ds bs) → List·Memᴰ C ds ⊎ List·Memᴰ C bs
 mem-seen ds [] C m = inl m
 mem-seen ds (B ∷ bs) C m =
     ⊎-elim (λ k. ⊎-elim (λ q. inr (List·Memᴰ·head q)) (λ j. inl j) (List·Memᴰ·cases-cons k)) (λ k. inr (List·Memᴰ·tail k)) (mem-seen (B ∷ ds) bs C m)
 
-seen-mem : (ds bs : List Blend) (C : Blend) → List·Memᴰ C ds ⊎ List·Memᴰ C bs → List·Memᴰ C (seen ds bs)
+pub seen-mem : (ds bs : List Blend) (C : Blend) → List·Memᴰ C ds ⊎ List·Memᴰ C bs → List·Memᴰ C (seen ds bs)
 seen-mem ds [] C (inl m) = m
 seen-mem ds [] C (inr m) = absurd (List·Memᴰ·not-nil m)
 seen-mem ds (B ∷ bs) C (inl m) = seen-mem (B ∷ ds) bs C (inl (List·Memᴰ·tail m))
 seen-mem ds (B ∷ bs) C (inr m) =
     ⊎-elim (λ q. seen-mem (B ∷ ds) bs C (inl (List·Memᴰ·head q))) (λ k. seen-mem (B ∷ ds) bs C (inr k)) (List·Memᴰ·cases-cons m)
 
-keep-seen : (w h : ℕ) → w ≤ 128 → h ≤ 128 → (T : List ℕ) (ds bs : List Blend) → Kept w h T ds →
+pub keep-seen : (w h : ℕ) → w ≤ 128 → h ≤ 128 → (T : List ℕ) (ds bs : List Blend) → Kept w h T ds →
     ((C : Blend) → List·Memᴰ C bs → ProperIn w h C) → Kept w h (keepAll T bs) (seen ds bs)
 unfolding keepAll
 keep-seen w h hw hh T ds [] K p = K
 keep-seen w h hw hh T ds (B ∷ bs) K p =
     keep-seen w h hw hh (keep T B) (B ∷ ds) bs (keep-one w h hw hh T ds K B (p B (List·Memᴰ·head refl))) (λ C m. p C (List·Memᴰ·tail m))
+
+-- What the places say is the same of any list with the same members,
+pub kept-same : {w h : ℕ} {T : List ℕ} {ds es : List Blend} → SameMembers ds es → Kept w h T ds → Kept w h T es
+kept-same same K =
+    record {
+      square = K .square;
+      good = λ B m. K .good B (same B .1 m);
+      found = λ z B m. K .found z B (same B .1 m);
+      from = λ z m n lo hi ne. let r = K .from z m n lo hi ne in (r .0, same (r .0) .0 (r .1), r .2, r .3);
+      met = λ ne.
+          let r = K .met ne in (r .0, r .1, same (r .0) .0 (r .2), same (r .1) .0 (r .3), r .4, r .5, r .6);
+    }
+
+-- so where nothing was kept before, they say it of the list that was.
+pub keep-list : (w h : ℕ) → w ≤ 128 → h ≤ 128 → (T : List ℕ) → Kept w h T [] → (bs : List Blend) →
+    ((C : Blend) → List·Memᴰ C bs → ProperIn w h C) → Kept w h (keepAll T bs) bs
+keep-list w h hw hh T K bs p =
+    kept-same
+    (λ C. (λ m. ⊎-elim (λ k. absurd (List·Memᴰ·not-nil k)) (λ k. k) (mem-seen [] bs C m), λ m. seen-mem [] bs C (inr m)))
+    (keep-seen w h hw hh T [] bs K p)
 
 -- no anchor of the list is strictly inside another's support
 pub unnested : (bs : List Blend) → noneNested bs ≡ true → (B C : Blend) → List·Memᴰ B bs → List·Memᴰ C bs → nested B C ≡ false
@@ -212,50 +233,39 @@ own-of bs own =
         let a = anchored-at (C .across .m) (C .up .m) B (b .1) in
         true-not-false (same B C) (blend-same B C (own B C mB mC (a .0) (a .1))) (not-true _ (b .0))
 
-module _ (w h : ℕ) (hw : w ≤ 128) (hh : h ≤ 128) (E : List ℕ) (blank : Kept w h E []) (ls : List Blend)
-    (p : (C : Blend) → List·Memᴰ C ls → ProperIn w h C) where
-  kept-all : Kept w h (keepAll E ls) (seen [] ls)
-  kept-all = keep-seen w h hw hh E [] ls blank p
-
-  of-list : (C : Blend) → List·Memᴰ C (seen [] ls) → List·Memᴰ C ls
-  of-list C m = ⊎-elim (λ k. absurd (List·Memᴰ·not-nil k)) (λ k. k) (mem-seen [] ls C m)
-
-  pub kept-square : Square (keepAll E ls)
-  kept-square = kept-all .square
-
+module _ (w h : ℕ) (hw : w ≤ 128) (hh : h ≤ 128) (T : List ℕ) (ls : List Blend) (K : Kept w h T ls) where
   -- what the table has came from the list, and the other way round
   from-table : (C : Blend) → List·Memᴰ C (inTableOrder w h (once ls)) → List·Memᴰ C ls
   from-table C m = once-mem ls C (order-mem w h (once ls) C m .0)
 
   to-table : (C : Blend) → List·Memᴰ C ls → List·Memᴰ C (inTableOrder w h (once ls))
-  to-table C m = mem-order w h (once ls) C (mem-once ls C m) (proper-anchored w h C (p C m))
+  to-table C m = mem-order w h (once ls) C (mem-once ls C m) (proper-anchored w h C (K .good C m))
 
   -- two different blends met: they have one anchor
-  pub met-clash : (getD (keepAll E ls) 0 0 ≡ 0 → ⊥) → ownAnchors (inTableOrder w h (once ls)) ≡ false
+  pub met-clash : (getD T 0 0 ≡ 0 → ⊥) → ownAnchors (inTableOrder w h (once ls)) ≡ false
   met-clash ne =
-      let r = kept-all .met ne in
+      let r = K .met ne in
       false-of _
       (λ e. r .4
       (own-says (inTableOrder w h (once ls)) e (r .0) (r .1)
-      (to-table (r .0) (of-list (r .0) (r .2))) (to-table (r .1) (of-list (r .1) (r .3))) (r .5) (r .6)))
+      (to-table (r .0) (r .2)) (to-table (r .1) (r .3)) (r .5) (r .6)))
 
   -- while none met, a place that is taken holds a blend of the list, and each blend of the list is at its place
-  held : getD (keepAll E ls) 0 0 ≡ 0 → (m n : ℕ) (C : Blend) → List·Memᴰ C ls → C .across .m ≡ m → C .up .m ≡ n → getD (keepAll E ls) (at m n) 0 ≡ packed C
-  held z m n C k q s = subst (λ (i : ℕ). getD (keepAll E ls) i 0 ≡ packed C) (rw (q, s)) (kept-all .found z C (seen-mem [] ls C (inr k)))
+  held : getD T 0 0 ≡ 0 → (m n : ℕ) (C : Blend) → List·Memᴰ C ls → C .across .m ≡ m → C .up .m ≡ n → getD T (at m n) 0 ≡ packed C
+  held z m n C k q s = subst (λ (i : ℕ). getD T i 0 ≡ packed C) (rw (q, s)) (K .found z C k)
 
-  holder : getD (keepAll E ls) 0 0 ≡ 0 → (m n : ℕ) → 1 ≤ m → n < 131 → (getD (keepAll E ls) (at m n) 0 ≡ 0 → ⊥) →
-      (B : Blend) × List·Memᴰ B ls × (B .across .m ≡ m) × (B .up .m ≡ n) × (unpacked m n (getD (keepAll E ls) (at m n) 0) ≡ B)
+  holder : getD T 0 0 ≡ 0 → (m n : ℕ) → 1 ≤ m → n < 131 → (getD T (at m n) 0 ≡ 0 → ⊥) →
+      (B : Blend) × List·Memᴰ B ls × (B .across .m ≡ m) × (B .up .m ≡ n) × (unpacked m n (getD T (at m n) 0) ≡ B)
   holder z m n lo hi ne =
-      let r = kept-all .from z m n lo hi ne in
-      let k = of-list (r .0) (r .1) in
-      (r .0, k, r .2, r .3, here (r .0) k (r .2) (r .3))
+      let r = K .from z m n lo hi ne in
+      (r .0, r .1, r .2, r .3, here (r .0) (r .1) (r .2) (r .3))
     where
-      here : (B : Blend) → List·Memᴰ B ls → B .across .m ≡ m → B .up .m ≡ n → unpacked m n (getD (keepAll E ls) (at m n) 0) ≡ B
-      here B k q s = cc (unpack-packed w h hw hh B (p B k), held z m n B k q s)
+      here : (B : Blend) → List·Memᴰ B ls → B .across .m ≡ m → B .up .m ≡ n → unpacked m n (getD T (at m n) 0) ≡ B
+      here B k q s = cc (unpack-packed w h hw hh B (K .good B k), held z m n B k q s)
 
   -- so it holds what the table has at that anchor
-  at-place : getD (keepAll E ls) 0 0 ≡ 0 → (m n : ℕ) → 1 ≤ m → n < 131 → kept (keepAll E ls) m n ≡ only (anchored m n) (once ls)
-  at-place z m n lo hi = ⊎-elim free taken (either (eqb (getD (keepAll E ls) (at m n) 0) 0))
+  at-place : getD T 0 0 ≡ 0 → (m n : ℕ) → 1 ≤ m → n < 131 → kept T m n ≡ only (anchored m n) (once ls)
+  at-place z m n lo hi = ⊎-elim free taken (either (eqb (getD T (at m n) 0) 0))
     where
       there : (C : Blend) → List·Memᴰ C (only (anchored m n) (once ls)) → List·Memᴰ C ls × (C .across .m ≡ m) × (C .up .m ≡ n)
       there C k =
@@ -263,34 +273,34 @@ module _ (w h : ℕ) (hw : w ≤ 128) (hh : h ≤ 128) (E : List ℕ) (blank : K
           let a = anchored-at m n C (o .1) in
           (once-mem ls C (o .0), a .0, a .1)
 
-      free : eqb (getD (keepAll E ls) (at m n) 0) 0 ≡ true → kept (keepAll E ls) m n ≡ only (anchored m n) (once ls)
+      free : eqb (getD T (at m n) 0) 0 ≡ true → kept T m n ≡ only (anchored m n) (once ls)
       free e =
           rw e
           (sym (nothing (only (anchored m n) (once ls))
-          (λ C k. let c = there C k in packed-positive C (let u = p C (c .0) .up in omega arith) (sym (held z m n C (c .0) (c .1) (c .2)) ∙ eqb-true _ _ e))))
+          (λ C k. let c = there C k in packed-positive C (let u = K .good C (c .0) .up in omega arith) (sym (held z m n C (c .0) (c .1) (c .2)) ∙ eqb-true _ _ e))))
 
-      taken : eqb (getD (keepAll E ls) (at m n) 0) 0 ≡ false → kept (keepAll E ls) m n ≡ only (anchored m n) (once ls)
+      taken : eqb (getD T (at m n) 0) 0 ≡ false → kept T m n ≡ only (anchored m n) (once ls)
       taken e =
           let r = holder z m n lo hi (eqb-false _ _ e) in
           let equal : (C : Blend) → List·Memᴰ C ls → C .across .m ≡ m → C .up .m ≡ n → C ≡ r .0 =
-          λ C k q s. cc (unpack-packed w h hw hh C (p C k), held z m n C k q s, r .4) in
+          λ C k q s. cc (unpack-packed w h hw hh C (K .good C k), held z m n C k q s, r .4) in
           cond-false _ _ _ e ∙ ap (λ (B : Blend). B ∷ []) (r .4) ∙
           sym (singleton (r .0) (only (anchored m n) (once ls)) (only-distinct (anchored m n) (once ls) (once-distinct ls))
           (λ C k. let c = there C k in equal C (c .0) (c .1) (c .2))
           (mem-only (anchored m n) (once ls) (r .0) (mem-once ls (r .0) (r .1)) (and-of _ _ (eq-eqb (r .0 .across .m) m (r .2)) (eq-eqb (r .0 .up .m) n (r .3)))))
 
   -- none met: walking the places gives the table
-  pub walk-table : getD (keepAll E ls) 0 0 ≡ 0 → walk w h (keepAll E ls) ≡ inTableOrder w h (once ls)
+  pub walk-table : getD T 0 0 ≡ 0 → walk w h T ≡ inTableOrder w h (once ls)
   unfolding walk inTableOrder
   walk-table z =
       each-same 1 (w + 1) _ _ (λ m lo hi. each-same 1 (h + 1) _ _ (λ n lo2 hi2. at-place z m n lo (omega arith)))
 
   -- and each has an anchor of its own
-  pub none-met : getD (keepAll E ls) 0 0 ≡ 0 → ownAnchors (inTableOrder w h (once ls)) ≡ true
+  pub none-met : getD T 0 0 ≡ 0 → ownAnchors (inTableOrder w h (once ls)) ≡ true
   none-met z = own-of (inTableOrder w h (once ls)) own
     where
       own : OwnAnchors (inTableOrder w h (once ls))
       own B C mB mC q r =
           let b = from-table B mB in
           let c = from-table C mC in
-          cc (unpack-packed w h hw hh B (p B b), unpack-packed w h hw hh C (p C c), held z (C .across .m) (C .up .m) B b q r, held z (C .across .m) (C .up .m) C c refl refl)
+          cc (unpack-packed w h hw hh B (K .good B b), unpack-packed w h hw hh C (K .good C c), held z (C .across .m) (C .up .m) B b q r, held z (C .across .m) (C .up .m) C c refl refl)

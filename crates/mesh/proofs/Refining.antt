@@ -20,7 +20,7 @@ use Rattle.mesh.proofs.Tests.{cond-true, cond-false, all-at, all-of, an
 use Rattle.mesh.proofs.Drawing.{Allowed, allowed-says}
 use Rattle.mesh.proofs.Cuts.{proper-facts}
 use Rattle.mesh.proofs.Cutting.{proper-most}
-use Rattle.mesh.proofs.Places.{Kept, nothing-kept, kept-square, met-clash, walk-table, none-met}
+use Rattle.mesh.proofs.Places.{Kept, nothing-kept, keep-list, met-clash, walk-table, none-met}
 use Rattle.mesh.proofs.Live.{leaves-proper, clash-unfit}
 use Rattle.mesh.proofs.Fresh.{first-proper}
 
@@ -102,6 +102,17 @@ drawn-mesh L ups lvs f g = fun-ext (by-direction)
     by-direction upright = fun-ext (λ z. fun-ext (λ k. f upright refl z k))
     by-direction level = fun-ext (λ z. fun-ext (λ k. g level refl z k))
 
+-- Places that hold what is left of some blends: where two met, a table does not hold it; else reading them out gives it in a table.
+module _ (w h : ℕ) (hw : w ≤ 128) (hh : h ≤ 128) (M : Mesh) (bs : List Blend) {P : List ℕ} (K : Kept w h P (leavesOf M bs)) where
+  pub met-fitted : (getD P 0 0 ≡ 0 → ⊥) → refused ≡ fitted (refine w h M bs)
+  unfolding refine
+  met-fitted ne = sym (clash-unfit _ (met-clash w h hw hh P (leavesOf M bs) K ne))
+
+  pub read-fitted : getD P 0 0 ≡ 0 → listed (walk w h P) ≡ fitted (refine w h M bs)
+  unfolding refine fitted listed
+  read-fitted z =
+      ap listed (walk-table w h hw hh P (leavesOf M bs) K z) ∙ sym (rw (none-met w h hw hh P (leavesOf M bs) K z))
+
 -- Places that hold what is left of a table's blends, cut by lines, where there was nothing before. That they were empty is an equation, so
 -- that no proof writes out their zeros.
 pub record Cut (L : Lines) (t : Table) (P : List ℕ) : Type 0 where
@@ -117,34 +128,23 @@ module _ {L : Lines} {t : Table} {P : List ℕ} (c : Cut L t P) where
   h-most : L .h ≤ 128
   h-most = sides (c .ranges) .up .1
 
-  start : Kept (L .w) (L .h) (c .before) []
-  start = subst (λ (X : List ℕ). Kept (L .w) (L .h) X []) (sym (c .blank)) (nothing-kept (L .w) (L .h))
-
-  clear : getD P 0 0 ≡ 0 → getD (keepAll (c .before) (leavesOf (meshOf L) (blendsOf t))) 0 0 ≡ 0
-  clear z = sym (ap (λ (X : List ℕ). getD X 0 0) (c .all-kept)) ∙ z
+  holds : Kept (L .w) (L .h) P (leavesOf (meshOf L) (blendsOf t))
+  holds =
+      subst (λ (X : List ℕ). Kept (L .w) (L .h) X (leavesOf (meshOf L) (blendsOf t))) (sym (c .all-kept))
+      (keep-list (L .w) (L .h) w-most h-most (c .before)
+      (subst (λ (X : List ℕ). Kept (L .w) (L .h) X []) (sym (c .blank)) (nothing-kept (L .w) (L .h)))
+      (leavesOf (meshOf L) (blendsOf t)) (leaves-good (c .ranges)))
 
   -- two blends that met at a place: a table does not hold them
   pub met-refused : (getD P 0 0 ≡ 0 → ⊥) → refused ≡ refined L t
-  unfolding refine
-  met-refused ne =
-      sym (is-refined (c .ranges) ∙ clash-unfit _
-      (met-clash (L .w) (L .h) w-most h-most (c .before) start (leavesOf (meshOf L) (blendsOf t)) (leaves-good (c .ranges))
-      (λ e. ne (ap (λ (X : List ℕ). getD X 0 0) (c .all-kept) ∙ e))))
+  met-refused ne = met-fitted (L .w) (L .h) w-most h-most (meshOf L) (blendsOf t) holds ne ∙ sym (is-refined (c .ranges))
 
   pub places-square : Square P
-  places-square =
-      subst Square (sym (c .all-kept))
-      (kept-square (L .w) (L .h) w-most h-most (c .before) start (leavesOf (meshOf L) (blendsOf t)) (leaves-good (c .ranges)))
+  places-square = holds .square
 
   -- else reading the places out answers
   pub read-refined : getD P 0 0 ≡ 0 → listed (walk (L .w) (L .h) P) ≡ refined L t
-  unfolding refine fitted listed
-  read-refined z =
-      ap (λ (X : List ℕ). listed (walk (L .w) (L .h) X)) (c .all-kept) ∙
-      ap listed
-      (walk-table (L .w) (L .h) w-most h-most (c .before) start (leavesOf (meshOf L) (blendsOf t)) (leaves-good (c .ranges)) (clear z)) ∙
-      sym (is-refined (c .ranges) ∙
-      rw (none-met (L .w) (L .h) w-most h-most (c .before) start (leavesOf (meshOf L) (blendsOf t)) (leaves-good (c .ranges)) (clear z)))
+  read-refined z = read-fitted (L .w) (L .h) w-most h-most (meshOf L) (blendsOf t) holds z ∙ sym (is-refined (c .ranges))
 
 -- four blends at the front of an empty table
 pub four-set : (bs : List Blend) (A B C D : Blend) → bs ≡ table [] .blends →

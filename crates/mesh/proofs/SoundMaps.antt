@@ -9,7 +9,7 @@ use lib.ListN.{length}
 use borrow.Author.Tests.{eqb-true}
 use Rattle.mesh.specs.Range.{only}
 use Rattle.mesh.specs.Lines.{Mesh, Direction}
-use Rattle.mesh.specs.Blends.{live, firstFour, cuts}
+use Rattle.mesh.specs.Blends.{live, leavesOf, firstFour, cuts}
 use Rattle.mesh.specs.Order.{Comes, Uncut, Cutting}
 use Rattle.mesh.specs.Sound.{proper, overSquare, fourEverywhere, noneNested, sound}
 use Rattle.mesh.specs.Weight.{Term, weight, total, value, interpolated, Equal}
@@ -30,12 +30,15 @@ module _ (w h : ℕ) (hw : 1 ≤ w) (hh : 1 ≤ h) (M : Mesh) where
   unfolding live
   live-left C = (refine-left w h M (firstFour w h) (first-proper w h hw hh) C, left-refine w h M (firstFour w h) (first-proper w h hw hh) C)
 
+  pub live-leaves : SameMembers (live w h M) (leavesOf M (firstFour w h))
+  unfolding live
+  live-leaves = refine-leaves w h M (firstFour w h) (first-proper w h hw hh)
+
   -- and every way of cutting to the end, from the first four, ends with them.
   pub any-order-live : (cs : List Blend) → Cutting M (firstFour w h) cs → SameMembers cs (live w h M)
-  unfolding live
   any-order-live cs way C =
       let a = any-order M (firstFour w h) cs (firstFour-rises w h hw hh) way C in
-      let r = refine-leaves w h M (firstFour w h) (first-proper w h hw hh) C in
+      let r = live-leaves C in
       (λ m. r .1 (a .0 m), λ m. a .1 (r .0 m))
 
   pub live-proper : AllProper w h (live w h M)

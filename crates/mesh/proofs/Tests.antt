@@ -3,7 +3,7 @@ use Prim.Native.Nat.{ℕ, zero, suc, _+_, _-_, _≤_, _<_}
 use native.Mathlib.Omega.{arith}
 use mathlib.Core.Path.{_≡_, refl, sym, ap, subst, _∙_}
 use mathlib.Core.Logic.{_⊎_, inl, inr, ⊎-elim}
-use mathlib.Core.Bool.{Bool, true, false, cond, _&&_, _||_, not}
+use mathlib.Core.Bool.{Bool, true, false, cond, _&&_, _||_, not, or-assoc}
 use mathlib.Core.List.{List, [], _∷_, _++_, List·Memᴰ, List·Memᴰ·cases-cons, List·Memᴰ·append-cases, Memᴰ·append-left, Memᴰ·append-right, List·Memᴰ·not-nil}
 use lib.Dec.{leb, ltb}
 use borrow.Author.Tests.{ltb-true, leb-true, eqb-true, eqb-false, not-true, not-false, lt-ltb, le-leb}
@@ -27,6 +27,13 @@ and-of a b p q = rw (p, q)
 pub and-fails : (a b : Bool) → (a && b) ≡ false → (a ≡ false) ⊎ (b ≡ false)
 and-fails true b e = inr e
 and-fails false b e = inl refl
+
+pub and-first : (a b : Bool) → a ≡ false → (a && b) ≡ false
+and-first a b e = rw e
+
+pub and-last : (a b : Bool) → b ≡ false → (a && b) ≡ false
+and-last true b e = e
+and-last false b e = refl
 
 pub or-either : (a b : Bool) → (a || b) ≡ true → (a ≡ true) ⊎ (b ≡ true)
 or-either true b e = inl refl
@@ -146,6 +153,15 @@ module _ {ℓ} {A : Type ℓ} where
   any-of test [] x h e = absurd (List·Memᴰ·not-nil h)
   any-of test (y ∷ ys) x h e =
       ⊎-elim (λ q. or-left (test y) _ (ap test (sym q) ∙ e)) (λ m. or-right (test y) _ (any-of test ys x m e)) (List·Memᴰ·cases-cons h)
+
+  pub any-same : (f g : A → Bool) (xs : List A) → ((x : A) → List·Memᴰ x xs → f x ≡ g x) → any f xs ≡ any g xs
+  any-same f g [] e = refl
+  any-same f g (x ∷ xs) e =
+      rw (e x (List·Memᴰ.List·Memᴰ·head refl), any-same f g xs (λ y m. e y (List·Memᴰ.List·Memᴰ·tail m)))
+
+  pub any-append : (test : A → Bool) (xs ys : List A) → any test (xs ++ ys) ≡ (any test xs || any test ys)
+  any-append test [] ys = refl
+  any-append test (x ∷ xs) ys = rw (any-append test xs ys) (sym (or-assoc (test x) (any test xs) (any test ys)))
 
   -- membership in `only`, `joined` and `each`
   pub only-mem : (test : A → Bool) (xs : List A) (x : A) → List·Memᴰ x (only test xs) → List·Memᴰ x xs × (test x ≡ true)

@@ -5,10 +5,10 @@ use mathlib.Core.Bool.{Bool, true, false, cond, _&&_, _||_, not}
 use mathlib.Core.List.{List, [], _∷_, List·Memᴰ}
 use lib.Dec.{ltb, leb, eqb}
 use lib.ListN.{length, getD, set, replicate}
-use Rattle.mesh.specs.Range.{each}
+use Rattle.mesh.specs.Range.{each, only}
 use Rattle.mesh.specs.Triple.{triple}
 use Rattle.mesh.specs.Lines.{Direction, upright, level, Mesh}
-use Rattle.mesh.specs.Blends.{blend}
+use Rattle.mesh.specs.Blends.{blend, cuts, leavesOf}
 use Rattle.mesh.specs.Sound.{table}
 use Rattle.mesh.specs.declared.Triple.{Triple}
 use Rattle.mesh.specs.declared.Blend.{Blend}
@@ -68,6 +68,15 @@ keep places B =
 unfoldable pub keepAll : List ℕ → List Blend → List ℕ
 keepAll places [] = places
 keepAll places (B ∷ bs) = keepAll (keep places B) bs
+
+-- The places of some blends made free.
+unfoldable pub clearAll : List ℕ → List Blend → List ℕ
+clearAll places [] = places
+clearAll places (B ∷ bs) = clearAll (set places (place B) 0) bs
+
+-- The places of some blends after a line more: those that it cuts are taken out, and then what is left of each is kept.
+unfoldable pub recut : Mesh → Direction → ℕ → List Blend → List ℕ → List ℕ
+recut M d z bs places = keepAll (clearAll places (only (cuts M d z) bs)) (leavesOf M (only (cuts M d z) bs))
 
 abbrev pub empty : List ℕ
 empty = replicate 17161 0

@@ -81,7 +81,7 @@ fn high(side: usize) -> Triple
 }
 
 // The first four blends.
-fn first_four(w: usize, h: usize) -> Table
+pub(crate) fn first_four(w: usize, h: usize) -> Table
     requires { ⌜ (w ≤ 128) × (h ≤ 128) ⌝ }
     ensures { λ r. ⌜ r ≡ table (firstFour w h) ⌝ }
 {

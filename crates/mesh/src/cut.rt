@@ -112,7 +112,7 @@ pub(crate) fn keep_blend(places: &mut [u32], x: Blend)
 }
 
 // Cuts a blend by uprights and hands the halves to the level cuts. `tried` tells that no level cuts the blend.
-fn cut_across(uprights: &[u8], levels: &[u8], x: Blend, tried: bool, places: &mut [u32])
+pub(crate) fn cut_across(uprights: &[u8], levels: &[u8], x: Blend, tried: bool, places: &mut [u32])
     requires { ⌜ Square (now uprights) × Square (now levels) × Square (now places) × Proper x ×
         (tried ≡ true → cutter (bytesMesh (now uprights) (now levels)) level x ≡ 0) ⌝ }
     ensures { λ _. ⌜ ((f : ℕ) → size x ≤ f → now (places .exit) ≡

@@ -8,6 +8,7 @@ pub mod judge;
 pub mod knots;
 pub mod points;
 mod read;
+pub mod replay;
 mod steps;
 
 // One axis of a blend: its three knots, rising.
@@ -54,5 +55,11 @@ pub struct Refined {
 // Whether the blends are those of a sound map, and if so their table; else an empty one.
 pub struct Judged {
     pub sound: bool,
+    pub table: Table,
+}
+
+// Whether the splits of lines are all accepted, and if so the table of the map's live blends; else an empty one.
+pub struct Replayed {
+    pub good: bool,
     pub table: Table,
 }

@@ -69,7 +69,7 @@ pub(crate) fn in_range(w: usize, h: usize, s: Split) -> bool
 }
 
 // Whether a side keeps to its range.
-fn allowed_side(side: usize) -> bool
+pub(crate) fn allowed_side(side: usize) -> bool
     ensures { λ r. ⌜ r ≡ allowedSide side ⌝ }
 {
     if side < 1 {
@@ -127,7 +127,7 @@ fn last_knot(run: usize, s: Split) -> usize
 }
 
 // Draws a split, with its run-out, if it has the direction.
-fn draw_split(s: Split, direction: usize, run: usize, steps: &mut [u8])
+pub(crate) fn draw_split(s: Split, direction: usize, run: usize, steps: &mut [u8])
     requires { ⌜ Square (now steps) × (run ≤ 128) ×
         (s .direction ≡ direction → (s .position < 128) × (s .from < s .to) × (s .to ≤ run)) ⌝ }
     ensures { λ _. ⌜ Square (now (steps .exit)) ×
@@ -143,7 +143,7 @@ fn draw_split(s: Split, direction: usize, run: usize, steps: &mut [u8])
 }
 
 // Draws the fresh map's lines of one direction, over a mesh with none.
-fn draw_fresh(crossed: usize, run: usize, steps: &mut [u8])
+pub(crate) fn draw_fresh(crossed: usize, run: usize, steps: &mut [u8])
     requires { ⌜ (now steps ≡ empty) × (crossed ≤ 128) × (run ≤ 128) ⌝ }
     ensures { λ _. ⌜ Square (now (steps .exit)) ×
         ((d : Direction) (w h : ℕ) → side d w h ≡ crossed → side (other d) w h ≡ run → (z k : ℕ) →
