@@ -9,7 +9,7 @@ use lib.ListN.{length}
 use Rattle.mesh.specs.declared.Table.{Table}
 use Rattle.mesh.specs.Range.{all}
 use Rattle.mesh.specs.Lines.{allowedSide}
-use Rattle.mesh.specs.Sound.{proper, blendsOf}
+use Rattle.mesh.specs.Sound.{proper, blendsOf, withinSides}
 use Rattle.mesh.proofs.Tests.{either, and-both, cond-true, cond-false}
 use Rattle.maps.specs.declared.Map.{Map}
 use Rattle.maps.specs.Record.{plain}
@@ -27,7 +27,7 @@ pub record Fits (m : Map) (t : Table) : Type 0 where
   pub proper? : all (proper (m .w) (m .h)) (blendsOf t) ≡ true
 
 pub fits-all : (m : Map) (t : Table) → fitting m t ≡ true → Fits m t
-unfolding fitting
+unfolding withinSides
 fits-all m t e =
     let a = and-both _ (all (proper (m .w) (m .h)) (blendsOf t)) e in
     let b = and-both _ (leb (t .count) 1024) (a .0) in
@@ -57,7 +57,7 @@ module _ (m : Map) (t : Table) (e : fitting m t ≡ true) (u v : ℕ) (d : (leb 
 -- A good map's own table:
 module _ {m : Map} {t : Table} (g : GoodMap m t) where
   own-fits : not (fitting m t) ≡ false
-  unfolding fitting
+  unfolding withinSides
   own-fits = let p = good-passes m (g .is-good) in rw (p .across, p .up, le-leb _ _ (few g), hand-proper (g .hand))
 
   pub own-place : (i : ℕ) → placeIn m t i ≡ tablePlace m i

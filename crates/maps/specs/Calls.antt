@@ -9,9 +9,9 @@ use Rattle.mesh.specs.declared.Split.{Split}
 use Rattle.mesh.specs.declared.Triple.{Triple}
 use Rattle.mesh.specs.declared.Blend.{Blend}
 use Rattle.mesh.specs.declared.Table.{Table}
-use Rattle.mesh.specs.Range.{all, only}
+use Rattle.mesh.specs.Range.{only}
 use Rattle.mesh.specs.Lines.{allowedSide}
-use Rattle.mesh.specs.Sound.{none, proper, overSquare, blendsOf}
+use Rattle.mesh.specs.Sound.{none, overSquare, blendsOf, withinSides}
 use Rattle.maps.specs.declared.Map.{Map}
 use Rattle.maps.specs.declared.Shape.{Shape}
 use Rattle.maps.specs.declared.Changed.{Changed}
@@ -125,8 +125,8 @@ lengthenedSplit map s =
 
 -- The same answers from a table in hand, which on the table of a good map are the call's own. 2 for a table that is that of no map of these
 -- sides: more blends than places, a blend out of range, or not four over the unit square of the point.
-unfoldable pub fitting : Map → Table → Bool
-fitting m t = allowedSide (m .w) && allowedSide (m .h) && leb (t .count) 1024 && all (proper (m .w) (m .h)) (blendsOf t)
+abbrev pub fitting : Map → Table → Bool
+fitting m t = withinSides (m .w) (m .h) t
 
 abbrev pub overIn : Map → Table → ℕ → ℕ → List Blend
 overIn m t u v = only (overSquare (corner (m .w) u + 1) (corner (m .h) v + 1)) (blendsOf t)

@@ -5,14 +5,13 @@ use crate::Reading;
 use crate::Shape;
 use crate::Weight;
 use crate::Weights;
-use crate::allowed_side;
 use crate::record::open;
-use crate::values::all_proper;
 use crate::values::count_over;
 use crate::values::reading_of;
 use crate::values::shape_of;
 use crate::values::weights_of;
 use mesh::Table;
+use mesh::ranges::within_sides;
 ghost use mathlib.Core.Path.{_≡_};
 ghost use mathlib.Core.Bool.{_&&_};
 ghost use lib.Dec.{leb};
@@ -59,16 +58,7 @@ fn in_domain(w: usize, h: usize, u: usize, v: usize) -> bool
 fn fits_map(map: Map, table: Table) -> bool
     ensures { λ r. ⌜ r ≡ fitting map table ⌝ }
 {
-    if !allowed_side(map.w) {
-        return false;
-    }
-    if !allowed_side(map.h) {
-        return false;
-    }
-    if 1024 < table.count {
-        return false;
-    }
-    all_proper(table, map.w, map.h)
+    within_sides(table, map.w, map.h)
 }
 
 fn no_place(number: usize) -> Placed

@@ -177,40 +177,6 @@ fn added(s: Sum, product: usize, den: usize) -> Sum
     }
 }
 
-// Whether a triple rises within the side.
-fn rises(t: Triple, side: usize) -> bool
-    requires { ⌜ side ≤ 128 ⌝ }
-    ensures { λ r. ⌜ r ≡ rising side t ⌝ }
-{
-    if t.m <= t.l {
-        return false;
-    }
-    if t.r <= t.m {
-        return false;
-    }
-    knots::wide(t.r) <= side + 2
-}
-
-// Whether the table's blends all rise within the sides.
-pub(crate) fn all_proper(table: Table, w: usize, h: usize) -> bool
-    requires { ⌜ (table .count ≤ 1024) × (w ≤ 128) × (h ≤ 128) ⌝ }
-    ensures { λ r. ⌜ r ≡ all (proper w h) (blendsOf table) ⌝ }
-{
-    let count = table.count;
-    let mut i = 0;
-    while i < count {
-        let b = table.blends[i];
-        if !rises(b.across, w) {
-            return false;
-        }
-        if !rises(b.up, h) {
-            return false;
-        }
-        i += 1;
-    }
-    true
-}
-
 // How many of the table's blends lie over the unit square at a whole point.
 pub(crate) fn count_over(table: Table, w: usize, h: usize, u: usize, v: usize) -> usize
     requires { ⌜ (table .count ≤ 1024) × (1 ≤ w) × (w ≤ 128) × (1 ≤ h) × (h ≤ 128) × (u ≤ w) × (v ≤ h) ⌝ }

@@ -6,7 +6,7 @@ use lib.Dec.{leb, eqb}
 use lib.ListN.{length, take, replicate}
 use Rattle.mesh.specs.Range.{every, all, any, only}
 use Rattle.mesh.specs.Triple.{triple, rising, spans, stepsIn, between}
-use Rattle.mesh.specs.Lines.{meshOf, allowed}
+use Rattle.mesh.specs.Lines.{allowedSide, meshOf, allowed}
 use Rattle.mesh.specs.Blends.{blend, same, anchored, isCut, refine, live}
 use Rattle.mesh.specs.declared.Blend.{Blend}
 use Rattle.mesh.specs.declared.Lines.{Lines}
@@ -55,6 +55,10 @@ table bs = record { count = length bs; blends = bs ++ replicate (1024 - length b
 
 abbrev pub blendsOf : Table → List Blend
 blendsOf t = take (t .count) (t .blends)
+
+-- whether a table may hold the blends of a map of these sides: no more of them than it has places, none out of range
+unfoldable pub withinSides : ℕ → ℕ → Table → Bool
+withinSides w h t = allowedSide w && allowedSide h && leb (t .count) 1024 && all (proper w h) (blendsOf t)
 
 -- Whether the areas of a table's blends add up to four times the domain; no where sides or count are out of range.
 -- Of the live blends of a map this says that it is sound: `by-area`.

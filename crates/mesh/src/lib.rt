@@ -7,6 +7,7 @@ mod cut;
 pub mod judge;
 pub mod knots;
 pub mod points;
+pub mod ranges;
 mod read;
 pub mod replay;
 mod steps;

@@ -33,7 +33,9 @@ returns-2 c =
     sym (cond-false _ _ _ (ap not (fitted (c .before .before))) ∙ cond-true _ _ _ (ap not (failed (c .before .in-domain .ensures) (c .if2 .taken))))
 
 count-over-requires : tie.Need-count-over-requires
-count-over-requires c κs = at-point _ _ (fitted (c .before .before)) _ _ (inside c)
+count-over-requires c κs =
+    let a = c .before .before .before .before .args in
+    at-point (a .self) (a .table) (fitted (c .before .before)) _ _ (inside c)
 
 returns-3 : tie.Need-returns-3
 unfolding readingIn
@@ -47,7 +49,8 @@ reading-of-requires : tie.Need-reading-of-requires
 reading-of-requires c κs =
     let e = c .before in
     let i = e .before .before in
-    at-four _ _ (fitted (i .before .before)) _ _ (inside i) (sym (e .before .count-over .ensures) ∙ e .if3 .left)
+    let a = i .before .before .before .before .args in
+    at-four (a .self) (a .table) (fitted (i .before .before)) _ _ (inside i) (sym (e .before .count-over .ensures) ∙ e .if3 .left)
 
 returns-4 : tie.Need-returns-4
 unfolding readingIn

@@ -42,7 +42,9 @@ returns-2 c =
     sym (cond-false _ _ _ (ap not (fitted (d .before))) ∙ cond-true _ _ _ (ap not (failed (d .in-domain .ensures) (c .before .if2 .taken))))
 
 count-over-requires : tie.Need-count-over-requires
-count-over-requires c κs = at-point _ _ (fitted (c .before .before)) _ _ (inside c)
+count-over-requires c κs =
+    let a = c .before .before .before .before .args in
+    at-point (a .self) (a .table) (fitted (c .before .before)) _ _ (inside c)
 
 no-weights-requires-3 : tie.Need-no-weights-requires-3
 no-weights-requires-3 c κs = search needs
@@ -59,7 +61,8 @@ returns-3 c =
 weights-of-requires : tie.Need-weights-of-requires
 weights-of-requires c κs =
     let i = c .before .before in
-    at-four _ _ (fitted (i .before .before)) _ _ (inside i) (sym (c .before .count-over .ensures) ∙ c .if3 .left)
+    let a = i .before .before .before .before .args in
+    at-four (a .self) (a .table) (fitted (i .before .before)) _ _ (inside i) (sym (c .before .count-over .ensures) ∙ c .if3 .left)
 
 returns-4 : tie.Need-returns-4
 unfolding weightsIn
