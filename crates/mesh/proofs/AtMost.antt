@@ -12,7 +12,7 @@ use lib.ListN.{length, length-map}
 use borrow.Author.Tests.{eqb-true, eq-eqb, ne-eqb, lt-ltb}
 use Rattle.mesh.specs.Range.{any, only}
 use Rattle.mesh.specs.Lines.{Direction, upright, level, mesh, freshMesh, draws, start, end, number, other, side}
-use Rattle.mesh.specs.Blends.{live}
+use Rattle.mesh.specs.Blends.{crossed, live}
 use Rattle.mesh.specs.Sound.{sound}
 use Rattle.mesh.specs.declared.Split.{Split}
 use Rattle.mesh.specs.declared.Triple.{Triple}
@@ -21,7 +21,7 @@ use Rattle.mesh.proofs.Tests.{either, and-both, and-of, or-either, or-l
 use Rattle.mesh.proofs.Triples.{Knots, First, is-low, is-high, AtFresh}
 use Rattle.mesh.proofs.Order.{OnLine, comes-on-lines}
 use Rattle.mesh.proofs.Cuts.{proper-facts}
-use Rattle.mesh.proofs.Fresh.{first-four, firstFour-rises, fresh-positions}
+use Rattle.mesh.proofs.Fresh.{first-four, firstFour-rises, first-crossed, fresh-positions}
 use Rattle.mesh.proofs.Few.{few, square-of-sum, mem-map}
 use Rattle.mesh.proofs.SoundMaps.{live-left, live-proper, live-distinct, own-anchors}
 
@@ -86,6 +86,14 @@ on-position w h splits d z lo hi on =
     (mem-map (λ s. s .position + 1) (of-direction d splits) s (mem-only _ splits s (r .1) (t .0))))))
     (or-either (freshMesh w h d z (on .0)) (any (draws w h d z (on .0)) splits) (on .1))
 
+-- the knots of a live blend stand on lines
+pub live-knots : (w h : ℕ) → 1 ≤ w → 1 ≤ h → (splits : List Split) (d : Direction) (B : Blend) → List·Memᴰ B (live w h (mesh w h splits)) →
+    Knots (OnLine (mesh w h splits) d) (crossed d B)
+live-knots w h hw hh splits d B m =
+    let l = live-left w h hw hh (mesh w h splits) B .0 m in
+    comes-on-lines d (firstFour-rises w h hw hh (l .0) (l .1))
+    (first-on-lines w h splits d (crossed d (l .0)) (first-crossed w h d (l .0) (first-four w h (l .0) (l .1)))) (l .2 .comes)
+
 pub at-most : (w h : ℕ) → 1 ≤ w → 1 ≤ h → h ≤ 128 → (splits : List Split) → length splits ≤ 60 →
     sound w h (live w h (mesh w h splits)) ≡ true → length (live w h (mesh w h splits)) ≤ 1024
 unfolding positions
@@ -101,14 +109,11 @@ at-most w h hw hh h128 splits sixty s =
     on : (B : Blend) → List·Memᴰ B (live w h (mesh w h splits)) →
         List·Memᴰ (B .across .m) (positions w h upright splits) × List·Memᴰ (B .up .m) (positions w h level splits) × (B .up .m < 131)
     on B m =
-        let l = live-left w h hw hh (mesh w h splits) B .0 m in
-        let f = first-four w h (l .0) (l .1) in
-        let rises = firstFour-rises w h hw hh (l .0) (l .1) in
         let p = proper-facts w h B (live-proper w h hw hh (mesh w h splits) B m) in
         let pa = p .across in
         let pu = p .up in
-        let a = comes-on-lines upright rises (first-on-lines w h splits upright (l .0 .across) (f .across)) (l .2 .comes) in
-        let u = comes-on-lines level rises (first-on-lines w h splits level (l .0 .up) (f .up)) (l .2 .comes) in (
+        let a = live-knots w h hw hh splits upright B m in
+        let u = live-knots w h hw hh splits level B m in (
           on-position w h splits upright (B .across .m) (omega arith) (omega arith) (a .m),
           on-position w h splits level (B .up .m) (omega arith) (omega arith) (u .m),
           omega arith,

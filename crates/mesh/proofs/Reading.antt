@@ -1,22 +1,28 @@
 -- Walking the places in table order, and the blends that are read on the way.
-use Prim.Native.Nat.{ℕ, suc, _+_, _-_, _≤_, _<_}
+use Prim.Native.Nat.{ℕ, zero, suc, _+_, _-_, _≤_, _<_}
 use native.Mathlib.Omega.{arith}
 use mathlib.Core.Path.{_≡_, refl, sym, ap, _∙_}
-use mathlib.Core.Bool.{true}
+use mathlib.Core.Logic.{⊎-elim}
+use mathlib.Core.Bool.{true, cond}
 use mathlib.Core.List.{List, [], _∷_, _++_, append-assoc, append-nil}
-use borrow.Author.Tests.{eq-eqb, ne-eqb, lt-leb, le-leb}
-use lib.Dec.{leb}
+use borrow.Author.Tests.{eqb-true, eq-eqb, ne-eqb, lt-leb, le-leb}
+use lib.Dec.{leb, eqb}
 use lib.ListN.{length, getD, set, replicate, length-append}
 use lib.Seq.{set-at}
 use Rattle.mesh.specs.Range.{each}
 use Rattle.mesh.specs.Sound.{none, table}
-use Rattle.mesh.specs.Bytes.{at, kept, unpacked, walk, listed, refused}
+use Rattle.mesh.specs.Bytes.{at, Idle, kept, unpacked, walk, listed, refused}
 use Rattle.mesh.specs.declared.Blend.{Blend}
-use Rattle.mesh.proofs.Tests.{cond-true, each-turn, each-none}
+use Rattle.mesh.proofs.Tests.{either, cond-true, cond-false, each-turn, each-none}
 
 -- a run that a loop takes up to an end
 each-run {ℓ} : {A : Type ℓ} (k e : ℕ) (f : ℕ → List A) → k < e → each k (e - k) f ≡ f k ++ each (k + 1) (e - (k + 1)) f
 each-run k e f h = let less : e - k - 1 ≡ e - (k + 1) = omega arith in each-turn k (e - k) f (omega arith) ∙ rw less
+
+each-empty {ℓ} : {A : Type ℓ} (k n : ℕ) (f : ℕ → List A) → ((i : ℕ) → k ≤ i → i < k + n → f i ≡ []) → each k n f ≡ []
+each-empty k zero f none = refl
+each-empty k (suc n) f none =
+    rw (none k (omega arith) (omega arith), each-empty (k + 1) n f (λ i lo hi. none i (omega arith) (omega arith)))
 
 -- What is left to read where a row of places begins, and within row m.
 module _ (w h : ℕ) (places : List ℕ) where
@@ -38,6 +44,19 @@ module _ (w h : ℕ) (places : List ℕ) where
 
   pub row-ends : (m n : ℕ) → h + 1 < n → placesLeft m n ≡ rowsLeft (m + 1)
   row-ends m n lt = rw (each-none n (h + 2 - n) (kept places m) (omega arith))
+
+  -- a column without a mark holds nothing, so it is left at once
+  pub row-from : (marks : List ℕ) → Idle marks places → w ≤ 128 → h ≤ 128 → (m n : ℕ) → 1 ≤ m → m ≤ w + 1 →
+      n ≡ cond (eqb (getD marks m 0) 0) (h + 2) 1 → (1 ≤ n) × (rowsLeft m ≡ placesLeft m n)
+  row-from marks idle hw hh m n lo le e =
+      ⊎-elim
+      (λ off.
+      let k : n ≡ h + 2 = e ∙ cond-true _ _ _ off in
+      let none : each 1 (h + 2 - 1) (kept places m) ≡ [] =
+      each-empty 1 (h + 2 - 1) _ (λ i _ hi. cond-true _ _ _ (eq-eqb _ _ (idle m i lo (omega arith) (omega arith) (eqb-true _ _ off)))) in
+      (omega arith, row-begins m le ∙ rw none (sym (row-ends m n (omega arith)))))
+      (λ on. let k : n ≡ 1 = e ∙ cond-false _ _ _ on in (omega arith, row-begins m le ∙ rw k))
+      (either (eqb (getD marks m 0) 0))
 
   pub rows-end-left : (m : ℕ) → w + 1 < m → rowsLeft m ≡ []
   rows-end-left m lt = each-none m (w + 2 - m) (λ i. each 1 (h + 2 - 1) (kept places i)) (omega arith)

@@ -12,11 +12,11 @@ use lib.ListN.{length, getD, take, drop, length-append, length-take}
 use lib.Seq.{take-suc}
 use Rattle.mesh.specs.Range.{all, any, every, only}
 use Rattle.mesh.specs.Triple.{inside}
-use Rattle.mesh.specs.Lines.{Direction, upright, level, number, direction, Mesh, draws, allowedSide, inRange, mesh, freshMesh, shares, ended, splitsOf}
+use Rattle.mesh.specs.Lines.{Direction, upright, level, number, direction, Mesh, start, draws, allowedSide, inRange, mesh, freshMesh, shares, ended, splitsOf}
 use Rattle.mesh.specs.Blends.{along, crossed, cuts, cutter, isCut, leavesOf, refine, firstFour, live}
 use Rattle.mesh.specs.Order.{Uncut, Coarser}
 use Rattle.mesh.specs.Sound.{sound, table, blendsOf, fitted, full, proper}
-use Rattle.mesh.specs.Bytes.{Square, stepOn, bytesMesh, keepAll, clearAll, recut, walk, listed, empty, refused}
+use Rattle.mesh.specs.Bytes.{at, Square, Marked, Idle, stepOn, bytesMesh, keepAll, clearAll, recut, walk, listed, empty, refused}
 use Rattle.mesh.specs.Replay.{accepts, allAccepted, replayed}
 use Rattle.mesh.specs.declared.Split.{Split}
 use Rattle.mesh.specs.declared.Blend.{Blend}
@@ -24,14 +24,15 @@ use Rattle.mesh.specs.declared.Lines.{Lines}
 use Rattle.mesh.specs.declared.Table.{Table}
 use Rattle.mesh.specs.declared.Refined.{Refined}
 use Rattle.mesh.specs.declared.Replayed.{Replayed}
-use Rattle.mesh.proofs.Tests.{either, true-not-false, false-of, and-both, and-of, and-first, and-last, or-left, cond-true, cond-false, all-of, any-same, any-append, only-mem, mem-only}
+use Rattle.mesh.proofs.Tests.{either, true-not-false, false-of, and-both, and-of, and-first, and-last, or-either, or-left, cond-true, cond-false, all-of, any-same, any-append, only-mem, mem-only}
 use Rattle.mesh.proofs.Drawing.{Allowed, blank, left-turn, left-none}
 use Rattle.mesh.proofs.SingleSteps.{Small, in-range-small}
 use Rattle.mesh.proofs.Cuts.{RiseB, proper-facts, proper-rises, cutter-none, cutter-cuts}
 use Rattle.mesh.proofs.Order.{Rising, SameMembers, leavesOf-left, left-leavesOf, left-uncut, left-itself, finer-leaves}
 use Rattle.mesh.proofs.Places.{Kept, seen, mem-seen, seen-mem, keep-seen, kept-same, keep-list, nothing-kept}
 use Rattle.mesh.proofs.Live.{leaves-proper, finer-fitted}
-use Rattle.mesh.proofs.Fresh.{first-proper, firstFour-rises, fresh-live, fresh-sound}
+use Rattle.mesh.proofs.Fresh.{fresh-positions, first-proper, firstFour-rises, fresh-live, fresh-sound}
+use Rattle.mesh.proofs.AtMost.{live-knots}
 use Rattle.mesh.proofs.SoundMaps.{live-left, live-proper, live-leaves, own-anchors}
 use Rattle.mesh.proofs.Refining.{table-blends, table-count, some-line, no-line, met-fitted, read-fitted}
 use Rattle.mesh.proofs.Cutting.{proper-most}
@@ -204,6 +205,22 @@ module _ {w h : ℕ} (sides : Sides w h) {ss : List Split} {ups lvs places : Lis
         let r = live-leaves w h (sides .across .0) (sides .up .0) M C in
         (λ m. r .1 (f .0 m), λ m. f .1 (r .0 m))
 
+    -- they stand on lines, so in a column without a mark there is none,
+    recut-idle : (marks ups' lvs' : List ℕ) → bytesMesh ups' lvs' ≡ M → Marked marks ups' → getD recutPlaces 0 0 ≡ 0 → Idle marks recutPlaces
+    unfolding bytesMesh
+    recut-idle marks ups' lvs' drawn marked clear m n lo hm hn off =
+        ⊎-elim (λ e. eqb-true _ _ e)
+        (λ e.
+        let r = recut-kept .from clear m n lo hn (eqb-false _ _ e) in
+        let on = live-knots w h (sides .across .0) (sides .up .0) (ss ++ s ∷ []) upright (r .0) (left-next (r .0) .0 (r .1)) .m in
+        let there : M upright m (on .0) ≡ true = subst (λ (z : ℕ). M upright z (on .0) ≡ true) (r .2) (on .1) in
+        absurd (marked m (on .0) (ap (λ (N : Mesh). N upright m (on .0)) drawn ∙ there) off))
+        (either (eqb (getD recutPlaces (at m n) 0) 0))
+
+    pub idle-on : (N : Mesh) (bs : List Blend) (marks ups' lvs' : List ℕ) → N ≡ M → bs ≡ lives → bytesMesh ups' lvs' ≡ M → Marked marks ups' →
+        let P = recut N (direction (s .direction)) (s .position + 1) bs places in getD P 0 0 ≡ 0 → Idle marks P
+    idle-on N bs marks ups' lvs' e f drawn marked = rw (e, f) (recut-idle marks ups' lvs' drawn marked)
+
     -- and in a table where it holds them.
     finer : fitted (refine w h M lives) ≡ fitted next
     unfolding live
@@ -373,13 +390,38 @@ module _ {w h : ℕ} (sides : Sides w h) where
         clashes r =
             r .4 (own-anchors w h (sides .across .0) (sides .up .0) (mesh w h []) is-sound (r .0) (r .1) (r .2) (r .3) (r .5) (r .6))
 
+-- The uprights of a fresh map are marked, and those with a split more.
+pub fresh-marked : (w h : ℕ) (marks ups lvs : List ℕ) → bytesMesh ups lvs ≡ mesh w h [] →
+    ((z : ℕ) → getD marks z 0 ≡ 0 → (z ≡ 0 → ⊥) × (z ≡ 1 → ⊥) × (z ≡ w + 1 → ⊥) × (z ≡ w + 2 → ⊥)) → Marked marks ups
+unfolding bytesMesh
+fresh-marked w h marks ups lvs drawn none z k on off =
+    let n = none z off in
+    ⊎-elim (n .0) (⊎-elim (n .1) (⊎-elim (n .2) (n .3)))
+    (fresh-positions w h upright z k (sym (ap (λ (N : Mesh). N upright z k) drawn) ∙ on))
+
+pub more-marked : (w h : ℕ) (s : Split) (marks marks' ups ups' lvs lvs' : List ℕ) → Marked marks ups →
+    ((d : Direction) (z k : ℕ) → bytesMesh ups' lvs' d z k ≡ (bytesMesh ups lvs d z k || draws w h d z k s)) →
+    ((z : ℕ) → getD marks' z 0 ≡ 0 → (getD marks z 0 ≡ 0) × (s .direction ≡ 0 → z ≡ s .position + 1 → ⊥)) → Marked marks' ups'
+unfolding bytesMesh draws
+more-marked w h s marks marks' ups ups' lvs lvs' marked drawn more z k on off =
+    let m = more z off in
+    ⊎-elim (λ b. marked z k b (m .0))
+    (λ b.
+    let p = and-both (eqb (s .direction) 0 && eqb z (s .position + 1) && leb (start s) k) _ b in
+    let q = and-both (eqb (s .direction) 0 && eqb z (s .position + 1)) _ (p .0) in
+    let r = and-both (eqb (s .direction) 0) _ (q .0) in
+    m .1 (eqb-true _ _ (r .0)) (eqb-true _ _ (r .1)))
+    (or-either (stepOn ups z k) _ (sym (drawn upright z k) ∙ on))
+
 -- Part of the way through the splits of lines: the map of the first i is in hand, and the splits that are left decide.
-pub record Replaying (L : Lines) (i : ℕ) (ups lvs : List ℕ) (t : Table) (places : List ℕ) : Type 0 where
+pub record Replaying (L : Lines) (i : ℕ) (ups lvs marks : List ℕ) (t : Table) (places : List ℕ) : Type 0 where
   pub within : i ≤ L .count
   pub few : L .count ≤ 60
   pub room : length (L .splits) ≡ 60
   pub sides : Sides (L .w) (L .h)
   pub standing : Standing (L .w) (L .h) (take i (L .splits)) ups lvs places t
+  pub wide : length marks ≡ 131
+  pub marked : Marked marks ups
   pub decides : allAccepted (L .w) (L .h) [] (splitsOf L) ≡ allAccepted (L .w) (L .h) (take i (L .splits)) (drop i (splitsOf L))
 
 -- the answer where a split is refused, or sides or count are out of range
@@ -406,7 +448,7 @@ module _ (L : Lines) where
       (and-of _ _ (and-of _ _ (le-leb 1 (L .w) (s .across .0)) (le-leb (L .w) 128 (s .across .1)))
       (and-of _ _ (le-leb 1 (L .h) (s .up .0)) (le-leb (L .h) 128 (s .up .1)))) (le-leb (L .count) 60 few)
 
-module _ {L : Lines} {i : ℕ} {ups lvs places : List ℕ} {t : Table} (r : Replaying L i ups lvs t places) where
+module _ {L : Lines} {i : ℕ} {ups lvs marks places : List ℕ} {t : Table} (r : Replaying L i ups lvs marks t places) where
   abbrev this : Split
   this = getD (L .splits) i blank
 
@@ -428,15 +470,18 @@ module _ {L : Lines} {i : ℕ} {ups lvs places : List ℕ} {t : Table} (r : Repl
     pub replay-stop : accepts (L .w) (L .h) (take i (L .splits)) this ≡ false → replayed L ≡ stopped
     replay-stop e = fails L (and-last (allowedSide (L .w) && allowedSide (L .h) && leb (L .count) 60) _ (turn ∙ and-first _ _ e))
 
-    pub replay-more : {ups' lvs' places' : List ℕ} {t' : Table} → accepts (L .w) (L .h) (take i (L .splits)) this ≡ true →
-        Standing (L .w) (L .h) (take i (L .splits) ++ this ∷ []) ups' lvs' places' t' → Replaying L (i + 1) ups' lvs' t' places'
-    replay-more e next =
+    pub replay-more : {ups' lvs' marks' places' : List ℕ} {t' : Table} → accepts (L .w) (L .h) (take i (L .splits)) this ≡ true →
+        Standing (L .w) (L .h) (take i (L .splits) ++ this ∷ []) ups' lvs' places' t' → length marks' ≡ 131 → Marked marks' ups' →
+        Replaying L (i + 1) ups' lvs' marks' t' places'
+    replay-more e next wide marked =
         record {
           within = omega arith;
           few = r .few;
           room = r .room;
           sides = r .sides;
           standing = rw longer at next;
+          wide = wide;
+          marked = marked;
           decides = turn ∙ rw (e, longer);
         }
 

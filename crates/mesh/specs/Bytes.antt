@@ -88,6 +88,13 @@ kept places m n = cond (eqb (getD places (at m n) 0) 0) [] (unpacked m n (getD p
 unfoldable pub walk : ℕ → ℕ → List ℕ → List Blend
 walk w h places = each 1 (w + 1) (λ m. each 1 (h + 1) (λ n. kept places m n))
 
+-- Marks, one for each knot: every knot at which a line of the bytes stands is marked. Where marks are 0, the places are free.
+abbrev pub Marked : List ℕ → List ℕ → Type 0
+Marked marks steps = (z k : ℕ) → stepOn steps z k ≡ true → getD marks z 0 ≡ 0 → ⊥
+
+abbrev pub Idle : List ℕ → List ℕ → Type 0
+Idle marks places = (m n : ℕ) → 1 ≤ m → m < 131 → n < 131 → getD marks m 0 ≡ 0 → getD places (at m n) 0 ≡ 0
+
 -- what drawing a line from knot `from` to knot `to` at knot z does to the bytes of its direction
 pub record Drawn (before after : List ℕ) (z from to : ℕ) : Type 0 where
   pub square : Square after

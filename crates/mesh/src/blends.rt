@@ -54,7 +54,8 @@ pub fn refine(lines: Lines, old: Table) -> Refined
     if places[0] != 0 {
         return refusal();
     }
-    read_out(&places, lines.w, lines.h)
+    let marks = [1u8; 131];
+    read_out(&places, &marks, lines.w, lines.h)
 }
 
 // The two triples of the first blends, on one axis.

@@ -4,9 +4,12 @@ use crate::Refined;
 use crate::Table;
 use crate::Triple;
 ghost use mathlib.Core.Path.{_≡_};
-ghost use Prim.Native.Nat.{_≤_};
+ghost use mathlib.Core.Bool.{cond};
+ghost use Prim.Native.Nat.{_+_, _≤_, _<_};
+ghost use lib.Dec.{eqb};
+ghost use lib.ListN.{length, getD};
 ghost use Rattle.mesh.specs.Sound.{none};
-ghost use Rattle.mesh.specs.Bytes.{Square, unpacked, walk, listed, refused};
+ghost use Rattle.mesh.specs.Bytes.{Square, Idle, unpacked, walk, listed, refused};
 
 // The blend that a place holds, taken apart.
 fn unpack(m: usize, n: usize, c: u32) -> Blend
@@ -47,16 +50,27 @@ pub(crate) fn refusal() -> Refined
     }
 }
 
-// The table of the kept blends; a refusal where they are more than it holds.
-pub(crate) fn read_out(places: &[u32], w: usize, h: usize) -> Refined
-    requires { ⌜ Square (now places) × (w ≤ 128) × (h ≤ 128) ⌝ }
+// The knot from which a column of places is read: a column without a mark has none.
+fn first_row(marks: &[u8], m: usize, h: usize) -> usize
+    requires { ⌜ (length (now marks) ≡ 131) × (m < 131) × (h ≤ 128) ⌝ }
+    ensures { λ r. ⌜ r ≡ cond (eqb (getD (now (marks .entry)) m 0) 0) (h + 2) 1 ⌝ }
+{
+    if marks[m] == 0 {
+        return h + 2;
+    }
+    1
+}
+
+// The table of the kept blends; a refusal where they are more than it holds. Columns without a mark hold none.
+pub(crate) fn read_out(places: &[u32], marks: &[u8], w: usize, h: usize) -> Refined
+    requires { ⌜ Square (now places) × (length (now marks) ≡ 131) × (w ≤ 128) × (h ≤ 128) × Idle (now marks) (now places) ⌝ }
     ensures { λ r. ⌜ r ≡ listed (walk w h (now (places .entry))) ⌝ }
 {
     let mut blends = [nothing(); 1024];
     let mut count = 0;
     let mut m = 1;
     while m <= w + 1 {
-        let mut n = 1;
+        let mut n = first_row(marks, m, h);
         while n <= h + 1 {
             let c = places[m * 131 + n];
             if c != 0 {

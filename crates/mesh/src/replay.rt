@@ -23,14 +23,14 @@ ghost use mathlib.Core.Path.{_≡_};
 ghost use mathlib.Core.Bool.{true, cond, _&&_, _||_, not};
 ghost use Prim.Native.Nat.{ℕ, _+_, _-_, _≤_, _<_};
 ghost use lib.Dec.{eqb};
-ghost use lib.ListN.{getD};
+ghost use lib.ListN.{length, getD};
 ghost use Rattle.mesh.specs.Range.{all, any, some, every, only};
 ghost use Rattle.mesh.specs.Triple.{inside};
 ghost use Rattle.mesh.specs.Lines.{Direction, direction, draws, inRange, shares, ended};
 ghost use Rattle.mesh.specs.Blends.{cuts, leavesOf};
 ghost use Rattle.mesh.specs.Sound.{proper, blendsOf};
 ghost use Rattle.mesh.specs.Bytes as bytes;
-ghost use Rattle.mesh.specs.Bytes.{Square, Rises, Proper, stepOn, bytesMesh, keepAll, clearAll, walk, listed, refused};
+ghost use Rattle.mesh.specs.Bytes.{Square, Idle, Rises, Proper, stepOn, bytesMesh, keepAll, clearAll, walk, listed, refused};
 ghost use Rattle.mesh.specs.Replay.{replayed};
 
 // Whether some of the n steps from knot `from` on, of the line at knot z, is on.
@@ -181,6 +181,7 @@ fn cut_those(uprights: &[u8], levels: &[u8], number: usize, z: u8, table: Table,
 fn recut(
     uprights: &[u8],
     levels: &[u8],
+    marks: &[u8],
     number: usize,
     z: u8,
     table: Table,
@@ -189,7 +190,9 @@ fn recut(
     places: &mut [u32],
 ) -> Refined
     requires { ⌜ Square (now uprights) × Square (now levels) × Square (now places) × (z < 131) × (table .count ≤ 1024) ×
-        (all (proper 128 128) (blendsOf table) ≡ true) × (w ≤ 128) × (h ≤ 128) ⌝ }
+        (all (proper 128 128) (blendsOf table) ≡ true) × (w ≤ 128) × (h ≤ 128) × (length (now marks) ≡ 131) ×
+        (let P = bytes.recut (bytesMesh (now uprights) (now levels)) (direction number) z (blendsOf table) (now places) in
+        getD P 0 0 ≡ 0 → Idle (now marks) P) ⌝ }
     ensures { λ r. ⌜ (let M = bytesMesh (now (uprights .entry)) (now (levels .entry)) in
         let P = bytes.recut M (direction number) z (blendsOf table) (now (places .entry)) in
         (r ≡ cond (any (cuts M (direction number) z) (blendsOf table) && eqb (getD P 0 0) 0) (listed (walk w h P)) refused) ×
@@ -202,7 +205,33 @@ fn recut(
     if places[0] != 0 {
         return refusal();
     }
-    read_out(places, w, h)
+    read_out(places, marks, w, h)
+}
+
+// Marks the knots of a fresh map's uprights.
+fn mark_fresh(w: usize, marks: &mut [u8])
+    requires { ⌜ (length (now marks) ≡ 131) × (w ≤ 128) ⌝ }
+    ensures { λ _. ⌜ (length (now (marks .exit)) ≡ 131) × ((z : ℕ) → getD (now (marks .exit)) z 0 ≡ 0 →
+        (z ≡ 0 → ⊥) × (z ≡ 1 → ⊥) × (z ≡ w + 1 → ⊥) × (z ≡ w + 2 → ⊥)) ⌝ }
+{
+    let far = w + 1;
+    let beyond = w + 2;
+    marks[0] = 1;
+    marks[1] = 1;
+    marks[far] = 1;
+    marks[beyond] = 1;
+}
+
+// Marks the knot of a split that is upright.
+fn mark(s: Split, marks: &mut [u8])
+    requires { ⌜ (length (now marks) ≡ 131) × (s .position < 128) ⌝ }
+    ensures { λ _. ⌜ (length (now (marks .exit)) ≡ 131) × ((z : ℕ) → getD (now (marks .exit)) z 0 ≡ 0 →
+        (getD (now (marks .entry)) z 0 ≡ 0) × (s .direction ≡ 0 → z ≡ s .position + 1 → ⊥)) ⌝ }
+{
+    if s.direction == 0 {
+        let at = s.position + 1;
+        marks[at] = 1;
+    }
 }
 
 // Takes the splits of lines in order as exact splits.
@@ -230,6 +259,8 @@ pub fn replay(lines: Lines) -> Replayed
     let mut levels = [0u8; 17161];
     draw_fresh(w, h, &mut uprights);
     draw_fresh(h, w, &mut levels);
+    let mut marks = [0u8; 131];
+    mark_fresh(w, &mut marks);
     let mut table = first_four(w, h);
     let mut places = [0u32; 17161];
     cut_all(&uprights, &levels, table, &mut places);
@@ -240,7 +271,18 @@ pub fn replay(lines: Lines) -> Replayed
             return stopped;
         }
         let z = (s.position + 1) as u8;
-        let next = recut(&uprights, &levels, s.direction, z, table, w, h, &mut places);
+        mark(s, &mut marks);
+        let next = recut(
+            &uprights,
+            &levels,
+            &marks,
+            s.direction,
+            z,
+            table,
+            w,
+            h,
+            &mut places,
+        );
         if !next.fits {
             return stopped;
         }

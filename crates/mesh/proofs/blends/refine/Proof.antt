@@ -9,6 +9,7 @@ use Rattle.mesh.specs.Blends.{leavesOf}
 use Rattle.mesh.specs.Sound.{blendsOf}
 use Rattle.mesh.specs.Bytes.{bytesMesh, keepAll, empty}
 use Rattle.mesh.proofs.Tests.{failed, passed}
+use Rattle.mesh.proofs.Bytes.{all-marked}
 use Rattle.mesh.proofs.Refining.{Ranged, ranged-says, ranged-most, out-refused, sides, drawn-mesh, Cut, places-square, met-refused, read-refined}
 use Rattle.mesh.proofs.blends.refine.Statement.{statement}
 use Rattle.mesh.proofs.blends.refine.Tie as tie
@@ -89,14 +90,17 @@ returns-2 c = c .refusal2 .ensures ∙ met-refused (cut (c .before .before .befo
 slice-aggregate-read-out : tie.Need-slice-aggregate-read-out
 slice-aggregate-read-out c = search needs
 
+slice-aggregate-read-out-2 : tie.Need-slice-aggregate-read-out-2
+slice-aggregate-read-out-2 c = search needs
+
 read-out-requires : tie.Need-read-out-requires
 read-out-requires c κs =
-    let k = cut (c .before .before .before) in
+    let k = cut (c .before .before .before .before) in
     let s = sides (k .ranges) in
-    (places-square k, s .across .1, s .up .1)
+    (places-square k, length-replicate {A = ℕ} 131 1, s .across .1, s .up .1, all-marked (c .before .before .before .before .cut-all .last .1 .1 .1 .0))
 
 returns-3 : tie.Need-returns-3
-returns-3 c = c .read-out .ensures ∙ read-refined (cut (c .before .before .before .before)) (c .before .before .if2 .left)
+returns-3 c = c .read-out .ensures ∙ read-refined (cut (c .before .before .before .before .before)) (c .before .before .before .if2 .left)
 
 pub refine-spec : {M : Type 1} → statement M
 refine-spec =
@@ -117,5 +121,6 @@ refine-spec =
     refusal-requires-2
     returns-2
     slice-aggregate-read-out
+    slice-aggregate-read-out-2
     read-out-requires
     returns-3)

@@ -5,40 +5,47 @@ use Prim.Native.Nat.{_+_, _-_, _≤_}
 use mathlib.Core.Path.{sym, _∙_}
 use mathlib.Core.Logic.{⊎-elim}
 use Rattle.mesh.specs.Bytes.{walk}
-use Rattle.mesh.proofs.Reading.{rowsLeft, placesLeft, walk-rows, row-begins, row-ends, rows-end-left, place-empty, place-holds, Reading, read-none, read-more, read-full, read-all}
+use Rattle.mesh.proofs.Reading.{rowsLeft, placesLeft, walk-rows, row-from, row-ends, rows-end-left, place-empty, place-holds, Reading, read-none, read-more, read-full, read-all}
 use Rattle.mesh.proofs.read.read_out.Statement.{statement}
 use Rattle.mesh.proofs.read.read_out.Tie as tie
 
 abbrev Inv-loop2 : tie.InvT-loop2
-Inv-loop2 places w h blends₀ count₀ m n₀ blends count n =
+Inv-loop2 places marks w h blends₀ count₀ m n₀ blends count n =
     (1 ≤ n) × Reading (walk w h places) (placesLeft w h places m n) count blends
 
 abbrev μ-loop2 : tie.MeasureT-loop2
-μ-loop2 places w h blends₀ count₀ m n₀ blends count n = h + 2 - n
+μ-loop2 places marks w h blends₀ count₀ m n₀ blends count n = h + 2 - n
 
 abbrev Inv-loop : tie.InvT-loop
-Inv-loop places w h blends₀ count₀ m₀ blends count m =
+Inv-loop places marks w h blends₀ count₀ m₀ blends count m =
     (1 ≤ m) × Reading (walk w h places) (rowsLeft w h places m) count blends
 
 abbrev μ-loop : tie.MeasureT-loop
-μ-loop places w h blends₀ count₀ m₀ blends count m = w + 2 - m
+μ-loop places marks w h blends₀ count₀ m₀ blends count m = w + 2 - m
 
 nothing-requires : tie.Need-nothing-requires Inv-loop2 μ-loop2 Inv-loop μ-loop
 nothing-requires c κs = search needs
 
 loop-holds : tie.Need-loop-holds Inv-loop2 μ-loop2 Inv-loop μ-loop
 loop-holds c =
-    let a = c .before .before .args in
+    let a = c .before .before .before .args in
     (omega arith, rw (c .nothing .ensures, ← walk-rows (a .w) (a .h) (a .places .now)) (read-none (walk (a .w) (a .h) (a .places .now))))
 
 add-loop : tie.Need-add-loop Inv-loop2 μ-loop2 Inv-loop μ-loop
 add-loop c = search needs
 
+first-row-requires : tie.Need-first-row-requires Inv-loop2 μ-loop2 Inv-loop μ-loop
+first-row-requires c κs = let p = c .before .before .before .before .before .pre in (p .1, omega arith, p .3)
+
 loop2-holds : tie.Need-loop2-holds Inv-loop2 μ-loop2 Inv-loop μ-loop
 loop2-holds c =
-    let a = c .before .before .before .before .args in
-    let l = c .before .loop in
-    (omega arith, rw (row-begins (a .w) (a .h) (a .places .now) (l .m) (omega arith)) at (l .inv .1))
+    let start = c .before .before .before .before .before .before in
+    let a = start .args in
+    let l = c .before .before .loop in
+    let r =
+    row-from (a .w) (a .h) (a .places .now) (a .marks .now) (start .pre .4) (start .pre .2) (start .pre .3) (l .m) (c .first-row .result) (l .inv .0)
+    (omega arith) (c .first-row .ensures) in
+    (r .0, rw (r .1) at (l .inv .1))
 
 add-loop2 : tie.Need-add-loop2 Inv-loop2 μ-loop2 Inv-loop μ-loop
 add-loop2 c = search needs
@@ -60,8 +67,8 @@ refusal-requires c κs = search needs
 
 returns : tie.Need-returns Inv-loop2 μ-loop2 Inv-loop μ-loop
 returns c =
-    let a = c .before .before .before .before .before .before .before .before .before .before .args in
-    let m = c .before .before .before .before .before .before .before .loop .m in
+    let a = c .before .before .before .before .before .before .before .before .before .before .before .before .args in
+    let m = c .before .before .before .before .before .before .before .before .loop .m in
     let l = c .before .before .before .before .before .loop2 in
     c .refusal .ensures ∙ sym
     (read-full (c .before .if2 .taken)
@@ -87,8 +94,8 @@ loop2-less c = search needs
 
 loop2-again : tie.Need-loop2-again Inv-loop2 μ-loop2 Inv-loop μ-loop
 loop2-again c =
-    let a = c .before .before .before .before .before .before .before .before .args in
-    let m = c .before .before .before .before .before .loop .m in
+    let a = c .before .before .before .before .before .before .before .before .before .before .args in
+    let m = c .before .before .before .before .before .before .loop .m in
     let l = c .before .before .before .loop2 in
     let fits = l .inv .1 .fits in (
       omega arith,
@@ -108,14 +115,14 @@ loop-less c = search needs
 
 loop-again : tie.Need-loop-again Inv-loop2 μ-loop2 Inv-loop μ-loop
 loop-again c =
-    let a = c .before .before .before .before .before .before .args in
-    let m = c .before .before .before .loop .m in
+    let a = c .before .before .before .before .before .before .before .before .args in
+    let m = c .before .before .before .before .loop .m in
     let l = c .before .loop2 in
     (omega arith, rw (row-ends (a .w) (a .h) (a .places .now) m (l .n) (omega arith)) at (l .inv .1))
 
 returns-2 : tie.Need-returns-2 Inv-loop2 μ-loop2 Inv-loop μ-loop
 returns-2 c =
-    let a = c .before .before .before .before .args in
+    let a = c .before .before .before .before .before .args in
     let l = c .before .loop in
     sym (read-all (rw (rows-end-left (a .w) (a .h) (a .places .now) (l .m) (omega arith)) at (l .inv .1)))
 
@@ -130,6 +137,7 @@ read-out-spec =
     nothing-requires
     loop-holds
     add-loop
+    first-row-requires
     loop2-holds
     add-loop2
     mul-c

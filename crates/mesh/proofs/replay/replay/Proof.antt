@@ -9,23 +9,23 @@ use mathlib.Core.List.{[], _∷_, _++_}
 use lib.ListN.{length, length-map, length-replicate, getD, take}
 use Rattle.mesh.specs.Lines.{upright, level, mesh, inRange, shares, ended}
 use Rattle.mesh.specs.Blends.{live}
-use Rattle.mesh.specs.Bytes.{bytesMesh}
+use Rattle.mesh.specs.Bytes.{Marked, bytesMesh}
 use Rattle.mesh.specs.Replay.{accepts, replayed}
 use Rattle.mesh.specs.declared.Refined.{Refined}
 use Rattle.mesh.specs.declared.Replayed.{Replayed}
 use Rattle.mesh.proofs.Tests.{failed, passed}
 use Rattle.mesh.proofs.Drawing.{blank}
 use Rattle.mesh.proofs.SingleSteps.{Small}
-use Rattle.mesh.proofs.Replaying.{Sides, sides-of, fine-small, fresh-mesh, fresh-count, fresh-proper, fresh-standing, Replaying, stopped, out-across, out-up, out-count, standing-count, standing-proper, standing-blends, not-fine, redrawn, Answer, answer-on, unfit-refused, full-decides, standing-next, replay-room, replay-stop, replay-more, replay-done}
+use Rattle.mesh.proofs.Replaying.{fresh-marked, more-marked, idle-on, Sides, sides-of, fine-small, fresh-mesh, fresh-count, fresh-proper, fresh-standing, Replaying, stopped, out-across, out-up, out-count, standing-count, standing-proper, standing-blends, not-fine, redrawn, Answer, answer-on, unfit-refused, full-decides, standing-next, replay-room, replay-stop, replay-more, replay-done}
 use Rattle.mesh.proofs.replay.replay.Statement.{statement}
 use Rattle.mesh.proofs.replay.replay.Tie as tie
 
 abbrev Inv-loop : tie.InvT-loop
-Inv-loop lines stopped w h count uprights₀ levels₀ table₀ places₀ i₀ uprights levels table places i =
-    Replaying lines i uprights levels table places
+Inv-loop lines stopped w h count uprights₀ levels₀ marks₀ table₀ places₀ i₀ uprights levels marks table places i =
+    Replaying lines i uprights levels marks table places
 
 abbrev μ-loop : tie.MeasureT-loop
-μ-loop lines stopped w h count uprights₀ levels₀ table₀ places₀ i₀ uprights levels table places i = count - i
+μ-loop lines stopped w h count uprights₀ levels₀ marks₀ table₀ places₀ i₀ uprights levels marks table places i = count - i
 
 refusal-requires : tie.Need-refusal-requires Inv-loop μ-loop
 refusal-requires c κs = tt
@@ -67,8 +67,14 @@ slice-aggregate-draw-fresh-2 c = search needs
 draw-fresh-requires-2 : tie.Need-draw-fresh-requires-2 Inv-loop μ-loop
 draw-fresh-requires-2 c κs = let s = sides (c .before .before .before .before .before) in (refl, s .up .1, s .across .1)
 
+slice-aggregate-mark-fresh : tie.Need-slice-aggregate-mark-fresh Inv-loop μ-loop
+slice-aggregate-mark-fresh c = search needs
+
+mark-fresh-requires : tie.Need-mark-fresh-requires Inv-loop μ-loop
+mark-fresh-requires c κs = let s = sides (c .before .before .before .before .before .before .before .before) in (length-replicate {A = ℕ} 131 0, s .across .1)
+
 first-four-requires : tie.Need-first-four-requires Inv-loop μ-loop
-first-four-requires c κs = let s = sides (c .before .before .before .before .before .before .before) in (s .across .1, s .up .1)
+first-four-requires c κs = let s = sides (c .before .before .before .before .before .before .before .before .before .before) in (s .across .1, s .up .1)
 
 slice-aggregate-cut-all : tie.Need-slice-aggregate-cut-all Inv-loop μ-loop
 slice-aggregate-cut-all c = search needs
@@ -93,7 +99,7 @@ drawn c =
 cut-all-requires : tie.Need-cut-all-requires Inv-loop μ-loop
 cut-all-requires c κs =
     let four = c .before .before .before in
-    let two = four .before .before in
+    let two = four .before .before .before .before .before in
     let one = two .before .before .before in (
       one .draw-fresh .ensures .0,
       two .draw-fresh2 .ensures .0,
@@ -109,7 +115,7 @@ loop-holds : tie.Need-loop-holds Inv-loop μ-loop
 loop-holds c =
     let cut = c .before in
     let four = cut .before .before .before .before in
-    let two = four .before .before in
+    let two = four .before .before .before .before .before in
     let one = two .before .before .before in
     let few = one .before .before in
     record {
@@ -118,6 +124,8 @@ loop-holds c =
       room = sixty (few .before .before .before .before .before .before .before);
       sides = sides (few .before);
       standing = fresh-standing (sides (few .before)) _ (four .first-four .ensures) _ _ _ _ (drawn two) (one .draw-fresh .ensures .0) (two .draw-fresh2 .ensures .0) refl (cut .cut-all .ensures);
+      wide = four .before .before .mark-fresh .ensures .0;
+      marked = fresh-marked _ _ (four .before .before .mark-fresh .last .1 .0) _ _ (drawn two) (four .before .before .mark-fresh .ensures .1);
       decides = refl;
     }
 
@@ -139,10 +147,10 @@ draw-exact-requires c κs =
     (r .standing .uprights, r .standing .levels, r .sides .across .1, r .sides .up .1)
 
 -- a split that is refused stops the replay
-refuse : (c : tie.In-loop Inv-loop μ-loop) → let L = c .before .before .before .before .before .before .before .before .before .before .before .before .before .before .before .before .before .before .before .before .before .args .t1 in
+refuse : (c : tie.In-loop Inv-loop μ-loop) → let L = c .before .before .before .before .before .before .before .before .before .before .before .before .before .before .before .before .before .before .before .before .before .before .before .before .args .t1 in
     replayed L ≡ stopped →
-    _≡_ {A = Replayed} (record { good = false; table = c .before .before .before .before .before .before .before .before .before .before .before .before .before .before .before .before .before .before .before .before .refusal .result .table }) (replayed L)
-refuse c e = stop (c .before .before .before .before .before .before .before .before .before .before .before .before .before .before .before .before .before .before .before .before) e
+    _≡_ {A = Replayed} (record { good = false; table = c .before .before .before .before .before .before .before .before .before .before .before .before .before .before .before .before .before .before .before .before .before .before .before .refusal .result .table }) (replayed L)
+refuse c e = stop (c .before .before .before .before .before .before .before .before .before .before .before .before .before .before .before .before .before .before .before .before .before .before .before) e
 
 returns-4 : tie.Need-returns-4 Inv-loop μ-loop
 returns-4 c =
@@ -155,14 +163,14 @@ returns-4 c =
 -- the split that is drawn passed its tests, so it is near
 may : (c : tie.Else4 Inv-loop μ-loop) →
     let in-loop = c .before .before .before .before .before .before .before in
-    let L = in-loop .before .before .before .before .before .before .before .before .before .before .before .before .before .before .before .before .before .before .before .before .before .args .t1 in
+    let L = in-loop .before .before .before .before .before .before .before .before .before .before .before .before .before .before .before .before .before .before .before .before .before .before .before .before .args .t1 in
     let l = in-loop .before .loop in
     let s = getD (L .splits) (l .i) blank in
     (inRange (L .w) (L .h) s && (not (shares (bytesMesh (l .uprights) (l .levels)) s) && ended (bytesMesh (l .uprights) (l .levels)) s)) ≡ true
 may c = passed (c .before .before .before .draw-exact .ensures .0) (c .if4 .left)
 
 near : (c : tie.Else4 Inv-loop μ-loop) →
-    let in-loop = c .before .before .before .before .before .before .before in Small (getD (in-loop .before .before .before .before .before .before .before .before .before .before .before .before .before .before .before .before .before .before .before .before .before .args .t1 .splits) (in-loop .before .loop .i) blank)
+    let in-loop = c .before .before .before .before .before .before .before in Small (getD (in-loop .before .before .before .before .before .before .before .before .before .before .before .before .before .before .before .before .before .before .before .before .before .before .before .before .args .t1 .splits) (in-loop .before .loop .i) blank)
 near c = fine-small (c .before .before .before .before .before .before .before .before .loop .inv .sides) _ _ (may c)
 
 add-z : tie.Need-add-z Inv-loop μ-loop
@@ -171,20 +179,48 @@ add-z c = let s = near (c .before) in omega arith
 cast-z : tie.Need-cast-z Inv-loop μ-loop
 cast-z c = let s = near (c .before) in omega arith
 
+slice-aggregate-mark : tie.Need-slice-aggregate-mark Inv-loop μ-loop
+slice-aggregate-mark c = sym (c .before .before .before .before .before .before .before .before .before .before .loop .inv .wide)
+
+mark-requires : tie.Need-mark-requires Inv-loop μ-loop
+mark-requires c κs = (c .before .before .before .before .before .before .before .before .before .before .loop .inv .wide, near (c .before .before) .position)
+
+-- the split is drawn in the bytes, and its knot is marked
+more : (c : tie.Else4 Inv-loop μ-loop) →
+    let in-loop = c .before .before .before .before .before .before .before in
+    let L = in-loop .before .before .before .before .before .before .before .before .before .before .before .before .before .before .before .before .before .before .before .before .before .before .before .before .args .t1 in
+    let l = in-loop .before .loop in
+    let drew = c .before .before .before .draw-exact in
+    bytesMesh (drew .last .1 .1 .1 .0) (drew .last .1 .1 .1 .1 .0) ≡ mesh (L .w) (L .h) (take (l .i) (L .splits) ++ getD (L .splits) (l .i) blank ∷ [])
+more c =
+    let r = c .before .before .before .before .before .before .before .before .loop .inv in
+    redrawn (r .sides) (r .standing) _ _ _ (c .before .before .before .draw-exact .ensures .3 (not-false _ (c .if4 .left)))
+
+marked : (c : tie.After-mark Inv-loop μ-loop) → Marked (c .mark .last .1 .0) (c .before .before .before .before .before .before .draw-exact .last .1 .1 .1 .0)
+marked c =
+    let e = c .before .before .before in
+    let l = e .before .before .before .before .before .before .before .before .loop in
+    more-marked _ _ _ (l .marks) (c .mark .last .1 .0) _ _ _ _ (l .inv .marked) (e .before .before .before .draw-exact .ensures .3 (not-false _ (e .if4 .left))) (c .mark .ensures .1)
+
 slice-aggregate-recut : tie.Need-slice-aggregate-recut Inv-loop μ-loop
-slice-aggregate-recut c = sym (c .before .before .before .before .before .draw-exact .ensures .1)
+slice-aggregate-recut c = sym (c .before .before .before .before .before .before .before .before .draw-exact .ensures .1)
 
 slice-aggregate-recut-2 : tie.Need-slice-aggregate-recut-2 Inv-loop μ-loop
-slice-aggregate-recut-2 c = sym (c .before .before .before .before .before .before .draw-exact .ensures .2)
+slice-aggregate-recut-2 c = sym (c .before .before .before .before .before .before .before .before .before .draw-exact .ensures .2)
 
 slice-aggregate-recut-3 : tie.Need-slice-aggregate-recut-3 Inv-loop μ-loop
-slice-aggregate-recut-3 c = sym (c .before .before .before .before .before .before .before .before .before .before .before .before .loop .inv .standing .kept .square)
+slice-aggregate-recut-3 c = sym (c .before .before .before .before .mark .ensures .0)
+
+slice-aggregate-recut-4 : tie.Need-slice-aggregate-recut-4 Inv-loop μ-loop
+slice-aggregate-recut-4 c = sym (c .before .before .before .before .before .before .before .before .before .before .before .before .before .before .before .before .loop .inv .standing .kept .square)
 
 recut-requires : tie.Need-recut-requires Inv-loop μ-loop
 recut-requires c κs =
-    let drew = c .before .before .before .before .before .before .before .draw-exact in
-    let r = c .before .before .before .before .before .before .before .before .before .before .before .before .loop .inv in
-    let s = near (c .before .before .before .before) in (
+    let e = c .before .before .before .before .before .before .before .before in
+    let drew = e .before .before .before .draw-exact in
+    let r = c .before .before .before .before .before .before .before .before .before .before .before .before .before .before .before .before .loop .inv in
+    let s = near e in
+    let marking = c .before .before .before .before .before in (
       drew .ensures .1,
       drew .ensures .2,
       r .standing .kept .square,
@@ -193,77 +229,80 @@ recut-requires c κs =
       standing-proper (r .sides) (r .standing),
       r .sides .across .1,
       r .sides .up .1,
+      marking .mark .ensures .0,
+      idle-on (r .sides) (r .standing) _ _ _ (marking .mark .last .1 .0) _ _ (more e) (standing-blends (r .sides) (r .standing)) (more e) (marked marking),
     )
 
 -- what the line leaves, on the mesh with it and the blends before it
 answer : (c : tie.After-recut Inv-loop μ-loop) →
-    let in-loop = c .before .before .before .before .before .before .before .before .before .before .before .before in
+    let in-loop = c .before .before .before .before .before .before .before .before .before .before .before .before .before .before .before .before in
     let l = in-loop .before .loop in
-    let L = in-loop .before .before .before .before .before .before .before .before .before .before .before .before .before .before .before .before .before .before .before .before .before .args .t1 in
+    let L = in-loop .before .before .before .before .before .before .before .before .before .before .before .before .before .before .before .before .before .before .before .before .before .before .before .before .args .t1 in
     let s = getD (L .splits) (l .i) blank in
     let now = l .inv .standing in
     Answer (l .inv .sides) now s (mesh (L .w) (L .h) (take (l .i) (L .splits) ++ s ∷ [])) (live (L .w) (L .h) (mesh (L .w) (L .h) (take (l .i) (L .splits))))
-    (c .recut .result) (c .recut .last .1 .1 .1 .1 .1 .1 .1 .0)
+    (c .recut .result) (c .recut .last .1 .1 .1 .1 .1 .1 .1 .1 .0)
 answer c =
-    let in-loop = c .before .before .before .before .before .before .before .before .before .before .before .before in
+    let in-loop = c .before .before .before .before .before .before .before .before .before .before .before .before .before .before .before .before in
     let r = in-loop .before .loop .inv in
-    let e = c .before .before .before .before .before in
-    let drew = e .before .before .before .draw-exact in
+    let e = c .before .before .before .before .before .before .before .before .before in
     answer-on (r .sides) (r .standing) _ _ _ _ _
-    (redrawn (r .sides) (r .standing) _ _ _ (drew .ensures .3 (not-false _ (e .if4 .left))))
+    (more e)
     (standing-blends (r .sides) (r .standing))
     (c .recut .ensures)
 
 returns-5 : tie.Need-returns-5 Inv-loop μ-loop
 returns-5 c =
-    let in-loop = c .before .before .before .before .before .before .before .before .before .before .before .before .before .before .before in
+    let in-loop = c .before .before .before .before .before .before .before .before .before .before .before .before .before .before .before .before .before .before .before in
     let l = in-loop .before .loop in
     let lt = in-loop .loop-test .taken in
     let found = c .before .before .before in
     refuse in-loop (replay-stop (l .inv) lt
-    (unfit-refused (l .inv .sides) (l .inv .standing) _ (replay-room (l .inv) lt) (may (found .before .before .before .before .before)) (answer found) (not-true _ (c .if5 .taken))))
+    (unfit-refused (l .inv .sides) (l .inv .standing) _ (replay-room (l .inv) lt) (may (found .before .before .before .before .before .before .before .before .before)) (answer found) (not-true _ (c .if5 .taken))))
 
 full-requires : tie.Need-full-requires Inv-loop μ-loop
 full-requires c κs = tt
 
 -- it is accepted where the areas say so
 decided : (c : tie.After-full Inv-loop μ-loop) →
-    let in-loop = c .before .before .before .before .before .before .before .before .before .before .before .before .before .before .before .before .before in
-    let L = in-loop .before .before .before .before .before .before .before .before .before .before .before .before .before .before .before .before .before .before .before .before .before .args .t1 in
+    let in-loop = c .before .before .before .before .before .before .before .before .before .before .before .before .before .before .before .before .before .before .before .before .before in
+    let L = in-loop .before .before .before .before .before .before .before .before .before .before .before .before .before .before .before .before .before .before .before .before .before .before .before .before .args .t1 in
     let i = in-loop .before .loop .i in
     accepts (L .w) (L .h) (take i (L .splits)) (getD (L .splits) i blank) ≡ c .full .result
 decided c =
-    let in-loop = c .before .before .before .before .before .before .before .before .before .before .before .before .before .before .before .before .before in
+    let in-loop = c .before .before .before .before .before .before .before .before .before .before .before .before .before .before .before .before .before .before .before .before .before in
     let l = in-loop .before .loop in
     let found = c .before .before .before .before .before in
-    full-decides (l .inv .sides) (l .inv .standing) _ (replay-room (l .inv) (in-loop .loop-test .taken)) (may (found .before .before .before .before .before)) (answer found)
+    full-decides (l .inv .sides) (l .inv .standing) _ (replay-room (l .inv) (in-loop .loop-test .taken)) (may (found .before .before .before .before .before .before .before .before .before)) (answer found)
     (not-false _ (c .before .before .if5 .left)) ∙ sym (c .full .ensures)
 
 returns-6 : tie.Need-returns-6 Inv-loop μ-loop
 returns-6 c =
-    let in-loop = c .before .before .before .before .before .before .before .before .before .before .before .before .before .before .before .before .before .before in
+    let in-loop = c .before .before .before .before .before .before .before .before .before .before .before .before .before .before .before .before .before .before .before .before .before .before in
     refuse in-loop (replay-stop (in-loop .before .loop .inv) (in-loop .loop-test .taken) (decided (c .before) ∙ not-true _ (c .if6 .taken)))
 
 add-i : tie.Need-add-i Inv-loop μ-loop
-add-i c = let r = c .before .before .before .before .before .before .before .before .before .before .before .before .before .before .before .before .before .before .before .loop .inv in omega arith
+add-i c = let r = c .before .before .before .before .before .before .before .before .before .before .before .before .before .before .before .before .before .before .before .before .before .before .before .loop .inv in omega arith
 
 loop-less : tie.Need-loop-less Inv-loop μ-loop
 loop-less c = omega arith
 
 loop-again : tie.Need-loop-again Inv-loop μ-loop
 loop-again c =
-    let in-loop = c .before .before .before .before .before .before .before .before .before .before .before .before .before .before .before .before .before .before in
+    let in-loop = c .before .before .before .before .before .before .before .before .before .before .before .before .before .before .before .before .before .before .before .before .before .before in
     let l = in-loop .before .loop in
     let lt = in-loop .loop-test .taken in
     let judged = c .before in
     let found = c .before .before .before .before .before .before in
-    let e = found .before .before .before .before .before in
+    let e = found .before .before .before .before .before .before .before .before .before in
+    let marking = found .before .before .before .before .before .before in
     let drew = e .before .before .before .draw-exact in
     let whole = not-false _ (c .if6 .left) in
     replay-more (l .inv) lt (decided judged ∙ whole)
     (standing-next (l .inv .sides) (l .inv .standing) _ (replay-room (l .inv) lt) (may e) (answer found) _ _ (drew .ensures .1) (drew .ensures .2)
-    (redrawn (l .inv .sides) (l .inv .standing) _ _ _ (drew .ensures .3 (not-false _ (e .if4 .left))))
+    (more e)
     (not-false _ (judged .before .before .if5 .left)) (sym (judged .full .ensures) ∙ whole))
+    (marking .mark .ensures .0) (marked marking)
 
 returns-7 : tie.Need-returns-7 Inv-loop μ-loop
 returns-7 c = sym (replay-done (c .before .loop .inv) (c .loop-test .left))
@@ -284,6 +323,8 @@ replay-spec =
     draw-fresh-requires
     slice-aggregate-draw-fresh-2
     draw-fresh-requires-2
+    slice-aggregate-mark-fresh
+    mark-fresh-requires
     first-four-requires
     slice-aggregate-cut-all
     slice-aggregate-cut-all-2
@@ -298,9 +339,12 @@ replay-spec =
     returns-4
     add-z
     cast-z
+    slice-aggregate-mark
+    mark-requires
     slice-aggregate-recut
     slice-aggregate-recut-2
     slice-aggregate-recut-3
+    slice-aggregate-recut-4
     recut-requires
     returns-5
     full-requires
