@@ -13,8 +13,8 @@ use lib.Signed.{ltZ, nonNeg, mag}
 use mir.Syntax.{w64}
 use mir.Val.{hbits, toZ, ofZ}
 use mir.ValLaws.{toZ-ofZ}
-use Rattle.mesh.specs.Range.{joined}
-use Rattle.mesh.proofs.Tests.{true-not-false}
+use Rattle.axis.specs.Range.{joined}
+use Rattle.axis.proofs.Tests.{true-not-false}
 use Rattle.maps.specs.declared.Map.{Map}
 use Rattle.maps.specs.declared.Changed.{Changed}
 use Rattle.maps.specs.declared.Shape.{Shape}

@@ -7,7 +7,7 @@ use mathlib.Core.Path.{_≡_, refl, sym, ap, _∙_}
 use mathlib.Core.List.{List, [], _∷_, _++_, append-assoc, append-nil}
 use lib.ListN.{length, take, drop, getD, length-append, length-drop, take-append-drop}
 use lib.Seq.{length-take-le, take-all, take-at, drop-at, drop-drop, take-suc}
-use Rattle.mesh.specs.Range.{joined}
+use Rattle.axis.specs.Range.{joined}
 use Rattle.files.specs.File.{put}
 use Rattle.files.proofs.Words.{joined-length}
 
@@ -40,15 +40,6 @@ pub put-three : (bytes : List ℕ) (at : ℕ) (xs ys zs : List ℕ) (n o : ℕ) 
     at + length xs ≡ n → n + length ys ≡ o → o ≤ length bytes → third ≡ put bytes at (xs ++ ys ++ zs)
 put-three bytes at xs ys zs n o p q r e f room =
     put-then bytes at (xs ++ ys) zs o (put-then bytes at xs ys n p q e (omega arith)) r (rw length-append (omega arith)) room
-
--- the entries of one more of a list
-pub joined-append : {A : Type 0} (f : A → List ℕ) (xs ys : List A) → joined f (xs ++ ys) ≡ joined f xs ++ joined f ys
-joined-append f [] ys = refl
-joined-append f (x ∷ xs) ys = rw (joined-append f xs ys, append-assoc)
-
-pub joined-more : {A : Type 0} (f : A → List ℕ) (xs : List A) (i : ℕ) (d : A) → i < length xs →
-    joined f (take (i + 1) xs) ≡ joined f (take i xs) ++ f (getD xs i d)
-joined-more f xs i d lt = rw (add-one, take-suc xs i d lt, joined-append, append-nil)
 
 -- Entries of one length, put in a row one by one:
 module _ {A : Type 0} (entry : A → List ℕ) (size : ℕ) (xs : List A) (before : List ℕ) (at : ℕ) where

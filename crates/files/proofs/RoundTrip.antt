@@ -10,9 +10,9 @@ use lib.ListN.{length, take, drop, replicate, length-append, length-drop, length
 use lib.Seq.{length-take-le, take-append-seam, drop-drop, drop-at}
 use Rattle.mesh.specs.declared.Split.{Split}
 use Rattle.mesh.specs.declared.Blend.{Blend}
-use Rattle.mesh.specs.Range.{each, joined}
+use Rattle.axis.specs.Range.{each, joined}
 use Rattle.mesh.specs.Weight.{Term}
-use Rattle.mesh.proofs.Tests.{either, and-both, and-of, false-of, cond-true, cond-false}
+use Rattle.axis.proofs.Tests.{either, and-both, and-of, false-of, cond-true, cond-false}
 use Rattle.maps.specs.declared.Map.{Map}
 use Rattle.maps.specs.declared.Changed.{Changed}
 use Rattle.maps.specs.Plain.{Plain, freshPlain, blends}
@@ -22,7 +22,8 @@ use Rattle.maps.specs.Calls.{changed}
 use Rattle.files.specs.File.{splitEntry, valueEntry, tail, fileOf, wordAt, splitCount, splitAt, guessed, sameBytes}
 use Rattle.files.specs.Calls.{readFile}
 use Rattle.files.proofs.Taking.{one-more, no-more}
-use Rattle.files.proofs.Words.{word-from, number-read, same-bytes, bytes-same, joined-length, past-entry, each-length, each-read}
+use Rattle.files.proofs.Words.{word-from, number-read, same-bytes, bytes-same, joined-length, past-entry, each-read}
+use Rattle.axis.proofs.Members.{each-length}
 
 -- a split's numbers, and a map's, are numbers of 16 bits; its values are as many as its blends
 pub record Small (s : Split) : Type 0 where

@@ -9,14 +9,16 @@ use borrow.Author.Tests.{ltb-true, ltb-false, eqb-true, eqb-false}
 use lib.Dec.{ltb, eqb}
 use lib.ListN.{length, take, getD, length-append}
 use lib.Seq.{take-all}
-use Rattle.mesh.specs.declared.Triple.{Triple}
+use Rattle.axis.specs.declared.Triple.{Triple}
 use Rattle.mesh.specs.Weight.{Term}
-use Rattle.mesh.specs.Range.{joined}
-use Rattle.mesh.specs.Bytes.{Rises, Proper}
-use Rattle.mesh.proofs.Tests.{either}
+use Rattle.axis.specs.Range.{joined}
+use Rattle.axis.specs.Triple.{Rises}
+use Rattle.mesh.specs.Bytes.{Proper}
+use Rattle.axis.proofs.Tests.{either}
 use Rattle.files.specs.Inner.{Puts}
 use Rattle.files.specs.Listing.{digits, spaced, ended, knots, line}
-use Rattle.files.proofs.Putting.{put-none, put-length, joined-more}
+use Rattle.files.proofs.Putting.{put-none, put-length}
+use Rattle.axis.proofs.Members.{joined-more}
 use Rattle.files.proofs.Texts.{puts-then, one-digit, more-digits, outer-coordinate, inner-coordinate}
 
 -- a number that is less than ten times another has at most one digit more

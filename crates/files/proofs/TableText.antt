@@ -9,9 +9,9 @@ use mathlib.Core.List.{List, _++_}
 use borrow.Author.Tests.{lt-ltb, le-ltb, eq-eqb, eqb-true}
 use lib.Dec.{eqb, ltb}
 use lib.ListN.{length, length-append}
-use Rattle.mesh.specs.Range.{joined}
+use Rattle.axis.specs.Range.{joined}
 use Rattle.mesh.specs.declared.Table.{Table}
-use Rattle.mesh.proofs.Tests.{either, and-both, false-of}
+use Rattle.axis.proofs.Tests.{either, and-both, false-of}
 use Rattle.maps.specs.declared.Map.{Map}
 use Rattle.maps.specs.declared.Changed.{Changed}
 use Rattle.maps.specs.Record.{recordOf, plain, good, opened}

@@ -12,12 +12,13 @@ use lib.Dec.{leb, eqb}
 use lib.ListN.{length, getD, set, drop, replicate, drop-of-length-le}
 use lib.Seq.{set-at, drop-cons}
 use Rattle.mesh.specs.declared.Split.{Split}
-use Rattle.mesh.specs.Range.{each}
+use Rattle.axis.specs.Range.{each}
 use Rattle.maps.specs.declared.Map.{Map}
 use Rattle.maps.specs.Record.{noSplit, recordOf}
-use Rattle.mesh.proofs.Tests.{either, and-both, and-of, false-of, cond-true, cond-false}
+use Rattle.axis.proofs.Tests.{either, and-both, and-of, false-of, cond-true, cond-false}
 use Rattle.files.specs.File.{wordAt, splitCount, splitAt, guessed, sameBytes}
-use Rattle.files.proofs.Words.{same-bytes, each-length}
+use Rattle.files.proofs.Words.{same-bytes}
+use Rattle.axis.proofs.Members.{each-length}
 
 -- Splits in a row: one more where a whole entry of kind 2 stands, no more where none does.
 module _ (bytes : List ℕ) where

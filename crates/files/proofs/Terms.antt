@@ -10,10 +10,10 @@ use Rattle.mesh.specs.declared.Table.{Table}
 use Rattle.mesh.specs.Sound.{none, blendsOf}
 use Rattle.mesh.specs.Weight.{Term}
 use Rattle.mesh.specs.Bytes.{Proper}
-use Rattle.mesh.specs.Range.{joined}
+use Rattle.axis.specs.Range.{joined}
 use Rattle.maps.specs.declared.Map.{Map}
 use Rattle.maps.specs.Values.{paired}
-use Rattle.maps.proofs.Exact.{entry}
+use Rattle.axis.proofs.Members.{entry}
 use Rattle.files.specs.Inner.{Listed, terms, filed}
 use Rattle.files.specs.File.{word, put, head, splitEntry, valueEntry, tail}
 use Rattle.files.proofs.Words.{joined-length}

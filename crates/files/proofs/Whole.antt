@@ -8,7 +8,7 @@ use mathlib.Core.List.{List}
 use borrow.Author.Tests.{leb-true, le-leb}
 use lib.Dec.{leb}
 use lib.ListN.{length, take, drop}
-use Rattle.mesh.proofs.Tests.{either, and-both, false-of}
+use Rattle.axis.proofs.Tests.{either, and-both, false-of}
 use Rattle.files.specs.File.{wordAt}
 use Rattle.files.specs.Calls.{whole, payloadNumber, payloadAt}
 

@@ -8,8 +8,8 @@ use borrow.Author.Tests.{eqb-true, eq-eqb}
 use lib.Dec.{eqb}
 use lib.ListN.{length, drop, length-append}
 use lib.Seq.{getD-drop, drop-drop, drop-at}
-use Rattle.mesh.specs.Range.{each, joined}
-use Rattle.mesh.proofs.Tests.{and-both, and-of, true-not-false}
+use Rattle.axis.specs.Range.{each, joined}
+use Rattle.axis.proofs.Tests.{and-both, and-of, true-not-false}
 use Rattle.files.specs.File.{word, wordAt, sameBytes}
 
 little : (n : ℕ) → n < 65536 → wordAt (word n) 0 ≡ n
@@ -43,11 +43,6 @@ bytes-same xs ys e = rw (← e) (self xs)
     self : (xs : List ℕ) → sameBytes xs xs ≡ true
     self [] = refl
     self (x ∷ xs) = and-of _ _ (eq-eqb x x refl) (self xs)
-
--- one entry for each number of a run
-pub each-length : {A : Type 0} (k n : ℕ) (got : ℕ → A) → length (each k n (λ i. got i ∷ [])) ≡ n
-each-length k zero got = refl
-each-length k (suc n) got = ap suc (each-length (k + 1) n got)
 
 -- Entries of one length in a row:
 module _ {A : Type 0} (entry : A → List ℕ) (size : ℕ) (long : (x : A) → length (entry x) ≡ size) where

@@ -2,7 +2,7 @@
 use Prim.Native.Nat.{ℕ, _-_}
 use mathlib.Core.Path.{_≡_}
 use mathlib.Core.List.{List, [], _∷_, _++_, map, List·Memᴰ}
-use Rattle.mesh.specs.Range.{joined}
+use Rattle.axis.specs.Range.{joined}
 use Rattle.mesh.specs.Weight.{Term}
 use Rattle.maps.specs.declared.Map.{Map}
 use Rattle.maps.specs.Plain.{Plain, freshPlain, blends}

@@ -4,7 +4,7 @@ use mathlib.Core.Path.{_≡_}
 use mathlib.Core.List.{List, [], _∷_, _++_}
 use lib.ListN.{length, take}
 use Rattle.mesh.specs.declared.Table.{Table}
-use Rattle.mesh.specs.Range.{joined}
+use Rattle.axis.specs.Range.{joined}
 use Rattle.mesh.specs.Sound.{blendsOf}
 use Rattle.mesh.specs.Bytes.{AllProper}
 use Rattle.mesh.specs.Weight.{Term}

@@ -4,8 +4,8 @@ use mathlib.Core.Bool.{cond}
 use mathlib.Core.List.{List, [], _∷_, _++_}
 use lib.Dec.{ltb, eqb}
 use lib.ListN.{length, drop}
-use Rattle.mesh.specs.declared.Triple.{Triple}
-use Rattle.mesh.specs.Range.{joined}
+use Rattle.axis.specs.declared.Triple.{Triple}
+use Rattle.axis.specs.Range.{joined}
 use Rattle.mesh.specs.Weight.{Term}
 use Rattle.maps.specs.Plain.{Plain, blends}
 use Rattle.maps.specs.Record.{plain}

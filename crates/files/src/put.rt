@@ -3,12 +3,12 @@ use crate::bytes::put_word;
 use maps::Map;
 use mesh::Split;
 use mesh::Table;
-use mesh::knots;
+use axis::knots;
 ghost use mathlib.Core.Path.{_≡_};
 ghost use mathlib.Core.List.{_++_};
 ghost use Prim.Native.Nat.{ℕ, _+_, _-_, _*_, _≤_};
 ghost use lib.ListN.{length, take};
-ghost use Rattle.mesh.specs.Range.{joined};
+ghost use Rattle.axis.specs.Range.{joined};
 ghost use Rattle.files.specs.File.{word, put, splitEntry, valueEntry};
 ghost use Rattle.files.specs.Inner.{valueNumbers, Listed, terms, filed};
 

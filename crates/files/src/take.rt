@@ -6,7 +6,7 @@ ghost use mathlib.Core.Path.{_≡_};
 ghost use mathlib.Core.List.{[], _∷_, _++_};
 ghost use Prim.Native.Nat.{ℕ, _+_, _-_, _*_, _/_, _≤_};
 ghost use lib.ListN.{length, replicate};
-ghost use Rattle.mesh.specs.Range.{each};
+ghost use Rattle.axis.specs.Range.{each};
 ghost use Rattle.maps.specs.Record.{noSplit, recordOf};
 ghost use Rattle.files.specs.File.{wordAt, splitCount, splitAt, guessed, sameBytes};
 

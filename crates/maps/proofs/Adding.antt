@@ -6,17 +6,19 @@ use mathlib.Core.Path.{_≡_, subst, _∙_}
 use mathlib.Core.Bool.{true, false}
 use mathlib.Core.List.{List, [], _∷_}
 use lib.ListN.{length}
-use Rattle.mesh.specs.Range.{all, only}
-use Rattle.mesh.specs.Triple.{Fraction}
-use Rattle.mesh.specs.Weight.{Equal, plus, times, whole, weight, value}
+use Rattle.axis.specs.Range.{all, only}
+use Rattle.axis.specs.Fraction.{Fraction, Equal, plus, times, whole}
+use Rattle.mesh.specs.Weight.{weight, value}
 use Rattle.mesh.specs.Sound.{overSquare, proper}
 use Rattle.mesh.specs.declared.Blend.{Blend}
-use Rattle.mesh.proofs.Tests.{and-both}
+use Rattle.axis.proofs.Tests.{and-both}
 use Rattle.mesh.proofs.Places.{ProperIn, proper-of}
 use Rattle.mesh.proofs.Weights.{weight-den}
-use Rattle.maps.specs.Values.{gap, share, paired}
-use Rattle.maps.proofs.Sums.{multiple-equal, plus-next, mixed, plus-zero, plus-mixed, rounds-same}
-use Rattle.maps.proofs.Over.{End, denominator-positive, denominator-most, numerator-most, weight-shares, weight-outside}
+use Rattle.axis.specs.Gap.{gap, share}
+use Rattle.maps.specs.Values.{paired}
+use Rattle.axis.proofs.Sums.{multiple-equal, plus-next, mixed, plus-zero, plus-mixed, rounds-same}
+use Rattle.axis.proofs.Gaps.{End}
+use Rattle.maps.proofs.Over.{denominator-positive, denominator-most, numerator-most, weight-shares, weight-outside}
 
 -- the largest product of n denominators
 pub room : ℕ → ℕ

@@ -10,20 +10,15 @@ use lib.ListN.{length, take}
 use Rattle.mesh.specs.declared.Table.{Table}
 use Rattle.mesh.specs.Blends.{same}
 use Rattle.mesh.specs.Sound.{blendsOf}
-use Rattle.mesh.proofs.Tests.{either, true-not-false, and-both}
+use Rattle.axis.proofs.Tests.{either, true-not-false, and-both}
 use Rattle.maps.specs.declared.Map.{Map}
 use Rattle.maps.specs.declared.Same.{Same}
 use Rattle.maps.specs.Plain.{blends}
 use Rattle.maps.specs.Record.{plain, good}
-use Rattle.maps.specs.Sameness.{agree, samePlain, sameness, sameIn}
+use Rattle.axis.specs.Range.{agree}
+use Rattle.maps.specs.Sameness.{samePlain, sameness, sameIn}
 use Rattle.maps.proofs.Recording.{GoodMap, few, live-blends, live-count, live-values}
-
--- lists that agree entry by entry have one length
-pub agree-length {ℓ} : {A : Type ℓ} (test : A → A → Bool) (xs ys : List A) → agree test xs ys ≡ true → length xs ≡ length ys
-agree-length test [] [] e = refl
-agree-length test [] (y ∷ ys) e = absurd (true-not-false _ e refl)
-agree-length test (x ∷ xs) [] e = absurd (true-not-false _ e refl)
-agree-length test (x ∷ xs) (y ∷ ys) e = ap suc (agree-length test xs ys (and-both (test x y) _ e .1))
+use Rattle.axis.proofs.Entries.{agree-length}
 
 abbrev answer : Bool → Same
 answer b = record { number = 0; yes = b }

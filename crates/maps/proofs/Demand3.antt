@@ -11,7 +11,7 @@ use Rattle.mesh.specs.declared.Split.{Split}
 use Rattle.mesh.specs.Lines.{allowedSide}
 use Rattle.mesh.specs.Blends.{live}
 use Rattle.mesh.specs.Order.{Coarser}
-use Rattle.mesh.proofs.Tests.{either, and-of, same-test, cond-true}
+use Rattle.axis.proofs.Tests.{either, and-of, same-test, cond-true}
 use Rattle.mesh.proofs.Order.{same-steps}
 use Rattle.maps.specs.Plain.{Plain, freshPlain, blends}
 use Rattle.maps.specs.Splits.{given, exactNumber, chosen, drawn}

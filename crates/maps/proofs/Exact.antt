@@ -9,56 +9,25 @@ use mathlib.Core.List.{List, [], _∷_, map, List·Memᴰ, List·Memᴰ·cases-c
 use mathlib.Core.List.List·Memᴰ.{List·Memᴰ·head, List·Memᴰ·tail}
 use lib.ListN.{length, getD, set}
 use Rattle.mesh.specs.declared.Blend.{Blend}
-use Rattle.mesh.specs.Triple.{Fraction}
+use Rattle.axis.specs.Fraction.{Fraction, total}
 use Rattle.mesh.specs.Lines.{Mesh}
 use Rattle.mesh.specs.Blends.{live}
 use Rattle.mesh.specs.Sound.{none, proper, fourEverywhere, noneNested, sound}
-use Rattle.mesh.specs.Weight.{Term, weight, total, value}
-use Rattle.mesh.proofs.Tests.{and-both}
-use Rattle.mesh.proofs.Distinct.{Distinct}
+use Rattle.mesh.specs.Weight.{Term, weight, value}
+use Rattle.axis.proofs.Tests.{and-both}
+use Rattle.axis.specs.Range.{Distinct}
 use Rattle.mesh.proofs.Order.{cut-or-not}
-use Rattle.mesh.proofs.Scale.{Multiple, common, Scaled, scaled-total, total-positive, sum}
+use Rattle.axis.proofs.Scale.{Multiple, common, Scaled, scaled-total, total-positive, sum, scaled-nothing, scaled-whole}
 use Rattle.mesh.proofs.Live.{proper-rises, AllProper}
 use Rattle.mesh.proofs.Weights.{scaledWeight, scaled-weight, scaled-value, weight-den, Covered, terms-reproduced}
 use Rattle.mesh.proofs.SoundMaps.{live-proper, live-distinct, weights-add-up, one-at-anchor, none-at-anchor}
 use Rattle.maps.specs.Values.{paired, rounded, readingAt}
+use Rattle.axis.proofs.Members.{entry}
 
 -- a fraction rounds down to what its multiple, divided again, does
 pub scaled-rounded : (S : ℕ) (x : Fraction) (n : ℕ) → 0 < S → 0 < x .den → Scaled S x n → rounded x ≡ n / S
 scaled-rounded S x n s-pos d-pos e =
     sym (mul-div-mul-right (x .num) (x .den) s-pos) ∙ rw (← e, mul-comm (x .den) S) (mul-div-mul-right n S d-pos)
-
--- nothing, and one, at a scale
-pub scaled-nothing : (S : ℕ) (x : Fraction) (n : ℕ) → 0 < x .den → x .num ≡ 0 → Scaled S x n → n ≡ 0
-scaled-nothing S x n pos none e = eq-of-mul-eq-mul-right (x .den) pos _ _ (omega (arith, ap (λ (m : ℕ). m * S) none))
-
-pub scaled-whole : (S : ℕ) (x : Fraction) (n : ℕ) → 0 < x .den → x .num ≡ x .den → Scaled S x n → n ≡ S
-scaled-whole S x n pos one e = eq-of-mul-eq-mul-right (x .den) pos _ _ (omega (arith, ap (λ (m : ℕ). m * S) one))
-
--- Lists by place: what stands at a place is in the list,
-pub entry {ℓ} : {A : Type ℓ} (xs : List A) (i : ℕ) (d : A) → i < length xs → List·Memᴰ (getD xs i d) xs
-entry [] i d lt = absurd (omega arith)
-entry (x ∷ xs) zero d lt = List·Memᴰ·head refl
-entry (x ∷ xs) (suc i) d lt = List·Memᴰ·tail (entry xs i d (omega arith))
-
--- what is in the list stands at some place,
-pub placed {ℓ} : {A : Type ℓ} (xs : List A) (x d : A) → List·Memᴰ x xs → (i : ℕ) × (i < length xs) × (getD xs i d ≡ x)
-placed (y ∷ ys) x d m =
-    ⊎-elim (λ q. (0, omega arith, sym q)) (λ n. let r = placed ys x d n in (suc (r .0), omega (arith, r .1), r .2)) (List·Memᴰ·cases-cons m)
-
--- a mapped list has at a place what is mapped there,
-pub entry-map {ℓ ℓ′} : {A : Type ℓ} {B : Type ℓ′} (f : A → B) (xs : List A) (i : ℕ) (d : A) (e : B) → i < length xs →
-    getD (map f xs) i e ≡ f (getD xs i d)
-entry-map f [] i d e lt = absurd (omega arith)
-entry-map f (x ∷ xs) zero d e lt = refl
-entry-map f (x ∷ xs) (suc i) d e lt = entry-map f xs i d e (omega arith)
-
--- and a set place brings in only what it is set to.
-pub set-mem {ℓ} : {A : Type ℓ} (xs : List A) (i : ℕ) (v x : A) → List·Memᴰ x (set xs i v) → (x ≡ v) ⊎ List·Memᴰ x xs
-set-mem [] i v x m = inr m
-set-mem (y ∷ ys) zero v x m = ⊎-elim inl (λ n. inr (List·Memᴰ·tail n)) (List·Memᴰ·cases-cons m)
-set-mem (y ∷ ys) (suc i) v x m =
-    ⊎-elim (λ q. inr (List·Memᴰ·head q)) (λ n. ⊎-elim inl (λ k. inr (List·Memᴰ·tail k)) (set-mem ys i v x n)) (List·Memᴰ·cases-cons m)
 
 -- sums over blends with their values, each value times some measure of its blend
 module _ (g : Blend → ℕ) where

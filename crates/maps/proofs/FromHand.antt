@@ -7,10 +7,10 @@ use borrow.Author.Tests.{leb-true, le-leb, eq-eqb, ltb-true}
 use lib.Dec.{leb, ltb}
 use lib.ListN.{length}
 use Rattle.mesh.specs.declared.Table.{Table}
-use Rattle.mesh.specs.Range.{all}
+use Rattle.axis.specs.Range.{all}
 use Rattle.mesh.specs.Lines.{allowedSide}
 use Rattle.mesh.specs.Sound.{proper, blendsOf, withinSides}
-use Rattle.mesh.proofs.Tests.{either, and-both, cond-true, cond-false}
+use Rattle.axis.proofs.Tests.{either, and-both, cond-true, cond-false}
 use Rattle.maps.specs.declared.Map.{Map}
 use Rattle.maps.specs.Record.{plain}
 use Rattle.maps.specs.Calls.{tablePlace, reading, weights, fitting, overIn, placeIn, readingIn, weightsIn}

@@ -12,7 +12,7 @@ use lib.ListN.{length, getD}
 use Rattle.mesh.specs.declared.Split.{Split}
 use Rattle.mesh.specs.declared.Blend.{Blend}
 use Rattle.mesh.specs.Sound.{none}
-use Rattle.mesh.proofs.Tests.{either, and-both, and-of}
+use Rattle.axis.proofs.Tests.{either, and-both, and-of}
 use Rattle.mesh.proofs.Places.{proper-facts}
 use Rattle.maps.specs.declared.Reading.{Reading}
 use Rattle.maps.specs.Plain.{Plain, blends}
@@ -21,7 +21,7 @@ use Rattle.maps.specs.Splits.{soundWith, exactNumber, drawn}
 use Rattle.maps.specs.Record.{recordOf}
 use Rattle.maps.specs.Calls.{tablePlace, reading}
 use Rattle.maps.specs.Demand.{Gentle}
-use Rattle.maps.proofs.Exact.{entry}
+use Rattle.axis.proofs.Members.{entry}
 use Rattle.maps.proofs.InHand.{exact-says}
 use Rattle.maps.proofs.Good.{Holds, record-good}
 use Rattle.maps.proofs.Readings.{blends-proper, drawn-reading, drawn-anchor}

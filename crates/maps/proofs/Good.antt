@@ -9,13 +9,13 @@ use lib.Dec.{eqb}
 use lib.ListN.{length, take, drop, replicate, length-append, length-drop, length-set, length-map, take-append-drop}
 use lib.Seq.{length-take-le, take-append-seam, drop-append-seam}
 use Rattle.mesh.specs.declared.Split.{Split}
-use Rattle.mesh.specs.Range.{all}
+use Rattle.axis.specs.Range.{all}
 use Rattle.mesh.specs.Blends.{firstFour}
 use Rattle.mesh.specs.Lines.{allowedSide, allowed, inRange}
 use Rattle.mesh.specs.Sound.{sound, table}
 use Rattle.mesh.proofs.Fresh.{fresh-live}
 use Rattle.mesh.proofs.AtMost.{at-most}
-use Rattle.mesh.proofs.Tests.{and-both, and-of}
+use Rattle.axis.proofs.Tests.{and-both, and-of, all-append}
 use Rattle.maps.specs.declared.Map.{Map}
 use Rattle.maps.specs.Plain.{Plain, freshPlain, blends}
 use Rattle.maps.specs.Splits.{given, exactNumber, withLine, drawn}
@@ -24,27 +24,7 @@ use Rattle.maps.specs.Calls.{setPlain}
 use Rattle.maps.specs.Inner.{linesOf, InHand}
 use Rattle.maps.proofs.InHand.{hand-sides, hand-fresh, exact-says}
 use Rattle.maps.proofs.Replay.{start, isZero, good-passes, passes-good}
-
--- Lists padded to a length with one entry that a test knows:
-module _ {ℓ} {A : Type ℓ} (test : A → Bool) (d : A) where
-  pub padding-passes : test d ≡ true → (n : ℕ) → all test (replicate n d) ≡ true
-  padding-passes e zero = refl
-  padding-passes e (suc n) = and-of _ _ e (padding-passes e n)
-
-  module _ (only-d : (x : A) → test x ≡ true → x ≡ d) where
-    all-padding : (xs : List A) → all test xs ≡ true → xs ≡ replicate (length xs) d
-    all-padding [] e = refl
-    all-padding (x ∷ xs) e =
-        let a = and-both (test x) (all test xs) e in
-        ap (λ (y : A). y ∷ xs) (only-d x (a .0)) ∙ ap (λ (l : List A). d ∷ l) (all-padding xs (a .1))
-
-    -- what is used of such a list, padded again, is the list
-    pub padded : (xs : List A) (n k : ℕ) → length xs ≡ n → k ≤ n → all test (drop k xs) ≡ true →
-        take k xs ++ replicate (n - length (take k xs)) d ≡ xs
-    padded xs n k full le e =
-        let used : length (take k xs) ≡ k = length-take-le k xs (omega arith) in
-        let left : n - length (take k xs) ≡ length (drop k xs) = rw (used, length-drop, full) in
-        rw (left, ← all-padding (drop k xs) e) (take-append-drop k xs)
+use Rattle.axis.proofs.Filling.{padded, padding-passes}
 
 -- the test of a split that is zero
 blank-split : (s : Split) → isNoSplit s ≡ true → s ≡ noSplit
@@ -57,11 +37,6 @@ blank-split s e =
     let u = eqb-true _ _ (b .1) in
     let v = eqb-true _ _ (c .1) in
     λ i. record { direction = p i; position = q i; from = u i; to = v i }
-
-all-join : {A : Type 0} (test : A → Bool) (xs ys : List A) → all test xs ≡ true → all test ys ≡ true → all test (xs ++ ys) ≡ true
-all-join test [] ys p q = q
-all-join test (x ∷ xs) ys p q =
-    let a = and-both (test x) (all test xs) p in and-of _ _ (a .0) (all-join test xs ys (a .1) q)
 
 abbrev pub withLines : Plain → List Split → Plain
 withLines P ss = record { w = P .w; h = P .h; splits = P .splits ++ ss; values = P .values }
@@ -79,7 +54,7 @@ accepted-stands (s ∷ ss) P ok e =
     let r = exact-says P s (eqb-true _ _ (a .0)) in
     rw (← append-assoc (P .splits) (s ∷ []) ss)
     (accepted-stands ss (withLine P s)
-    (record { ranges = all-join _ (P .splits) (s ∷ []) (ok .ranges) (and-of _ true (r .0 .fits) refl); is-sound = r .1 })
+    (record { ranges = all-append _ (P .splits) (s ∷ []) (ok .ranges) (and-of _ true (r .0 .fits) refl); is-sound = r .1 })
     (a .1))
 
 -- lines that a good record may have

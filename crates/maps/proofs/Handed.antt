@@ -10,7 +10,7 @@ use Rattle.mesh.specs.declared.Split.{Split}
 use Rattle.mesh.specs.declared.Lines.{Lines}
 use Rattle.mesh.specs.declared.Table.{Table}
 use Rattle.mesh.specs.Sound.{table, blendsOf}
-use Rattle.mesh.proofs.Tests.{either, true-not-false, and-both, and-of, and-fails, cond-true, cond-false}
+use Rattle.axis.proofs.Tests.{either, true-not-false, and-both, and-of, and-fails, cond-true, cond-false}
 use borrow.Author.Tests.{lt-ltb, ltb-true, ltb-false, le-leb, eqb-true}
 use lib.Dec.{ltb, leb, eqb}
 use Rattle.maps.specs.declared.Map.{Map}

@@ -14,12 +14,12 @@ use Rattle.mesh.specs.declared.Split.{Split}
 use Rattle.mesh.specs.declared.Lines.{Lines}
 use Rattle.mesh.specs.declared.Table.{Table}
 use Rattle.mesh.specs.declared.Refined.{Refined}
-use Rattle.mesh.specs.Range.{all, any}
+use Rattle.axis.specs.Range.{all, any}
 use Rattle.mesh.specs.Lines.{mesh, splitsOf, allowed, allowedSide, inRange, shares, ended}
 use Rattle.mesh.specs.Lines as lines
 use Rattle.mesh.specs.Blends.{isCut, live, firstFour}
 use Rattle.mesh.specs.Sound.{table, proper, blendsOf, full, fitted, refined, someCut}
-use Rattle.mesh.proofs.Tests.{and-both, and-of, all-at, all-of}
+use Rattle.axis.proofs.Tests.{and-both, and-of, all-at, all-of}
 use Rattle.mesh.proofs.Drawing.{Allowed, allowed-says}
 pub use Rattle.mesh.proofs.Refining.{table-blends, table-count}
 use Rattle.mesh.proofs.Refining.{Ranged, is-cut, is-refined}

@@ -14,11 +14,10 @@ use lib.Seq.{getD-set-same, getD-set-other, getD-take, take-length, take-suc, le
 use Rattle.mesh.specs.declared.Blend.{Blend}
 use Rattle.mesh.specs.declared.Table.{Table}
 use Rattle.mesh.specs.Blends.{anchored}
-use Rattle.mesh.specs.Range.{all}
+use Rattle.axis.specs.Range.{all, Distinct}
 use Rattle.mesh.specs.Sound.{none, proper, sound, table, blendsOf}
 use Rattle.mesh.specs.Bytes.{at, place}
-use Rattle.mesh.proofs.Tests.{either, all-of, and-of, true-not-false, cond-true, cond-false}
-use Rattle.mesh.proofs.Distinct.{Distinct}
+use Rattle.axis.proofs.Tests.{either, all-of, and-of, true-not-false, cond-true, cond-false}
 use Rattle.mesh.proofs.Tables.{anchored-at}
 use Rattle.mesh.proofs.Places.{proper-facts, at-inj}
 use Rattle.mesh.proofs.Live.{AllProper}
@@ -27,7 +26,7 @@ use Rattle.mesh.proofs.SoundMaps.{live-proper, live-distinct, own-anchors}
 use Rattle.maps.specs.Values.{placeOf, readingAt, carried}
 use Rattle.maps.specs.Plain.{Plain, meshOf, blends}
 use Rattle.maps.specs.Inner.{anchorIndex, InTable}
-use Rattle.maps.proofs.Exact.{entry, placed}
+use Rattle.axis.proofs.Members.{entry, placed}
 use Rattle.maps.proofs.Readings.{Valued, place-found}
 use Rattle.maps.proofs.InHand.{table-blends, table-count}
 

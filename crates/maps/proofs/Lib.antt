@@ -2,7 +2,6 @@ pub mod Adding
 pub mod Agreeing
 pub mod Demand3
 pub mod Exact
-pub mod Filling
 pub mod Following
 pub mod FromHand
 pub mod Gentle
@@ -19,5 +18,4 @@ pub mod Recording
 pub mod Replay
 pub mod Replayed3
 pub mod Squares
-pub mod Sums
 pub mod Tabled

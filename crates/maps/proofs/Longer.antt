@@ -11,9 +11,9 @@ use lib.ListN.{take}
 use Rattle.mesh.specs.declared.Split.{Split}
 use Rattle.mesh.specs.declared.Lines.{Lines}
 use Rattle.mesh.specs.declared.Table.{Table}
-use Rattle.mesh.specs.Range.{each, only}
+use Rattle.axis.specs.Range.{each, only}
 use Rattle.mesh.specs.Lines.{upright, level, inRange, shares, ended, fits}
-use Rattle.mesh.proofs.Tests.{either, and-both, and-of, false-of, cond-true, cond-false, each-turn, each-none}
+use Rattle.axis.proofs.Tests.{either, and-both, and-of, false-of, cond-true, cond-false, each-turn, each-none}
 use Rattle.mesh.proofs.Drawing.{in-range-says}
 use Rattle.maps.specs.declared.splits.Step.{Step}
 use Rattle.maps.specs.declared.splits.Found.{Found}

@@ -10,11 +10,11 @@ use lib.Dec.{leb, ltb, eqb}
 use lib.ListN.{length, take}
 use Rattle.mesh.specs.declared.Split.{Split}
 use Rattle.mesh.specs.declared.Blend.{Blend}
-use Rattle.mesh.specs.Range.{each, any, only}
+use Rattle.axis.specs.Range.{each, any, only}
 use Rattle.mesh.specs.Lines.{Mesh, Direction, upright, level, number, side, other, mesh, freshMesh, draws, inRange, start, end, shares, ended}
 use Rattle.mesh.specs.Blends.{cutter, isCut}
 use Rattle.mesh.specs.Order.{Coarser}
-use Rattle.mesh.proofs.Tests.{either, true-not-false, and-both, and-of, or-either, or-left, or-right, any-at, any-of, only-mem, each-mem}
+use Rattle.axis.proofs.Tests.{either, true-not-false, and-both, and-of, or-either, or-left, or-right, any-at, any-of, only-mem, each-mem}
 use Rattle.mesh.proofs.Cuts.{RiseB, cutter-none, cutter-cuts}
 use Rattle.mesh.proofs.Order.{finer-cuts}
 use Rattle.mesh.proofs.Live.{proper-rises}

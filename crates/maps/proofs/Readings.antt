@@ -13,24 +13,24 @@ use lib.ListN.{length, getD, length-map, length-set}
 use lib.Seq.{getD-set-same, getD-set-other}
 use Rattle.mesh.specs.declared.Split.{Split}
 use Rattle.mesh.specs.declared.Blend.{Blend}
-use Rattle.mesh.specs.Range.{any}
+use Rattle.axis.specs.Range.{any}
 use Rattle.mesh.specs.Lines.{mesh, freshMesh, draws}
 use Rattle.mesh.specs.Blends.{anchored}
 use Rattle.mesh.specs.Order.{Coarser}
 use Rattle.mesh.specs.Sound.{none, proper, sound}
-use Rattle.mesh.proofs.Tests.{either, and-both, or-either, or-left, or-right, any-at, any-of, cond-true, cond-false}
+use Rattle.axis.proofs.Tests.{either, and-both, or-either, or-left, or-right, any-at, any-of, cond-true, cond-false}
 use Rattle.mesh.proofs.Order.{finer-back, keeps-anchor}
 use Rattle.mesh.proofs.Places.{proper-facts}
 use Rattle.mesh.proofs.Live.{AllProper, proper-rises}
-use Rattle.mesh.proofs.Few.{map-mem}
-use Rattle.mesh.proofs.Scale.{sum, sum-same}
+use Rattle.axis.proofs.Members.{map-mem, entry, placed, entry-map, set-mem}
+use Rattle.axis.proofs.Scale.{sum, sum-same}
 use Rattle.mesh.proofs.Weights.{Covered}
 use Rattle.mesh.proofs.SoundMaps.{live-left, live-proper, live-distinct}
 use Rattle.maps.specs.Plain.{Plain, meshOf, blends}
 use Rattle.maps.specs.Values.{readingAt, placeOf, carried}
 use Rattle.maps.specs.Splits.{withLine, drawn}
 use Rattle.maps.specs.Calls.{setPlain}
-use Rattle.maps.proofs.Exact.{entry, placed, entry-map, set-mem, paired-single, paired-most, paired-map, means-between, scale, scale-positive, part, exact, reading-rounds, part-own, part-other, parts-one, exact-reproduced}
+use Rattle.maps.proofs.Exact.{paired-single, paired-most, paired-map, means-between, scale, scale-positive, part, exact, reading-rounds, part-own, part-other, parts-one, exact-reproduced}
 
 -- the place of an anchor in a table, blend by blend
 module _ (B : Blend) (bs : List Blend) (m n : ℕ) where

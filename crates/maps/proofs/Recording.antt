@@ -18,11 +18,11 @@ use Rattle.mesh.specs.declared.Lines.{Lines}
 use Rattle.mesh.specs.declared.Table.{Table}
 use Rattle.mesh.specs.Lines.{shares, ended}
 use Rattle.mesh.specs.Sound.{none, proper, sound, table, blendsOf}
-use Rattle.mesh.specs.Range.{all, only}
+use Rattle.axis.specs.Range.{all, only}
 use Rattle.mesh.proofs.SoundMaps.{live-proper}
 use Rattle.mesh.proofs.Places.{proper-facts}
 use Rattle.mesh.proofs.AtMost.{at-most}
-use Rattle.mesh.proofs.Tests.{only-mem, all-of, either, and-both, true-not-false, cond-true, cond-false}
+use Rattle.axis.proofs.Tests.{only-mem, all-of, either, and-both, true-not-false, cond-true, cond-false}
 use Rattle.maps.specs.declared.Map.{Map}
 use Rattle.maps.specs.declared.splits.Step.{Step}
 use Rattle.maps.specs.declared.splits.Found.{Found}
@@ -30,12 +30,11 @@ use Rattle.maps.specs.declared.record.Opened.{Opened}
 use Rattle.maps.specs.Plain.{Plain, meshOf, blends}
 use Rattle.maps.specs.Values.{placeOf, carried}
 use Rattle.maps.specs.Splits.{given, exactNumber, containing, candidate, chosen, drawn, withLine, soundWith}
-use Rattle.maps.specs.Record.{noSplit, recordOf, bare, plain, good}
+use Rattle.maps.specs.Record.{noSplit, recordOf, bare, plain, good, opened}
 use Rattle.maps.specs.Calls.{changed, drawnFirst, setPlain, setValue}
 use Rattle.maps.specs.Inner.{linesOf, held, InHand, InTable, stepped, found, carriedArray}
-use Rattle.maps.specs.Record.{opened}
 use Rattle.maps.proofs.Map.{the-type}
-use Rattle.maps.proofs.Exact.{entry}
+use Rattle.axis.proofs.Members.{entry}
 use Rattle.maps.proofs.Readings.{place-found}
 use Rattle.maps.proofs.Replay.{opened-good, opened-table}
 use Rattle.maps.proofs.Good.{GoodFacts, good-facts}

@@ -11,26 +11,18 @@ use lib.ListN.{length, getD, take, drop, drop-of-length-le}
 use lib.Seq.{drop-cons}
 use Rattle.mesh.specs.declared.Split.{Split}
 use Rattle.mesh.specs.declared.Replayed.{Replayed}
-use Rattle.mesh.specs.Range.{all, any}
+use Rattle.axis.specs.Range.{all, any}
 use Rattle.mesh.specs.Lines.{allowedSide, inRange, shares, ended}
 use Rattle.mesh.specs.Blends.{isCut}
 use Rattle.mesh.specs.Sound.{table}
 use Rattle.mesh.specs.Replay.{accepts, allAccepted, replayed}
-use Rattle.mesh.proofs.Tests.{either, true-not-false, false-of, and-both, cond-true, cond-false}
+use Rattle.axis.proofs.Tests.{either, true-not-false, false-of, and-both, cond-true, cond-false}
 use Rattle.maps.specs.declared.Map.{Map}
 use Rattle.maps.specs.declared.record.Opened.{Opened}
 use Rattle.maps.specs.Plain.{Plain, meshOf, blends}
 use Rattle.maps.specs.Splits.{given, exactNumber, withLine, soundWith}
 use Rattle.maps.specs.Record.{isNoSplit, bare, accepted, good, opened}
 use Rattle.maps.specs.Inner.{linesOf}
-
--- a test of the entries from a place on, as a loop takes them
-module _ {ℓ} {A : Type ℓ} (test : A → Bool) (xs : List A) (i : ℕ) where
-  pub rest-turn : (d : A) → i < length xs → all test (drop i xs) ≡ (test (getD xs i d) && all test (drop (i + 1) xs))
-  rest-turn d lt = rw (drop-cons xs i d lt, add-one)
-
-  pub rest-none : length xs ≤ i → all test (drop i xs) ≡ true
-  rest-none le = rw (drop-of-length-le xs le)
 
 abbrev pub isZero : ℕ → Bool
 isZero v = eqb v 0

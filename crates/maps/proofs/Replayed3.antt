@@ -15,12 +15,12 @@ use lib.Seq.{set-append-seam}
 use Rattle.mesh.specs.declared.Split.{Split}
 use Rattle.mesh.specs.declared.Blend.{Blend}
 use Rattle.mesh.specs.Blends.{anchored}
-use Rattle.mesh.proofs.Tests.{either, and-both, and-of, cond-true, cond-false}
-use Rattle.mesh.proofs.Distinct.{Distinct}
+use Rattle.axis.proofs.Tests.{either, and-both, and-of, cond-true, cond-false}
+use Rattle.axis.specs.Range.{Distinct}
 use Rattle.mesh.proofs.Ascending.{OwnAnchors}
 use Rattle.mesh.proofs.Places.{proper-facts}
 use Rattle.mesh.proofs.SoundMaps.{live-distinct, own-anchors}
-use Rattle.mesh.proofs.Few.{map-mem}
+use Rattle.axis.proofs.Members.{map-mem}
 use Rattle.maps.specs.declared.Map.{Map}
 use Rattle.maps.specs.Plain.{Plain, meshOf, blends}
 use Rattle.maps.specs.Values.{placeOf}

@@ -6,18 +6,17 @@ use mathlib.Core.Logic.{⊎-elim}
 use mathlib.Core.Bool.{Bool, true}
 use mathlib.Core.List.{List, [], _∷_, List·Memᴰ}
 use Rattle.mesh.specs.declared.Blend.{Blend}
-use Rattle.mesh.specs.Range.{only}
+use Rattle.axis.specs.Range.{only, Distinct}
 use Rattle.mesh.specs.Sound.{overSquare}
-use Rattle.mesh.proofs.Tests.{either, only-mem, mem-only}
-use Rattle.mesh.proofs.Distinct.{Distinct}
+use Rattle.axis.proofs.Tests.{either, only-mem, mem-only}
 use Rattle.mesh.proofs.Weights.{weight-den}
 use Rattle.mesh.proofs.SoundMaps.{live-distinct, weights-add-up, four-positive}
 use Rattle.maps.specs.Plain.{Plain, meshOf, blends}
-use Rattle.maps.specs.Demand.{weightThere, Inside, Apart, FourIn, AddUp}
+use Rattle.maps.specs.Demand.{weightThere, Inside, FourIn, AddUp}
 use Rattle.maps.proofs.Readings.{Valued, blends-proper}
 
 -- some of different blends are different
-only-apart : (test : Blend → Bool) (bs : List Blend) → Distinct bs → Apart (only test bs)
+only-apart : (test : Blend → Bool) (bs : List Blend) → Distinct bs → Distinct (only test bs)
 only-apart test [] d = tt
 only-apart test (B ∷ bs) d =
     ⊎-elim (λ e. rw e (λ m. d .0 (only-mem test bs B m .0), only-apart test bs (d .1))) (λ e. rw e (only-apart test bs (d .1)))

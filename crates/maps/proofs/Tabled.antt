@@ -11,7 +11,7 @@ use lib.ListN.{length, getD}
 use lib.Seq.{ext-getD}
 use Rattle.mesh.specs.declared.Blend.{Blend}
 use Rattle.mesh.specs.Sound.{none}
-use Rattle.mesh.proofs.Tests.{cond-true, cond-false}
+use Rattle.axis.proofs.Tests.{cond-true, cond-false}
 use Rattle.maps.specs.declared.Map.{Map}
 use Rattle.maps.specs.declared.Shape.{Shape}
 use Rattle.maps.specs.declared.Placed.{Placed}

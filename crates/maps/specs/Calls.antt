@@ -6,10 +6,10 @@ use lib.Dec.{leb, ltb, eqb}
 use lib.IntN.{ℤ, pos, predℤ}
 use lib.ListN.{length, getD, set, take}
 use Rattle.mesh.specs.declared.Split.{Split}
-use Rattle.mesh.specs.declared.Triple.{Triple}
+use Rattle.axis.specs.declared.Triple.{Triple}
 use Rattle.mesh.specs.declared.Blend.{Blend}
 use Rattle.mesh.specs.declared.Table.{Table}
-use Rattle.mesh.specs.Range.{only}
+use Rattle.axis.specs.Range.{only}
 use Rattle.mesh.specs.Lines.{allowedSide}
 use Rattle.mesh.specs.Sound.{none, overSquare, blendsOf, withinSides}
 use Rattle.maps.specs.declared.Map.{Map}
@@ -21,7 +21,8 @@ use Rattle.maps.specs.declared.Reading.{Reading}
 use Rattle.maps.specs.declared.Weight.{Weight}
 use Rattle.maps.specs.declared.Weights.{Weights}
 use Rattle.maps.specs.Plain.{Plain, freshPlain, blends}
-use Rattle.maps.specs.Values.{readingAt, inDomain, corner, weightAt, over, placeOf}
+use Rattle.maps.specs.Values.{readingAt, inDomain, weightAt, over, placeOf}
+use Rattle.axis.specs.Gap.{corner}
 use Rattle.maps.specs.Splits.{exactNumber, given, chosen, drawn}
 use Rattle.maps.specs.Record.{recordOf, plain, good, opened}
 

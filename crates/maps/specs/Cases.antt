@@ -4,7 +4,8 @@ use mathlib.Core.Path.{_≡_, refl}
 use mathlib.Core.List.{List, [], _∷_}
 use lib.ListN.{length, replicate}
 use Rattle.mesh.specs.declared.Split.{Split}
-use Rattle.mesh.specs.Triple as Triple
+use Rattle.axis.specs.Triple as Triple
+use Rattle.axis.specs.Nearest as Nearest
 use Rattle.mesh.specs.Lines as Lines
 use Rattle.mesh.specs.Blends as Blends
 use Rattle.mesh.specs.Sound as Sound
@@ -105,11 +106,11 @@ unfolding freshMap
 fresh-sides = (refl, refl, refl)
 
 all-starred : AllRight starred
-unfolding AllRight on starred beside Right row upright level numberOf shownBy setPlain drawn given exactNumber containing candidate chosen readingAt carried freshPlain Triple.half Triple.hat Lines.inRange Lines.draws Lines.freshMesh Lines.mesh Lines.onLine Lines.shares Lines.ended Blends.halve Blends.below Blends.above Blends.nearest Blends.isCut Blends.leaves Blends.leavesOf Blends.once Blends.inTableOrder Blends.refine Blends.live Sound.fourEverywhere Sound.noneNested Sound.sound
+unfolding AllRight on starred beside Right row upright level numberOf shownBy setPlain drawn given exactNumber containing candidate chosen readingAt carried freshPlain Triple.half Triple.hat Lines.inRange Lines.draws Lines.freshMesh Lines.mesh Lines.onLine Lines.shares Lines.ended Blends.halve Nearest.below Nearest.above Nearest.nearest Blends.isCut Blends.leaves Blends.leavesOf Blends.once Blends.inTableOrder Blends.refine Blends.live Sound.fourEverywhere Sound.noneNested Sound.sound
 all-starred = ((refl, refl, (refl, refl, (refl, refl, (refl, refl, (refl, refl, (refl, refl, tt)))))), ((refl, refl, (refl, refl, (refl, refl, (refl, refl, tt)))), ((refl, refl, (refl, refl, (refl, refl, (refl, refl, (refl, refl, tt))))), ((refl, refl, (refl, refl, (refl, refl, (refl, refl, tt)))), ((refl, refl, (refl, refl, (refl, refl, (refl, refl, (refl, refl, tt))))), tt)))))
 
 all-beside : AllRight beside
-unfolding AllRight on starred beside Right row upright level numberOf shownBy setPlain drawn given exactNumber containing candidate chosen readingAt carried freshPlain Triple.half Triple.hat Lines.inRange Lines.draws Lines.freshMesh Lines.mesh Lines.onLine Lines.shares Lines.ended Blends.halve Blends.below Blends.above Blends.nearest Blends.isCut Blends.leaves Blends.leavesOf Blends.once Blends.inTableOrder Blends.refine Blends.live Sound.fourEverywhere Sound.noneNested Sound.sound
+unfolding AllRight on starred beside Right row upright level numberOf shownBy setPlain drawn given exactNumber containing candidate chosen readingAt carried freshPlain Triple.half Triple.hat Lines.inRange Lines.draws Lines.freshMesh Lines.mesh Lines.onLine Lines.shares Lines.ended Blends.halve Nearest.below Nearest.above Nearest.nearest Blends.isCut Blends.leaves Blends.leavesOf Blends.once Blends.inTableOrder Blends.refine Blends.live Sound.fourEverywhere Sound.noneNested Sound.sound
 all-beside = ((refl, refl, (refl, refl, (refl, refl, (refl, refl, tt)))), ((refl, refl, (refl, refl, (refl, refl, (refl, refl, (refl, refl, tt))))), ((refl, refl, (refl, refl, (refl, refl, (refl, refl, (refl, refl, (refl, refl, tt)))))), ((refl, refl, (refl, refl, tt)), tt))))
 
 -- A map of 60 splits takes no more: 4 comes after 3 and before 5; with 59 the next check is made.

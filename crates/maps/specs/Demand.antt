@@ -8,17 +8,18 @@ use lib.IntN.{pos}
 use lib.ListN.{length, getD}
 use Rattle.mesh.specs.declared.Split.{Split}
 use Rattle.mesh.specs.declared.Blend.{Blend}
-use Rattle.mesh.specs.Triple.{Fraction}
+use Rattle.axis.specs.Fraction.{Fraction, total}
 use Rattle.mesh.specs.Lines.{Mesh, mesh, allowedSide}
 use Rattle.mesh.specs.Order.{Coarser}
 use Rattle.mesh.specs.Sound.{none}
-use Rattle.mesh.specs.Weight.{weight, total}
+use Rattle.mesh.specs.Weight.{weight}
 use Rattle.maps.specs.declared.Map.{Map}
 use Rattle.maps.specs.Plain.{Plain, freshPlain}
 use Rattle.maps.specs.Splits.{given, exactNumber, chosen}
 use Rattle.maps.specs.Record.{recordOf, plain}
 use Rattle.maps.specs.Calls.{changed, freshMap, shape, tablePlace, reading}
 use Rattle.maps.specs.Histories.{Call, set, exact, lengthened, place, reads, weighs, sameAs, number, Outcome, outcome, byLibrary, byMachine, outcomes, ending}
+use Rattle.axis.specs.Range.{Distinct}
 
 -- "A history starts from the fresh map of sides W and H": what the map holds at the start of a list.
 pub data Start : Plain → Type 0 where
@@ -55,16 +56,11 @@ pub record Inside (x y p q d : ℕ) : Type 0 where
   pub bottom : y * d < q
   pub top : q < (y + 1) * d
 
--- no blend stands twice
-abbrev pub Apart : List Blend → Type 0
-Apart [] = Unit
-Apart (B ∷ bs) = (List·Memᴰ B bs → ⊥) × Apart bs
-
 -- "the same four blends are positive at all of it, every other one nowhere in it"
 pub record FourIn (bs : List Blend) (x y : ℕ) : Type 0 where
   pub four : List Blend
   pub count : length four ≡ 4
-  pub apart : Apart four
+  pub apart : Distinct four
   pub of-these : (B : Blend) → List·Memᴰ B four → List·Memᴰ B bs
   pub positive : (B : Blend) → List·Memᴰ B four → (p q d : ℕ) → Inside x y p q d → Positive (weightThere B p q d)
   pub others : (B : Blend) → List·Memᴰ B bs → (List·Memᴰ B four → ⊥) → (p q d : ℕ) → Inside x y p q d → Nothing (weightThere B p q d)

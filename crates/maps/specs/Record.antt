@@ -5,7 +5,7 @@ use mathlib.Core.List.{List, [], _∷_, _++_}
 use lib.Dec.{leb, eqb}
 use lib.ListN.{length, take, drop, replicate}
 use Rattle.mesh.specs.declared.Split.{Split}
-use Rattle.mesh.specs.Range.{all}
+use Rattle.axis.specs.Range.{all}
 use Rattle.mesh.specs.Lines.{allowedSide}
 use Rattle.mesh.specs.Sound.{table}
 use Rattle.maps.specs.declared.Map.{Map}

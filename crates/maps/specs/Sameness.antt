@@ -6,19 +6,13 @@ use lib.Dec.{eqb, leb}
 use lib.ListN.{take}
 use Rattle.mesh.specs.declared.Blend.{Blend}
 use Rattle.mesh.specs.declared.Table.{Table}
+use Rattle.axis.specs.Range.{agree}
 use Rattle.mesh.specs.Blends.{same}
 use Rattle.mesh.specs.Sound.{blendsOf}
 use Rattle.maps.specs.declared.Map.{Map}
 use Rattle.maps.specs.declared.Same.{Same}
 use Rattle.maps.specs.Plain.{Plain, blends}
 use Rattle.maps.specs.Record.{plain, good}
-
--- whether two lists agree entry by entry, by a test of two entries
-abbrev pub agree {ℓ} : {A : Type ℓ} → (A → A → Bool) → List A → List A → Bool
-agree test [] [] = true
-agree test [] (y ∷ ys) = false
-agree test (x ∷ xs) [] = false
-agree test (x ∷ xs) (y ∷ ys) = test x y && agree test xs ys
 
 unfoldable pub samePlain : Plain → Plain → Bool
 samePlain P Q =

@@ -5,7 +5,7 @@ use mathlib.Core.List.{List, [], _∷_, _++_, map}
 use lib.Dec.{leb, eqb}
 use lib.ListN.{length}
 use Rattle.mesh.specs.declared.Split.{Split}
-use Rattle.mesh.specs.Range.{each, any, only}
+use Rattle.axis.specs.Range.{each, any, only}
 use Rattle.mesh.specs.Lines.{side, other, direction, inRange, shares, ended}
 use Rattle.mesh.specs.Blends.{isCut}
 use Rattle.mesh.specs.Sound.{sound}

@@ -4,10 +4,11 @@ use mathlib.Core.Bool.{Bool, cond, _&&_}
 use mathlib.Core.List.{List, [], _∷_, map}
 use lib.Dec.{leb, ltb, eqb}
 use lib.ListN.{length, getD}
-use Rattle.mesh.specs.declared.Triple.{Triple}
+use Rattle.axis.specs.declared.Triple.{Triple}
 use Rattle.mesh.specs.declared.Blend.{Blend}
-use Rattle.mesh.specs.Range.{only}
-use Rattle.mesh.specs.Triple.{Fraction}
+use Rattle.axis.specs.Range.{only}
+use Rattle.axis.specs.Fraction.{Fraction}
+use Rattle.axis.specs.Gap.{corner, gap, share}
 use Rattle.mesh.specs.Blends.{anchored}
 use Rattle.mesh.specs.Sound.{overSquare}
 use Rattle.mesh.specs.Weight.{Term, value}
@@ -30,17 +31,6 @@ readingAt bs vs u v = rounded (value (paired bs vs) (u + 1) (v + 1) 1)
 -- "A point lies outside the domain."
 abbrev pub inDomain : Plain → ℕ → ℕ → Bool
 inDomain P u v = leb u (P .w) && leb v (P .h)
-
--- the low corner of the unit square at a point: the point itself, "at a far side, one step back"
-abbrev pub corner : ℕ → ℕ → ℕ
-corner side u = cond (eqb u side) (u - 1) u
-
--- the gap of a triple in which the unit step from knot x lies, and the hat at knot u over that gap
-abbrev pub gap : Triple → ℕ → ℕ
-gap t x = cond (ltb x (t .m)) (t .m - t .l) (t .r - t .m)
-
-abbrev pub share : Triple → ℕ → ℕ → ℕ
-share t x u = cond (ltb x (t .m)) (u - t .l) (t .r - u)
 
 -- "each with its weight as numerator and denominator, the denominator being the product of the two gaps, across and up, in which that square lies"
 unfoldable pub weightAt : ℕ → ℕ → ℕ → ℕ → Blend → Fraction

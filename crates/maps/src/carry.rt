@@ -1,12 +1,13 @@
 // Values across a split: old anchors keep theirs, each new one takes the old map's reading there.
 use crate::values::reading_of;
 use mesh::Table;
+use axis::knots::wide;
 use mesh::knots;
 ghost use mathlib.Core.Path.{_≡_};
 ghost use mathlib.Core.Bool.{true};
 ghost use Prim.Native.Nat.{ℕ, _≤_, _<_};
 ghost use lib.ListN.{length, take, replicate};
-ghost use Rattle.mesh.specs.Range.{all};
+ghost use Rattle.axis.specs.Range.{all};
 ghost use Rattle.mesh.specs.Sound.{sound, proper, blendsOf};
 ghost use Rattle.maps.specs.Inner.{anchorIndex, carriedArray, InTable};
 
@@ -46,8 +47,8 @@ pub(crate) fn carried_values(
         let anchor = knots::place(x);
         let place = index[anchor] as usize;
         if place == 0 {
-            let m = knots::wide(x.across.m);
-            let n = knots::wide(x.up.m);
+            let m = wide(x.across.m);
+            let n = wide(x.up.m);
             carried[i] = reading_of(old, values, w, h, m - 1, n - 1) as u16;
         } else {
             carried[i] = values[place - 1];

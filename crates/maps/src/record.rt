@@ -4,14 +4,14 @@ use mesh::Blend;
 use mesh::Lines;
 use mesh::Split;
 use mesh::Table;
-use mesh::Triple;
+use axis::Triple;
 use mesh::replay::replay;
 ghost use mathlib.Core.Path.{_≡_};
 ghost use mathlib.Core.List.{[]};
 ghost use lib.Dec.{eqb};
 ghost use Rattle.mesh.specs.Sound.{table};
 ghost use lib.ListN.{drop};
-ghost use Rattle.mesh.specs.Range.{all};
+ghost use Rattle.axis.specs.Range.{all};
 ghost use Rattle.maps.specs.Record.{isNoSplit, opened};
 ghost use Rattle.maps.specs.Inner.{linesOf};
 

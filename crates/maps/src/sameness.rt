@@ -4,15 +4,16 @@ use crate::Same;
 use crate::record::open;
 use mesh::Blend;
 use mesh::Table;
-use mesh::Triple;
+use axis::supports::same_triple;
 ghost use Prim.Native.Nat.{_≤_};
 ghost use mathlib.Core.Path.{_≡_};
 ghost use lib.Dec.{eqb};
 ghost use lib.ListN.{take};
-ghost use Rattle.mesh.specs.Triple.{sameTriple};
+ghost use Rattle.axis.specs.Triple.{sameTriple};
 ghost use Rattle.mesh.specs.Blends.{same};
 ghost use Rattle.mesh.specs.Sound.{blendsOf};
-ghost use Rattle.maps.specs.Sameness.{agree, sameness, sameIn};
+ghost use Rattle.axis.specs.Range.{agree};
+ghost use Rattle.maps.specs.Sameness.{sameness, sameIn};
 
 impl Map {
     // Whether two maps are the same; 2 where either record is not good, and then "no".
@@ -69,19 +70,6 @@ impl Map {
             yes: same_values(values, others, count),
         }
     }
-}
-
-// Whether two triples are the same.
-fn same_triple(s: Triple, t: Triple) -> bool
-    ensures { λ r. ⌜ r ≡ sameTriple s t ⌝ }
-{
-    if s.l != t.l {
-        return false;
-    }
-    if s.m != t.m {
-        return false;
-    }
-    s.r == t.r
 }
 
 // Whether two blends are the same.

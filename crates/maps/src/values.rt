@@ -4,31 +4,25 @@ use crate::Weight;
 use crate::Weights;
 use mesh::Blend;
 use mesh::Table;
-use mesh::Triple;
-use mesh::knots;
+use axis::knots;
+use axis::knots::coordinate;
+use axis::shares::corner_of;
+use axis::shares::gap_at;
+use axis::shares::share_at;
+use axis::supports::spans_at;
 ghost use mathlib.Core.Path.{_≡_};
 ghost use mathlib.Core.Bool.{true};
 ghost use mathlib.Core.List.{map};
 ghost use Prim.Native.Nat.{_+_, _*_, _/_, _%_, _^_, _≤_, _<_};
 ghost use lib.IntN.{pos, predℤ};
 ghost use lib.ListN.{length, take};
-ghost use Rattle.mesh.specs.Range.{all, only};
-ghost use Rattle.mesh.specs.Triple.{rising, spans};
+ghost use Rattle.axis.specs.Range.{all, only};
+ghost use Rattle.axis.specs.Triple.{rising, spans};
 ghost use Rattle.mesh.specs.Blends.{anchored};
 ghost use Rattle.mesh.specs.Sound.{proper, overSquare, blendsOf};
-ghost use Rattle.maps.specs.Values.{corner, gap, share, placeOf, readingAt};
+ghost use Rattle.axis.specs.Gap.{corner, gap, share};
+ghost use Rattle.maps.specs.Values.{placeOf, readingAt};
 ghost use Rattle.maps.specs.Calls.{shape, weightOver};
-
-// A knot as document 01's coordinate.
-fn coordinate(k: u8) -> i64
-    requires { ⌜ k ≤ 130 ⌝ }
-    ensures { λ r. ⌜ r ≡ predℤ (pos k) ⌝ }
-{
-    if k == 0 {
-        return -1;
-    }
-    (k - 1) as i64
-}
 
 // A blend in document 01's coordinates.
 pub(crate) fn shape_of(x: Blend) -> Shape
@@ -45,40 +39,6 @@ pub(crate) fn shape_of(x: Blend) -> Shape
         n: coordinate(u.m),
         t: coordinate(u.r),
     }
-}
-
-// The gap of a triple in which the unit step from knot x lies.
-fn gap_at(t: Triple, x: usize) -> usize
-    requires { ⌜ (t .l < t .m) × (t .m < t .r) ⌝ }
-    ensures { λ r. ⌜ r ≡ gap t x ⌝ }
-{
-    if x < knots::wide(t.m) {
-        knots::wide(t.m - t.l)
-    } else {
-        knots::wide(t.r - t.m)
-    }
-}
-
-// The hat at knot u over that gap.
-fn share_at(t: Triple, x: usize, u: usize) -> usize
-    requires { ⌜ (x ≤ u) × (t .l ≤ x) × (u ≤ x + 1) × (x < t .r) ⌝ }
-    ensures { λ r. ⌜ r ≡ share t x u ⌝ }
-{
-    if x < knots::wide(t.m) {
-        u - knots::wide(t.l)
-    } else {
-        knots::wide(t.r) - u
-    }
-}
-
-// Whether the unit step from knot x lies in a triple's support.
-fn spans_at(t: Triple, x: usize) -> bool
-    ensures { λ r. ⌜ r ≡ spans x t ⌝ }
-{
-    if x < knots::wide(t.l) {
-        return false;
-    }
-    x < knots::wide(t.r)
 }
 
 // Whether the unit square whose low corner is at knots (x, y) lies in the blend's support.
@@ -111,14 +71,6 @@ fn denominator_at(b: Blend, x: usize, y: usize) -> usize
     let a = b.across;
     let c = b.up;
     gap_at(a, x) * gap_at(c, y)
-}
-
-// The low corner of the unit square at a coordinate: itself, at the far side one step back.
-pub(crate) fn corner_of(side: usize, u: usize) -> usize
-    requires { ⌜ 1 ≤ side ⌝ }
-    ensures { λ r. ⌜ r ≡ corner side u ⌝ }
-{
-    if u == side { u - 1 } else { u }
 }
 
 // Whether the blend's anchor is at knots (m, n).

@@ -8,17 +8,19 @@ use mathlib.Core.List.{List, [], _∷_}
 use lib.Dec.{leb, ltb, eqb}
 use lib.ListN.{length}
 use borrow.Author.Tests.{leb-false, ltb-false, eqb-true, eq-eqb}
-use Rattle.mesh.specs.Range.{every, each, only}
-use Rattle.mesh.specs.Triple.{spans, stepsIn}
+use Rattle.axis.specs.Range.{every, each, only}
+use Rattle.axis.specs.Triple.{spans, stepsIn}
 use Rattle.mesh.specs.Lines.{Mesh, mesh}
 use Rattle.mesh.specs.Blends.{live}
 use Rattle.mesh.specs.Sound.{overSquare, fourEverywhere, sound, areas}
 use Rattle.mesh.specs.declared.Split.{Split}
-use Rattle.mesh.specs.declared.Triple.{Triple}
+use Rattle.axis.specs.declared.Triple.{Triple}
 use Rattle.mesh.specs.declared.Blend.{Blend}
-use Rattle.mesh.proofs.Tests.{either, within, within-at, and-both, and-of, and-fails, same-test, every-same}
-use Rattle.mesh.proofs.Scale.{sum, sum-zero, sum-multiple, sum-linear}
-use Rattle.mesh.proofs.Quadrants.{ones, both-ones, only-first, OnSide, four-or-more, four-unnested}
+use Rattle.axis.proofs.Tests.{either, within, within-at, and-both, and-of, and-fails, same-test, every-same}
+use Rattle.axis.proofs.Scale.{sum, sum-zero, sum-multiple, sum-linear}
+use Rattle.axis.proofs.Counts.{ones, both-ones, only-first}
+use Rattle.axis.proofs.Parts.{OnSide}
+use Rattle.mesh.proofs.Quadrants.{four-or-more, four-unnested}
 
 -- the `n` numbers from `from` on
 abbrev run : ℕ → ℕ → List ℕ

@@ -10,19 +10,20 @@ use mathlib.Core.List.List·Memᴰ.{List·Memᴰ·head, List·Memᴰ·tail}
 use lib.Dec.{leb, ltb, eqb}
 use lib.ListN.{length, length-map}
 use borrow.Author.Tests.{eqb-true, eq-eqb, ne-eqb, lt-ltb}
-use Rattle.mesh.specs.Range.{any, only}
+use Rattle.axis.specs.Range.{any, only}
 use Rattle.mesh.specs.Lines.{Direction, upright, level, mesh, freshMesh, draws, start, end, number, other, side}
 use Rattle.mesh.specs.Blends.{crossed, live}
 use Rattle.mesh.specs.Sound.{sound}
 use Rattle.mesh.specs.declared.Split.{Split}
-use Rattle.mesh.specs.declared.Triple.{Triple}
+use Rattle.axis.specs.declared.Triple.{Triple}
 use Rattle.mesh.specs.declared.Blend.{Blend}
-use Rattle.mesh.proofs.Tests.{either, and-both, and-of, or-either, or-left, any-at, mem-only}
-use Rattle.mesh.proofs.Triples.{Knots, First, is-low, is-high, AtFresh}
+use Rattle.axis.proofs.Tests.{either, and-both, and-of, or-either, or-left, any-at, mem-only}
+use Rattle.axis.proofs.Triples.{Knots, First, is-low, is-high, AtFresh}
 use Rattle.mesh.proofs.Order.{OnLine, comes-on-lines}
 use Rattle.mesh.proofs.Cuts.{proper-facts}
 use Rattle.mesh.proofs.Fresh.{first-four, firstFour-rises, first-crossed, fresh-positions}
-use Rattle.mesh.proofs.Few.{few, square-of-sum, mem-map}
+use Rattle.mesh.proofs.Few.{few, square-of-sum}
+use Rattle.axis.proofs.Members.{mem-map}
 use Rattle.mesh.proofs.SoundMaps.{live-left, live-proper, live-distinct, own-anchors}
 
 -- the fresh map's lines are lines of every map of its sides

@@ -5,16 +5,16 @@ use mathlib.Core.Path.{_≡_, refl, sym, ap, subst, _∙_}
 use mathlib.Core.Logic.{_⊎_, inl, inr, ⊎-elim}
 use mathlib.Core.Bool.{true, false, _&&_, not}
 use borrow.Author.Tests.{not-true}
-use Rattle.mesh.specs.Triple.{Side, half, inside, between, rising, sameTriple}
+use Rattle.axis.specs.Triple.{Side, half, inside, between, rising, sameTriple}
 use Rattle.mesh.specs.Lines.{Direction, upright, level, other, Mesh}
 use Rattle.mesh.specs.Blends.{blend, crossed, along, coversBlend, cuts, halve, cutter, size, same}
 use Rattle.mesh.specs.Sound.{proper, nested}
 use Rattle.mesh.specs.Bytes.{ProperIn}
-use Rattle.mesh.specs.declared.Triple.{Triple}
+use Rattle.axis.specs.declared.Triple.{Triple}
 use Rattle.mesh.specs.declared.Blend.{Blend}
-use Rattle.mesh.proofs.Tests.{either, true-not-false, false-of, and-both, and-of, every-at, every-of}
-use Rattle.mesh.proofs.Nearest.{nearest-first}
-use Rattle.mesh.proofs.Triples.{Rise, rising-facts, rising-of, rise-of, rises-wider, rises-within, Inside, inside-fact, inside-test, Within, within-refl, within-trans, same-triple, triple-same, half-rises, half-within, half-narrower, Knots, half-knots, keeps-middle, From, whole, part, cut-again, cut-once}
+use Rattle.axis.proofs.Tests.{either, true-not-false, false-of, and-both, and-of, every-at, every-of}
+use Rattle.axis.proofs.Nearest.{nearest-first}
+use Rattle.axis.proofs.Triples.{Rise, rising-facts, rising-of, rise-of, rises-wider, rises-within, Inside, inside-fact, inside-test, Within, within-refl, within-trans, same-triple, triple-same, half-rises, half-within, half-narrower, Knots, half-knots, keeps-middle, From, whole, part, cut-again, cut-once}
 
 -- both triples rise
 pub record RiseB (B : Blend) : Type 0 where

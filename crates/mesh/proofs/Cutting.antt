@@ -6,17 +6,17 @@ use mathlib.Core.Path.{_≡_, refl, sym, ap, _∙_}
 use mathlib.Core.Bool.{Bool, true, false, cond}
 use mathlib.Core.List.{List, [], _∷_, _++_}
 use lib.ListN.{length, getD, set, drop}
-use Rattle.mesh.specs.Range.{every, all}
-use Rattle.mesh.specs.Triple.{Side, lower, upper, half}
+use Rattle.axis.specs.Range.{every, all}
+use Rattle.axis.specs.Triple.{Side, lower, upper, half}
 use Rattle.mesh.specs.Lines.{Direction, upright, level, other, Mesh}
 use Rattle.mesh.specs.Bytes.{stepOn, Proper, place, packed, keep, keepAll}
 use Rattle.mesh.specs.Blends.{crossed, cutter, halve, leaves, leavesOf, size}
 use Rattle.mesh.specs.Sound.{proper, none, blendsOf}
 use Rattle.mesh.specs.declared.Table.{Table}
-use Rattle.mesh.specs.declared.Triple.{Triple}
+use Rattle.axis.specs.declared.Triple.{Triple}
 use Rattle.mesh.specs.declared.Blend.{Blend}
-use Rattle.mesh.proofs.Tests.{all-at, all-of}
-use Rattle.mesh.proofs.Entries.{none-left, left-turn, left-mem}
+use Rattle.axis.proofs.Tests.{all-at, all-of}
+use Rattle.axis.proofs.Entries.{none-left, left-turn, left-mem}
 use Rattle.mesh.proofs.Cuts.{put, halve-own, cut-fact, cutter-cuts, riseB-of, halve-proper, halve-smaller, proper-facts, proper-wider, proper-of as proper-test}
 
 -- whether the line at a knot covers the n steps from knot b on

@@ -9,15 +9,15 @@ use borrow.Author.Tests.{ltb-true, leb-true, eqb-true, eqb-false, lt-ltb, le-ltb
 use lib.Dec.{eqb, ltb, leb, leb·zero}
 use lib.ListN.{length, getD, set, drop, replicate, length-set, length-replicate}
 use lib.Seq.{getD-set-same, getD-set-other}
-use Rattle.mesh.specs.Range.{all, any}
+use Rattle.axis.specs.Range.{all, any}
 use Rattle.mesh.specs.Lines.{Direction, upright, level, number, other, side, start, end, draws, allowedSide, fits, inRange, allowed, splitsOf, freshMesh, mesh, meshOf}
 use Rattle.mesh.specs.Bytes.{Square, stepOn, at, Drawn, empty}
 use Rattle.mesh.specs.declared.Split.{Split}
 use Rattle.mesh.specs.declared.Lines.{Lines}
-use Rattle.mesh.proofs.Tests.{either, same-test, and-both, and-of, or-either, or-left, or-right, true-not-false, all-at}
+use Rattle.axis.proofs.Tests.{either, same-test, and-both, and-of, or-either, or-left, or-right, true-not-false, all-at}
 use Rattle.mesh.proofs.Bytes.{step-on, zeros}
-pub use Rattle.mesh.proofs.Entries.{left-turn, left-none}
-use Rattle.mesh.proofs.Entries.{left-mem}
+pub use Rattle.axis.proofs.Entries.{left-turn, left-none}
+use Rattle.axis.proofs.Entries.{left-mem}
 
 -- two tests after the same two, equal where those hold
 guarded : (a b c d : Bool) → (a ≡ true → b ≡ true → c ≡ d) → (a && b && c) ≡ (a && b && d)

@@ -1,66 +1,21 @@
 -- How many blends there can be: their anchors differ and lie on line positions.
-use Prim.Native.Nat.{ℕ, suc, _+_, _-_, _*_, _≤_, _<_, zero-le, suc-le-suc}
+use Prim.Native.Nat.{ℕ, _+_, _-_, _*_, _≤_, _<_}
 use native.Mathlib.Omega.{arith}
 use native.Mathlib.Nat.{mul-le-mul-left, le-trans}
-use mathlib.Core.Path.{_≡_, refl, sym, ap, subst, _∙_}
+use mathlib.Core.Path.{_≡_, sym, ap, subst, _∙_}
 use mathlib.Core.Logic.{⊎-elim}
-use mathlib.Core.List.{List, [], _∷_, map, List·Memᴰ, List·Memᴰ·cases-cons, List·Memᴰ·not-nil}
-use mathlib.Core.List.List·Memᴰ.{List·Memᴰ·head, List·Memᴰ·tail}
+use mathlib.Core.List.{List, [], _∷_, map, List·Memᴰ}
 use lib.ListN.{length, length-append, length-map}
 use borrow.Author.Tests.{leb-true, leb-false}
 use lib.Dec.{leb}
-use Rattle.mesh.specs.Range.{joined}
+use Rattle.axis.specs.Range.{joined, Distinct}
 use Rattle.mesh.specs.declared.Blend.{Blend}
 use Rattle.mesh.specs.Bytes.{at, place}
-use Rattle.mesh.proofs.Tests.{either, mem-joined}
+use Rattle.axis.proofs.Tests.{either, mem-joined}
 use Rattle.mesh.proofs.Places.{at-inj}
-use Rattle.mesh.proofs.Distinct.{Distinct}
 use Rattle.mesh.proofs.Ascending.{OwnAnchors}
-
-module _ {ℓ} {A : Type ℓ} where
-  -- a list without one of its members
-  without : {x : A} (ys : List A) → List·Memᴰ x ys → List A
-  without (y ∷ ys) (List·Memᴰ·head e) = ys
-  without (y ∷ ys) (List·Memᴰ·tail m) = y ∷ without ys m
-
-  without-length : {x : A} (ys : List A) (m : List·Memᴰ x ys) → length ys ≡ suc (length (without ys m))
-  unfolding without
-  without-length (y ∷ ys) (List·Memᴰ·head e) = refl
-  without-length (y ∷ ys) (List·Memᴰ·tail m) = ap suc (without-length ys m)
-
-  still-there : {x : A} (ys : List A) (m : List·Memᴰ x ys) (z : A) → (z ≡ x → ⊥) → List·Memᴰ z ys → List·Memᴰ z (without ys m)
-  unfolding without
-  still-there (y ∷ ys) (List·Memᴰ·head e) z ne h = ⊎-elim (λ q. absurd (ne (q ∙ sym e))) (λ k. k) (List·Memᴰ·cases-cons h)
-  still-there (y ∷ ys) (List·Memᴰ·tail m) z ne h = ⊎-elim (λ q. List·Memᴰ·head q) (λ k. List·Memᴰ·tail (still-there ys m z ne k)) (List·Memᴰ·cases-cons h)
-
-  -- a list without repeats is no longer than one that has all its members
-  pub distinct-length : (xs ys : List A) → Distinct xs → ((x : A) → List·Memᴰ x xs → List·Memᴰ x ys) → length xs ≤ length ys
-  distinct-length [] ys d f = zero-le
-  distinct-length (x ∷ xs) ys d f =
-      let m = f x (List·Memᴰ·head refl) in
-      let shorter : length xs ≤ length (without ys m) =
-      distinct-length xs (without ys m) (d .1)
-      (λ z h. still-there ys m z (λ e. d .0 (subst (λ (u : A). List·Memᴰ u xs) e h)) (f z (List·Memᴰ·tail h))) in
-      subst (λ (n : ℕ). suc (length xs) ≤ n) (sym (without-length ys m)) (suc-le-suc shorter)
-
-module _ {ℓ κ} {A : Type ℓ} {B : Type κ} where
-  pub mem-map : (f : A → B) (xs : List A) (x : A) → List·Memᴰ x xs → List·Memᴰ (f x) (map f xs)
-  mem-map f (y ∷ ys) x (List·Memᴰ·head e) = List·Memᴰ·head (ap f e)
-  mem-map f (y ∷ ys) x (List·Memᴰ·tail m) = List·Memᴰ·tail (mem-map f ys x m)
-
-  pub map-mem : (f : A → B) (xs : List A) (y : B) → List·Memᴰ y (map f xs) → (x : A) × List·Memᴰ x xs × (y ≡ f x)
-  map-mem f [] y m = absurd (List·Memᴰ·not-nil m)
-  map-mem f (x ∷ xs) y m =
-      ⊎-elim (λ q. (x, List·Memᴰ·head refl, q)) (λ k. let r = map-mem f xs y k in (r .0, List·Memᴰ·tail (r .1), r .2)) (List·Memᴰ·cases-cons m)
-
-  pub map-distinct : (f : A → B) (xs : List A) → Distinct xs → ((x y : A) → List·Memᴰ x xs → List·Memᴰ y xs → f x ≡ f y → x ≡ y) → Distinct (map f xs)
-  map-distinct f [] d inj = tt
-  map-distinct f (x ∷ xs) d inj = (
-    λ m.
-        let r = map-mem f xs (f x) m in
-        d .0 (subst (λ (u : A). List·Memᴰ u xs) (sym (inj x (r .0) (List·Memᴰ·head refl) (List·Memᴰ·tail (r .1)) (r .2))) (r .1)),
-    map-distinct f xs (d .1) (λ u v mu mv. inj u v (List·Memᴰ·tail mu) (List·Memᴰ·tail mv)),
-  )
+use Rattle.axis.proofs.Distinct.{distinct-length, map-distinct}
+use Rattle.axis.proofs.Members.{map-mem, mem-map}
 
 -- the places of all pairs of positions
 places : List ℕ → List ℕ → List ℕ

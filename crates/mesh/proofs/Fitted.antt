@@ -14,7 +14,7 @@ use Rattle.mesh.specs.declared.Split.{Split}
 use Rattle.mesh.specs.declared.Lines.{Lines}
 use Rattle.mesh.specs.declared.Blend.{Blend}
 use Rattle.mesh.specs.declared.Refined.{Refined}
-use Rattle.mesh.proofs.Tests.{either, true-not-false, and-both, and-of, false-of, cond-true}
+use Rattle.axis.proofs.Tests.{either, true-not-false, and-both, and-of, false-of, cond-true}
 use Rattle.mesh.proofs.Drawing.{Allowed}
 use Rattle.mesh.proofs.Places.{own-of}
 use Rattle.mesh.proofs.SoundMaps.{own-anchors}

@@ -8,20 +8,21 @@ use mathlib.Core.List.{List, [], _∷_, List·Memᴰ, List·Memᴰ·cases-cons, 
 use lib.Dec.{ltb, eqb}
 use lib.ListN.{length}
 use borrow.Author.Tests.{eqb-true}
-use Rattle.mesh.specs.Triple.{low, high}
+use Rattle.axis.specs.Triple.{low, high}
 use Rattle.mesh.specs.Lines.{Direction, upright, level, mesh, freshMesh, side, other}
 use Rattle.mesh.specs.Blends.{blend, same, once, leavesOf, refine, live, firstFour, crossed, along}
 use Rattle.mesh.specs.Order.{Uncut}
 use Rattle.mesh.specs.Sound.{overSquare, fourEverywhere, noneNested, nested, sound}
 use Rattle.mesh.specs.Bytes.{place}
-use Rattle.mesh.specs.declared.Triple.{Triple}
+use Rattle.axis.specs.declared.Triple.{Triple}
 use Rattle.mesh.specs.declared.Blend.{Blend}
-use Rattle.mesh.proofs.Tests.{true-not-false, and-both, and-of, or-either, false-of, every-of, all-of, only-all}
-use Rattle.mesh.proofs.Triples.{between-fact, First, is-low, is-high, AtFresh, first-rises, first-spans, first-uncut, first-apart}
+use Rattle.axis.proofs.Tests.{true-not-false, and-both, and-of, or-either, false-of, every-of, all-of, only-all}
+use Rattle.axis.proofs.Triples.{between-fact, First, is-low, is-high, AtFresh, first-rises, first-spans, first-uncut, first-apart}
 use Rattle.mesh.proofs.Cuts.{cut-fact, proper-of, proper-rises, blend-same, nested-facts}
 use Rattle.mesh.proofs.Order.{left-uncut, left-itself, Rising}
 use Rattle.mesh.proofs.Tables.{once-mem, once-distinct}
-use Rattle.mesh.proofs.Ascending.{Ascending, OwnAnchors, order-ascending, ascending-unique}
+use Rattle.axis.proofs.Distinct.{Ascending, ascending-unique}
+use Rattle.mesh.proofs.Ascending.{OwnAnchors, order-ascending}
 use Rattle.mesh.proofs.Live.{AllProper, refine-left, left-refine, refine-leaves}
 
 -- both triples of a first blend are first triples

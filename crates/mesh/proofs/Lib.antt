@@ -1,9 +1,4 @@
-pub mod Tests
 pub mod Bytes
-pub mod Entries
-pub mod Distinct
-pub mod Triples
-pub mod Nearest
 pub mod Cuts
 pub mod Order
 pub mod Tables
@@ -12,8 +7,6 @@ pub mod Ascending
 pub mod Live
 pub mod Fresh
 pub mod Few
-pub mod Scale
-pub mod Hats
 pub mod Weights
 pub mod SoundMaps
 pub mod AtMost

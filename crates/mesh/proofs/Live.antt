@@ -10,14 +10,15 @@ use Rattle.mesh.specs.Order.{Left, Coarser}
 use Rattle.mesh.specs.Sound.{proper, sound, table, ownAnchors, fitted}
 use Rattle.mesh.specs.Bytes.{place}
 use Rattle.mesh.specs.declared.Blend.{Blend}
-use Rattle.mesh.proofs.Tests.{either}
-use Rattle.mesh.proofs.Distinct.{Distinct}
+use Rattle.axis.proofs.Tests.{either}
+use Rattle.axis.specs.Range.{Distinct}
 pub use Rattle.mesh.proofs.Cuts.{proper-rises}
 use Rattle.mesh.proofs.Cuts.{proper-facts, proper-of, proper-within}
 use Rattle.mesh.proofs.Order.{comes-rises, comes-within, Rising, LeftOf, SameMembers, leavesOf-left, left-leavesOf, finer-leaves}
 use Rattle.mesh.proofs.Tables.{once-mem, mem-once, once-distinct, order-mem, mem-order, order-distinct}
 use Rattle.mesh.proofs.Places.{proper-anchored, sound-own, own-says}
-use Rattle.mesh.proofs.Ascending.{OwnAnchors, order-ascending, ascending-unique}
+use Rattle.mesh.proofs.Ascending.{OwnAnchors, order-ascending}
+use Rattle.axis.proofs.Distinct.{ascending-unique}
 
 -- what is left of a proper blend is proper
 pub left-proper : (w h : ℕ) (M : Mesh) (B C : Blend) → proper w h B ≡ true → Left M B C → proper w h C ≡ true

@@ -7,13 +7,13 @@ use mathlib.Core.Bool.{Bool, true, false, cond}
 use mathlib.Core.List.{List, [], _∷_, _++_, List·Memᴰ, List·Memᴰ·cases-cons, List·Memᴰ·append-cases, Memᴰ·cast, Memᴰ·append-left, Memᴰ·append-right, List·Memᴰ·eq-of-singleton}
 use borrow.Author.Tests.{eqb-true, eqb-false}
 use lib.Dec.{eqb}
-use Rattle.mesh.specs.Triple.{Side, lower, upper}
+use Rattle.axis.specs.Triple.{Side, lower, upper}
 use Rattle.mesh.specs.Lines.{Direction, upright, level, other, Mesh}
 use Rattle.mesh.specs.Blends.{crossed, along, cuts, halve, cutter, leaves, leavesOf, size, live}
 use Rattle.mesh.specs.Order.{Uncut, Comes, here, cut, Left, Step, replace, drop, Steps, done, step, Cutting, Coarser}
 use Rattle.mesh.specs.declared.Blend.{Blend}
-use Rattle.mesh.proofs.Tests.{either, true-not-false, joined-mem, mem-joined}
-use Rattle.mesh.proofs.Triples.{Knots}
+use Rattle.axis.proofs.Tests.{either, true-not-false, joined-mem, mem-joined}
+use Rattle.axis.proofs.Triples.{Knots}
 use Rattle.mesh.proofs.Cuts.{RiseB, crossed-rises, WithinB, withinB-refl, withinB-trans, Cut, cut-fact, cut-test, halve-rises, halve-within, halve-smaller, halve-anchor, size-positive, Crossing, upright-level, level-upright, crossing-back, cut-stays, halves-commute, FromB, wholeB, partB, swap, cutter-none, cutter-cuts, halve-knots}
 
 -- a cut blend, and one that no line cuts

@@ -1,152 +1,32 @@
 -- A blend's anchor parts its support into four quadrants. Every unit square of the domain lies in each quadrant of some live blend, so at
 -- least four lie over it; and where exactly four lie over every square, no anchor lies strictly inside another blend's support.
-use Prim.Native.Nat.{ℕ, _+_, _*_, _-_, _≤_, _<_}
+use Prim.Native.Nat.{ℕ, _+_, _≤_, _<_}
 use native.Mathlib.Omega.{arith}
-use mathlib.Core.Path.{_≡_, refl, sym, ap, _∙_}
-use mathlib.Core.Logic.{_⊎_, inl, inr, ⊎-elim}
-use mathlib.Core.Bool.{Bool, true, false, cond, _&&_, _||_, not, or-true}
-use mathlib.Core.List.{List, [], _∷_, List·Memᴰ, List·Memᴰ·not-nil, List·Memᴰ·eq-of-singleton}
+use mathlib.Core.Path.{_≡_, refl, ap, _∙_}
+use mathlib.Core.Logic.{_⊎_, inl, inr}
+use mathlib.Core.Bool.{Bool, true, _&&_, _||_, not, or-true}
+use mathlib.Core.List.{List, [], _∷_, List·Memᴰ}
 use mathlib.Core.List.List·Memᴰ.{List·Memᴰ·head, List·Memᴰ·tail}
-use lib.Dec.{leb, ltb, eqb}
+use lib.Dec.{eqb}
 use lib.ListN.{length}
-use borrow.Author.Tests.{leb-true, leb-false, ltb-true, ltb-false, eqb-true, eqb-false, le-leb, lt-leb, lt-ltb, eq-eqb}
-use Rattle.mesh.specs.Range.{only}
-use Rattle.mesh.specs.Triple.{Side, lower, upper, half, low, high, spans}
+use borrow.Author.Tests.{eqb-true, lt-ltb, eq-eqb}
+use Rattle.axis.specs.Range.{only}
+use Rattle.axis.specs.Triple.{Side, lower, upper, spans, RisesIn}
 use Rattle.mesh.specs.Lines.{Direction, upright, level, other, side, Mesh, mesh, freshMesh}
 use Rattle.mesh.specs.Blends.{blend, same, cuts, halve, live, firstFour, crossed}
 use Rattle.mesh.specs.Order.{Left}
 use Rattle.mesh.specs.Sound.{overSquare, fourEverywhere, noneNested, nested}
-use Rattle.mesh.specs.Bytes.{RisesIn, ProperIn}
+use Rattle.mesh.specs.Bytes.{ProperIn}
 use Rattle.mesh.specs.declared.Split.{Split}
-use Rattle.mesh.specs.declared.Triple.{Triple}
 use Rattle.mesh.specs.declared.Blend.{Blend}
-use Rattle.mesh.proofs.Tests.{either, within, within-of, within-at, and-both, and-of, or-left, false-of, true-not-false, mem-only, every-at, all-of}
-use Rattle.mesh.proofs.Triples.{Rise, Inside, between-fact}
+use Rattle.axis.proofs.Tests.{and-both, and-of, or-left, false-of, true-not-false, every-at, all-of}
+use Rattle.axis.proofs.Triples.{Inside, between-fact}
 use Rattle.mesh.proofs.Cuts.{RiseB, cut-test, proper-facts, proper-rises, blend-same, nested-facts}
 use Rattle.mesh.proofs.Order.{by-cutting, left-itself, left-front, Rising}
 use Rattle.mesh.proofs.Fresh.{firstFour-rises}
 use Rattle.mesh.proofs.SoundMaps.{live-left, live-proper}
-
--- what a test counts, alone and with another; and the entries of a list that pass it
-abbrev pub ones : Bool → ℕ
-ones b = cond b 1 0
-
-pub both-ones : (a b : Bool) → ones (a && b) ≡ ones a * ones b
-both-ones true b = omega arith
-both-ones false b = omega arith
-
-module _ {ℓ} {A : Type ℓ} (test : A → Bool) where
-  pub only-first : (x : A) (xs : List A) → length (only test (x ∷ xs)) ≡ ones (test x) + length (only test xs)
-  only-first x xs =
-      ⊎-elim (λ (e : test x ≡ true). rw e (omega arith)) (λ (e : test x ≡ false). rw e (omega arith)) (either (test x))
-
-  some-pass : (x : A) (xs : List A) → List·Memᴰ x xs → test x ≡ true → 1 ≤ length (only test xs)
-  some-pass x xs m e = positive (only test xs) (mem-only test xs x m e)
-    where
-      positive : (ys : List A) → List·Memᴰ x ys → 1 ≤ length ys
-      positive [] n = absurd (List·Memᴰ·not-nil n)
-      positive (y ∷ ys) n = omega arith
-
-  one-passes : (x y : A) (xs : List A) → List·Memᴰ x xs → List·Memᴰ y xs → test x ≡ true → test y ≡ true → length (only test xs) ≡ 1 → x ≡ y
-  one-passes x y xs m n e f = single (only test xs) (mem-only test xs x m e) (mem-only test xs y n f)
-    where
-      single : (ys : List A) → List·Memᴰ x ys → List·Memᴰ y ys → length ys ≡ 1 → x ≡ y
-      single [] m n l = absurd (List·Memᴰ·not-nil m)
-      single (z ∷ []) m n l = List·Memᴰ·eq-of-singleton m ∙ sym (List·Memᴰ·eq-of-singleton n)
-      single (z ∷ u ∷ ys) m n l = absurd (omega arith)
-
--- the unit step from knot x lies in l to m, the lower part of a triple, or in m to r, its upper part
-abbrev lies : Side → ℕ → Triple → Bool
-lies lower x t = within (t .l) (t .m) x
-lies upper x t = within (t .m) (t .r) x
-
--- a step of the support lies in one part
-within-below : (a b x : ℕ) → a ≤ b → ones (within a b x) + ones (ltb x a) ≡ ones (ltb x b)
-within-below a b x le =
-    ⊎-elim (λ (e : ltb x a ≡ true). let lt = ltb-true x a e in rw (e, lt-leb a x lt, lt-ltb x b (omega arith)))
-    (λ (e : ltb x a ≡ false). rw (e, le-leb a x (ltb-false x a e)) (omega arith))
-    (either (ltb x a))
-
-spans-lies : (x : ℕ) (t : Triple) → Rise t → ones (spans x t) ≡ ones (lies lower x t) + ones (lies upper x t)
-spans-lies x t h =
-    let a = within-below (t .l) (t .r) x (omega arith) in
-    let b = within-below (t .l) (t .m) x (omega arith) in
-    let c = within-below (t .m) (t .r) x (omega arith) in
-    omega arith
-
--- A cut keeps a step in the same part of one of the halves.
-half-lies : (p : Side) (x z : ℕ) (t : Triple) → lies p x t ≡ true → (s : Side) × (lies p x (half s z t) ≡ true)
-unfolding half
-half-lies p x z t e =
-    ⊎-elim (λ c. (upper, onto-upper p (leb-true z x c) e)) (λ c. (lower, onto-lower p (leb-false z x c) e)) (either (leb z x))
-  where
-    onto-upper : (p : Side) → z ≤ x → lies p x t ≡ true → lies p x (half upper z t) ≡ true
-    onto-upper lower c e = let i = within-at (t .l) (t .m) x e in within-of _ _ x (omega arith) (omega arith)
-    onto-upper upper c e = let i = within-at (t .m) (t .r) x e in within-of _ _ x (omega arith) (omega arith)
-
-    onto-lower : (p : Side) → x < z → lies p x t ≡ true → lies p x (half lower z t) ≡ true
-    onto-lower lower c e = let i = within-at (t .l) (t .m) x e in within-of _ _ x (omega arith) (omega arith)
-    onto-lower upper c e = let i = within-at (t .m) (t .r) x e in within-of _ _ x (omega arith) (omega arith)
-
--- a unit step of a side; and the first triple that has them all in its lower, or in its upper, part
-abbrev pub OnSide : ℕ → ℕ → Type 0
-OnSide s x = (1 ≤ x) × (x < 1 + s)
-
-abbrev first : Side → ℕ → Triple
-first lower s = high s
-first upper s = low s
-
-first-lies : (p : Side) (s x : ℕ) → OnSide s x → lies p x (first p s) ≡ true
-first-lies lower s x on = within-of 1 (s + 1) x (on .0) (omega arith)
-first-lies upper s x on = within-of 1 (s + 1) x (on .0) (omega arith)
-
--- a knot that cannot cut and lies strictly between the ends is the middle
-middle-at : (z : ℕ) (t : Triple) → (Inside z t → ⊥) → t .l < z → z < t .r → z ≡ t .m
-middle-at z t clear lo hi =
-    ⊎-elim (λ e. eqb-true z (t .m) e) (λ e. absurd (clear (record { lo = lo; hi = hi; off = eqb-false z (t .m) e }))) (either (eqb z (t .m)))
-
--- Where the middle of t lies strictly inside u, one of the steps beside it lies in the same part of both. It is a step of the side where
--- the lines at its two ends do not cut u.
-module _ (s : ℕ) (t u : Triple) (pos : 1 ≤ s) (rt : RisesIn s t) (ru : RisesIn s u) (lo : u .l < t .m) (hi : t .m < u .r) where
-  abbrev Beside : Type 0
-  Beside = (p : Side) × (x : ℕ) × OnSide s x × (lies p x t ≡ true) × (lies p x u ≡ true)
-
-  just-below : t .m ≤ u .m → 2 ≤ t .m → Beside
-  just-below le two = (
-    lower,
-    t .m - 1,
-    (omega arith, omega arith),
-    within-of (t .l) (t .m) (t .m - 1) (omega arith) (omega arith),
-    within-of (u .l) (u .m) (t .m - 1) (omega arith) (omega arith),
-  )
-
-  just-above : u .m ≤ t .m → t .m ≤ s → Beside
-  just-above le most = (
-    upper,
-    t .m,
-    (omega arith, omega arith),
-    within-of (t .m) (t .r) (t .m) (omega arith) (omega arith),
-    within-of (u .m) (u .r) (t .m) (omega arith) (omega arith),
-  )
-
-  beside : (Inside 1 u → ⊥) → (Inside (s + 1) u → ⊥) → Beside
-  beside near far =
-      ⊎-elim
-      (λ a.
-      let le = leb-true (t .m) (u .m) a in
-      ⊎-elim (λ b. just-below le (leb-true 2 (t .m) b))
-      (λ b. let one = leb-false 2 (t .m) b in
-      let e = middle-at 1 u near (omega arith) (omega arith) in
-      just-above (omega arith) (omega arith))
-      (either (leb 2 (t .m))))
-      (λ a.
-      let lt = leb-false (t .m) (u .m) a in
-      ⊎-elim (λ b. just-above (omega arith) (leb-true (t .m) s b))
-      (λ b. let end = leb-false (t .m) s b in
-      let e = middle-at (s + 1) u far (omega arith) (omega arith) in
-      absurd (omega arith))
-      (either (leb (t .m) s)))
-      (either (leb (t .m) (u .m)))
+use Rattle.axis.proofs.Parts.{first, spans-lies, OnSide, beside, first-lies, half-lies, lies}
+use Rattle.axis.proofs.Counts.{ones, both-ones, some-pass, one-passes, only-first}
 
 -- the unit square whose low corner is at knots (x, y) lies in a quadrant of the blend
 abbrev quadrant : Side → Side → ℕ → ℕ → Blend → Bool

@@ -9,11 +9,11 @@ use borrow.Author.Tests.{eqb-true, eq-eqb, ne-eqb, lt-leb, le-leb}
 use lib.Dec.{leb, eqb}
 use lib.ListN.{length, getD, set, replicate, length-append}
 use lib.Seq.{set-at}
-use Rattle.mesh.specs.Range.{each}
+use Rattle.axis.specs.Range.{each}
 use Rattle.mesh.specs.Sound.{none, table}
 use Rattle.mesh.specs.Bytes.{at, Idle, kept, unpacked, walk, listed, refused}
 use Rattle.mesh.specs.declared.Blend.{Blend}
-use Rattle.mesh.proofs.Tests.{either, cond-true, cond-false, each-turn, each-none}
+use Rattle.axis.proofs.Tests.{either, cond-true, cond-false, each-turn, each-none}
 
 -- a run that a loop takes up to an end
 each-run {ℓ} : {A : Type ℓ} (k e : ℕ) (f : ℕ → List A) → k < e → each k (e - k) f ≡ f k ++ each (k + 1) (e - (k + 1)) f

@@ -9,14 +9,14 @@ use mathlib.Core.List.List·Memᴰ.{List·Memᴰ·head, List·Memᴰ·tail}
 use borrow.Author.Tests.{eq-eqb, ne-eqb, lt-ltb, not-true}
 use lib.ListN.{length, getD, set, drop, length-set}
 use lib.Seq.{getD-set-same, getD-set-other}
-use Rattle.mesh.specs.Range.{any, some, only}
+use Rattle.axis.specs.Range.{any, some, only}
 use Rattle.mesh.specs.Lines.{Direction, upright, level, Mesh, onLine, shares, ended, draws}
 use Rattle.mesh.specs.Blends.{cuts, leavesOf}
 use Rattle.mesh.specs.Bytes.{at, stepOn, bytesMesh, place, keepAll, clearAll, recut, refused}
 use Rattle.mesh.specs.declared.Split.{Split}
 use Rattle.mesh.specs.declared.Blend.{Blend}
 use Rattle.mesh.specs.declared.Refined.{Refined}
-use Rattle.mesh.proofs.Tests.{either, true-not-false, and-last, cond-false, only-mem, mem-only}
+use Rattle.axis.proofs.Tests.{either, true-not-false, and-last, cond-false, only-mem, mem-only}
 use Rattle.mesh.proofs.Ascending.{OwnAnchors}
 use Rattle.mesh.proofs.Cutting.{Cut, cut-first}
 use Rattle.mesh.proofs.Places.{Kept, at-inj}

@@ -8,7 +8,7 @@ use borrow.Author.Tests.{le-leb, leb-true, eq-eqb, ne-eqb}
 use lib.Dec.{leb, eqb}
 use lib.ListN.{length, getD, set, replicate}
 use lib.Seq.{take-append-seam}
-use Rattle.mesh.specs.Range.{all, any}
+use Rattle.axis.specs.Range.{all, any}
 use Rattle.mesh.specs.Lines.{Direction, upright, level, number, Mesh, meshOf, allowed}
 use Rattle.mesh.specs.Blends.{cutter, isCut, refine, leavesOf, firstFour, live}
 use Rattle.mesh.specs.Sound.{proper, none, table, blendsOf, fitted, refined, someCut}
@@ -16,7 +16,7 @@ use Rattle.mesh.specs.Bytes.{Square, ProperIn, stepOn, bytesMesh, keepAl
 use Rattle.mesh.specs.declared.Lines.{Lines}
 use Rattle.mesh.specs.declared.Table.{Table}
 use Rattle.mesh.specs.declared.Blend.{Blend}
-use Rattle.mesh.proofs.Tests.{cond-true, cond-false, all-at, all-of, and-both, or-left, or-right}
+use Rattle.axis.proofs.Tests.{cond-true, cond-false, all-at, all-of, and-both, or-left, or-right}
 use Rattle.mesh.proofs.Drawing.{Allowed, allowed-says}
 use Rattle.mesh.proofs.Cuts.{proper-facts}
 use Rattle.mesh.proofs.Cutting.{proper-most}

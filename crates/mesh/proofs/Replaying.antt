@@ -10,8 +10,8 @@ use borrow.Author.Tests.{eqb-true, eqb-false, lt-ltb, leb-true, le-leb, lt-leb, 
 use lib.Dec.{eqb, leb}
 use lib.ListN.{length, getD, take, drop, length-append, length-take}
 use lib.Seq.{take-suc}
-use Rattle.mesh.specs.Range.{all, any, every, only}
-use Rattle.mesh.specs.Triple.{inside}
+use Rattle.axis.specs.Range.{all, any, every, only}
+use Rattle.axis.specs.Triple.{inside}
 use Rattle.mesh.specs.Lines.{Direction, upright, level, number, direction, Mesh, start, draws, allowedSide, inRange, mesh, freshMesh, shares, ended, splitsOf}
 use Rattle.mesh.specs.Blends.{along, crossed, cuts, cutter, isCut, leavesOf, refine, firstFour, live}
 use Rattle.mesh.specs.Order.{Uncut, Coarser}
@@ -24,7 +24,7 @@ use Rattle.mesh.specs.declared.Lines.{Lines}
 use Rattle.mesh.specs.declared.Table.{Table}
 use Rattle.mesh.specs.declared.Refined.{Refined}
 use Rattle.mesh.specs.declared.Replayed.{Replayed}
-use Rattle.mesh.proofs.Tests.{either, true-not-false, false-of, and-both, and-of, and-first, and-last, or-either, or-left, cond-true, cond-false, all-of, any-same, any-append, only-mem, mem-only}
+use Rattle.axis.proofs.Tests.{either, true-not-false, false-of, and-both, and-of, and-first, and-last, or-either, or-left, cond-true, cond-false, all-of, any-same, any-append, only-mem, mem-only}
 use Rattle.mesh.proofs.Drawing.{Allowed, blank, left-turn, left-none}
 use Rattle.mesh.proofs.SingleSteps.{Small, in-range-small}
 use Rattle.mesh.proofs.Cuts.{RiseB, proper-facts, proper-rises, cutter-none, cutter-cuts}

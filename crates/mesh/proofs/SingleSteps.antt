@@ -7,12 +7,12 @@ use mathlib.Core.Bool.{Bool, true, _&&_, _||_}
 use borrow.Author.Tests.{eq-eqb, ne-eqb, eqb-true}
 use lib.Dec.{eqb, ltb, leb}
 use lib.ListN.{length, getD}
-use Rattle.mesh.specs.Range.{any}
+use Rattle.axis.specs.Range.{any}
 use Rattle.mesh.specs.Lines.{Mesh, upright, level, other, direction, start, end, inRange, draws, freshMesh, mesh, onLine, ended, splitsOf, meshOf, allowed}
 use Rattle.mesh.specs.declared.Split.{Split}
 use Rattle.mesh.specs.declared.Lines.{Lines}
-use Rattle.mesh.proofs.Tests.{either, and-both, all-at}
-use Rattle.mesh.proofs.Entries.{left-mem}
+use Rattle.axis.proofs.Tests.{either, and-both, all-at}
+use Rattle.axis.proofs.Entries.{left-mem}
 use Rattle.mesh.proofs.Drawing.{allowed-says, in-range-says, blank}
 
 -- whether a fresh map has a step, by the sides that the line crosses and runs along; whether a split of a direction's number has it

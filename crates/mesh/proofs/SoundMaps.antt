@@ -7,15 +7,15 @@ use mathlib.Core.Bool.{true}
 use mathlib.Core.List.{List, map, List·Memᴰ}
 use lib.ListN.{length}
 use borrow.Author.Tests.{eqb-true}
-use Rattle.mesh.specs.Range.{only}
+use Rattle.axis.specs.Range.{only, Distinct}
 use Rattle.mesh.specs.Lines.{Mesh, Direction}
 use Rattle.mesh.specs.Blends.{live, leavesOf, firstFour, cuts}
 use Rattle.mesh.specs.Order.{Comes, Uncut, Cutting}
 use Rattle.mesh.specs.Sound.{proper, overSquare, fourEverywhere, noneNested, sound}
-use Rattle.mesh.specs.Weight.{Term, weight, total, value, interpolated, Equal}
+use Rattle.mesh.specs.Weight.{Term, weight, value, interpolated}
+use Rattle.axis.specs.Fraction.{total, Equal}
 use Rattle.mesh.specs.declared.Blend.{Blend}
-use Rattle.mesh.proofs.Tests.{and-both, every-at}
-use Rattle.mesh.proofs.Distinct.{Distinct}
+use Rattle.axis.proofs.Tests.{and-both, every-at}
 use Rattle.mesh.proofs.Order.{cut-or-not, LeftOf, SameMembers, any-order, comes-trans}
 use Rattle.mesh.proofs.Cuts.{proper-facts}
 use Rattle.mesh.proofs.Places.{sound-own}

@@ -1,19 +1,19 @@
 -- Blends kept once and in table order: membership, no repeats.
-use Prim.Native.Nat.{ℕ, zero, suc, _+_, _≤_, _<_}
+use Prim.Native.Nat.{ℕ, _+_, _≤_, _<_}
 use native.Mathlib.Omega.{arith}
-use mathlib.Core.Path.{_≡_, refl, sym, ap, subst, _∙_}
+use mathlib.Core.Path.{_≡_, refl, sym, subst, _∙_}
 use mathlib.Core.Logic.{⊎-elim}
-use mathlib.Core.Bool.{Bool, true}
-use mathlib.Core.List.{List, [], _∷_, _++_, List·Memᴰ, List·Memᴰ·cases-cons, List·Memᴰ·append-cases, List·Memᴰ·not-nil}
+use mathlib.Core.Bool.{true}
+use mathlib.Core.List.{List, [], _∷_, List·Memᴰ, List·Memᴰ·cases-cons}
 use mathlib.Core.List.List·Memᴰ.{List·Memᴰ·head, List·Memᴰ·tail}
 use borrow.Author.Tests.{eqb-true, eq-eqb}
 use lib.Dec.{eqb}
-use Rattle.mesh.specs.Range.{each, any, only}
+use Rattle.axis.specs.Range.{each, any, only, Distinct}
 use Rattle.mesh.specs.Blends.{same, once, anchored, inTableOrder}
 use Rattle.mesh.specs.declared.Blend.{Blend}
-use Rattle.mesh.proofs.Tests.{either, true-not-false, and-both, and-of, any-at, any-of, only-mem, mem-only, each-mem, mem-each}
-use Rattle.mesh.proofs.Distinct.{Distinct}
+use Rattle.axis.proofs.Tests.{either, true-not-false, and-both, and-of, any-at, any-of, only-mem, mem-only, each-mem, mem-each}
 use Rattle.mesh.proofs.Cuts.{same-blend, blend-same}
+use Rattle.axis.proofs.Distinct.{only-distinct, each-distinct}
 
 -- `once` keeps the members, each of them once
 pub once-mem : (bs : List Blend) (C : Blend) → List·Memᴰ C (once bs) → List·Memᴰ C bs
@@ -44,43 +44,6 @@ once-distinct (B ∷ bs) =
     ⊎-elim (λ t. rw t (once-distinct bs))
     (λ t. rw t (λ m. true-not-false _ (any-of (same B) bs B (once-mem bs B m) (blend-same B B refl)) t, once-distinct bs))
     (either (any (same B) bs))
-
-module _ {ℓ} {A : Type ℓ} where
-  pub only-distinct : (test : A → Bool) (xs : List A) → Distinct xs → Distinct (only test xs)
-  only-distinct test [] d = tt
-  only-distinct test (x ∷ xs) d =
-      ⊎-elim (λ t. rw t (λ m. d .0 (only-mem test xs x m .0), only-distinct test xs (d .1))) (λ t. rw t (only-distinct test xs (d .1))) (either (test x))
-
-  append-distinct : (xs ys : List A) → Distinct xs → Distinct ys → ((x : A) → List·Memᴰ x xs → List·Memᴰ x ys → ⊥) → Distinct (xs ++ ys)
-  append-distinct [] ys d e f = e
-  append-distinct (x ∷ xs) ys d e f = (
-    λ m. ⊎-elim (d .0) (f x (List·Memᴰ·head refl)) (List·Memᴰ·append-cases xs m),
-    append-distinct xs ys (d .1) e (λ y m n. f y (List·Memᴰ·tail m) n),
-  )
-
-  -- lists by number, none of whose entries has two numbers
-  pub each-distinct : (key : A → ℕ) (from n : ℕ) (f : ℕ → List A) →
-      ((k : ℕ) → Distinct (f k)) → ((k : ℕ) (x : A) → List·Memᴰ x (f k) → key x ≡ k) → Distinct (each from n f)
-  each-distinct key from zero f d e = tt
-  each-distinct key from (suc n) f d e =
-      append-distinct (f from) (each (from + 1) n f) (d from) (each-distinct key (from + 1) n f d e)
-      (λ x m r.
-      let found = each-mem (from + 1) n f x r in
-      let here : key x ≡ from = e from x m in
-      let there : key x ≡ found .0 = e (found .0) x (found .3) in
-      let after : from + 1 ≤ found .0 = found .1 in
-      omega arith)
-
-  -- a list without repeats whose members all equal x, x among them
-  pub singleton : (x : A) (xs : List A) → Distinct xs → ((y : A) → List·Memᴰ y xs → y ≡ x) → List·Memᴰ x xs → xs ≡ x ∷ []
-  singleton x [] d e m = absurd (List·Memᴰ·not-nil m)
-  singleton x (y ∷ []) d e m = ap (λ (z : A). z ∷ []) (e y (List·Memᴰ·head refl))
-  singleton x (y ∷ z ∷ zs) d e m =
-      absurd (d .0 (List·Memᴰ·head (e y (List·Memᴰ·head refl) ∙ sym (e z (List·Memᴰ·tail (List·Memᴰ·head refl))))))
-
-  pub nothing : (xs : List A) → ((y : A) → List·Memᴰ y xs → ⊥) → xs ≡ []
-  nothing [] f = refl
-  nothing (x ∷ xs) f = absurd (f x (List·Memᴰ·head refl))
 
 -- an anchor in the domain, in knots
 pub record Anchored (w h : ℕ) (B : Blend) : Type 0 where

@@ -7,18 +7,19 @@ use mathlib.Core.Logic.{_⊎_, _↔_, inl, inr, ⊎-elim}
 use mathlib.Core.Bool.{true, false, _&&_, not}
 use mathlib.Core.List.{List, [], _∷_, map, List·Memᴰ}
 use borrow.Author.Tests.{not-false}
-use Rattle.mesh.specs.Triple.{Fraction, hat, Side, lower, upper, spans, between}
+use Rattle.axis.specs.Fraction.{Fraction, times, whole, total, Equal}
+use Rattle.axis.specs.Triple.{hat, Side, lower, upper, spans, between}
 use Rattle.mesh.specs.Lines.{Direction, upright, level, Mesh}
 use Rattle.mesh.specs.Blends.{crossed, cuts, halve, size, same, firstFour}
 use Rattle.mesh.specs.Order.{Left, Uncut}
 use Rattle.mesh.specs.Sound.{proper, overSquare, noneNested}
-use Rattle.mesh.specs.Weight.{times, whole, total, Equal, weight, Term, value, interpolated}
+use Rattle.mesh.specs.Weight.{weight, Term, value, interpolated}
 use Rattle.mesh.specs.declared.Blend.{Blend}
-use Rattle.mesh.proofs.Tests.{and-both, and-of, and-fails}
-use Rattle.mesh.proofs.Distinct.{Distinct}
-use Rattle.mesh.proofs.Scale.{Multiple, common, Scaled, scaled-times, scaled-total, scaled-more, scaled-multiple, scaled-equal, scaled-one, total-positive, sum, sum-same, sum-zero, sum-multiple, sum-linear, sum-single}
-use Rattle.mesh.proofs.Hats.{hat-den, hat-middle, hat-off, step-positive, scaledHat, scaled-hat, two-scale, scaled-middle, scaled-off, first-two}
-use Rattle.mesh.proofs.Triples.{Inside, rise-of}
+use Rattle.axis.proofs.Tests.{and-both, and-of, and-fails}
+use Rattle.axis.specs.Range.{Distinct}
+use Rattle.axis.proofs.Scale.{Multiple, common, Scaled, scaled-times, scaled-total, scaled-more, scaled-multiple, scaled-equal, scaled-one, total-positive, sum, sum-same, sum-zero, sum-multiple, sum-linear, sum-single}
+use Rattle.axis.proofs.Hats.{hat-den, hat-middle, hat-off, step-positive, scaledHat, scaled-hat, two-scale, scaled-middle, scaled-off, first-two}
+use Rattle.axis.proofs.Triples.{Inside, rise-of}
 use Rattle.mesh.proofs.Cuts.{RiseB, proper-facts, proper-of, proper-rises, halve-proper, halve-smaller, cut-fact, same-blend}
 use Rattle.mesh.proofs.Order.{left-front, left-itself}
 use Rattle.mesh.proofs.Places.{unnested}

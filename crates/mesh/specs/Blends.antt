@@ -3,10 +3,11 @@ use Prim.Native.Nat.{ℕ, zero, suc, _+_, _-_}
 use mathlib.Core.Bool.{Bool, true, false, cond, _&&_, _||_, not}
 use mathlib.Core.List.{List, [], _∷_, _++_}
 use lib.Dec.{eqb}
-use Rattle.mesh.specs.Range.{each, any, only, joined}
-use Rattle.mesh.specs.Triple.{Side, lower, upper, half, inside, low, high, sameTriple}
+use Rattle.axis.specs.Range.{each, any, only, joined}
+use Rattle.axis.specs.Triple.{Side, lower, upper, half, inside, low, high, sameTriple}
+use Rattle.axis.specs.Nearest.{nearest}
 use Rattle.mesh.specs.Lines.{Direction, upright, level, other, Mesh, covers}
-use Rattle.mesh.specs.declared.Triple.{Triple}
+use Rattle.axis.specs.declared.Triple.{Triple}
 use Rattle.mesh.specs.declared.Blend.{Blend}
 
 abbrev pub blend : Triple → Triple → Blend
@@ -33,22 +34,7 @@ unfoldable pub halve : Direction → Side → ℕ → Blend → Blend
 halve upright s z B = blend (half s z (B .across)) (B .up)
 halve level s z B = blend (B .across) (half s z (B .up))
 
--- The line that cuts first, the nearest below the middle, else the nearest above it; 0 where none cuts (no line at −1 does).
--- Which one is taken first makes no difference to what is left: Order.antt.
-unfoldable pub below : (ℕ → Bool) → ℕ → ℕ → ℕ
-below line l zero = 0
-below line l (suc n) = let rest = below line l n in cond (line (l + suc n)) (l + suc n) rest
-
-unfoldable pub above : (ℕ → Bool) → ℕ → ℕ → ℕ
-above line r zero = 0
-above line r (suc n) = let rest = above line r n in cond (line (r - suc n)) (r - suc n) rest
-
-unfoldable pub nearest : (ℕ → Bool) → Triple → ℕ
-nearest line t =
-    let high = above line (t .r) (t .r - t .m - 1) in
-    let low = below line (t .l) (t .m - t .l - 1) in
-    cond (eqb low 0) high low
-
+-- the line that cuts first; 0 where none cuts
 abbrev pub cutter : Mesh → Direction → Blend → ℕ
 cutter M d B = nearest (coversBlend M d B) (crossed d B)
 

@@ -5,12 +5,12 @@ use mathlib.Core.Bool.{Bool, true, false, cond, _&&_, _||_, not}
 use mathlib.Core.List.{List, [], _∷_, List·Memᴰ}
 use lib.Dec.{ltb, leb, eqb}
 use lib.ListN.{length, getD, set, replicate}
-use Rattle.mesh.specs.Range.{each, only}
-use Rattle.mesh.specs.Triple.{triple}
+use Rattle.axis.specs.Range.{each, only}
+use Rattle.axis.specs.Triple.{triple, RisesIn}
 use Rattle.mesh.specs.Lines.{Direction, upright, level, Mesh}
 use Rattle.mesh.specs.Blends.{blend, cuts, leavesOf}
 use Rattle.mesh.specs.Sound.{table}
-use Rattle.mesh.specs.declared.Triple.{Triple}
+use Rattle.axis.specs.declared.Triple.{Triple}
 use Rattle.mesh.specs.declared.Blend.{Blend}
 use Rattle.mesh.specs.declared.Refined.{Refined}
 
@@ -29,20 +29,12 @@ unfoldable pub bytesMesh : List ℕ → List ℕ → Mesh
 bytesMesh uprights levels upright = stepOn uprights
 bytesMesh uprights levels level = stepOn levels
 
--- a triple rises within the knots of a side, 0 to side + 2; so do both of a blend, each within those of its own side
-pub record RisesIn (side : ℕ) (t : Triple) : Type 0 where
-  pub low : t .l < t .m
-  pub high : t .m < t .r
-  pub most : t .r ≤ side + 2
-
+-- both triples of a blend rise, each within the knots of its own side
 pub record ProperIn (w h : ℕ) (B : Blend) : Type 0 where
   pub across : RisesIn w (B .across)
   pub up : RisesIn h (B .up)
 
--- the knots of the longest side are 0 to 130: a triple rises within them, both of a blend do, and those of all of some blends
-abbrev pub Rises : Triple → Type 0
-Rises t = RisesIn 128 t
-
+-- within the knots of the longest side; and those of all of some blends
 abbrev pub Proper : Blend → Type 0
 Proper B = ProperIn 128 128 B
 

@@ -4,11 +4,11 @@ use mathlib.Core.Path.{_≡_, refl}
 use mathlib.Core.Bool.{Bool, true, false}
 use mathlib.Core.List.{List, [], _∷_}
 use lib.ListN.{length}
-use Rattle.mesh.specs.Range.{only}
-use Rattle.mesh.specs.Triple.{triple}
+use Rattle.axis.specs.Range.{only}
+use Rattle.axis.specs.Triple.{triple, half}
 use Rattle.mesh.specs.Lines.{mesh, start, end, inRange, draws, freshMesh, onLine}
-use Rattle.mesh.specs.Blends.{blend, live, refine, leavesOf, leaves, once, inTableOrder, nearest, below, above, halve}
-use Rattle.mesh.specs.Triple.{half}
+use Rattle.mesh.specs.Blends.{blend, live, refine, leavesOf, leaves, once, inTableOrder, halve}
+use Rattle.axis.specs.Nearest.{nearest, below, above}
 use Rattle.mesh.specs.Sound.{sound, fourEverywhere, noneNested, overSquare}
 use Rattle.mesh.specs.declared.Split.{Split}
 use Rattle.mesh.specs.declared.Blend.{Blend}

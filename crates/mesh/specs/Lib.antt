@@ -1,5 +1,3 @@
-pub mod Range
-pub mod Triple
 pub mod Lines
 pub mod Blends
 pub mod Order

@@ -3,7 +3,7 @@ use mathlib.Core.Path.{_≡_}
 use Prim.Native.Nat.{ℕ}
 use mathlib.Core.Bool.{Bool, true, false}
 use mathlib.Core.List.{List, [], _∷_, _++_, List·Memᴰ}
-use Rattle.mesh.specs.Triple.{Side, lower, upper}
+use Rattle.axis.specs.Triple.{Side, lower, upper}
 use Rattle.mesh.specs.Lines.{Direction, Mesh}
 use Rattle.mesh.specs.Blends.{cuts, halve}
 use Rattle.mesh.specs.declared.Blend.{Blend}

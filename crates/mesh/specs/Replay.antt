@@ -4,7 +4,7 @@ use mathlib.Core.Bool.{Bool, true, false, cond, _&&_, not}
 use mathlib.Core.List.{List, [], _∷_, _++_}
 use lib.Dec.{ltb, leb}
 use lib.ListN.{length}
-use Rattle.mesh.specs.Range.{any}
+use Rattle.axis.specs.Range.{any}
 use Rattle.mesh.specs.Lines.{allowedSide, inRange, mesh, shares, ended, splitsOf, meshOf}
 use Rattle.mesh.specs.Blends.{isCut, live}
 use Rattle.mesh.specs.Sound.{sound, table}

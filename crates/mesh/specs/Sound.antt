@@ -4,8 +4,8 @@ use mathlib.Core.Bool.{Bool, true, false, cond, _&&_, not}
 use mathlib.Core.List.{List, [], _∷_, _++_}
 use lib.Dec.{leb, eqb}
 use lib.ListN.{length, take, replicate}
-use Rattle.mesh.specs.Range.{every, all, any, only}
-use Rattle.mesh.specs.Triple.{triple, rising, spans, stepsIn, between}
+use Rattle.axis.specs.Range.{every, all, any, only}
+use Rattle.axis.specs.Triple.{triple, rising, spans, stepsIn, between}
 use Rattle.mesh.specs.Lines.{allowedSide, meshOf, allowed}
 use Rattle.mesh.specs.Blends.{blend, same, anchored, isCut, refine, live}
 use Rattle.mesh.specs.declared.Blend.{Blend}

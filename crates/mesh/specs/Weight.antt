@@ -2,26 +2,9 @@
 use Prim.Native.Nat.{ℕ, _+_, _*_}
 use mathlib.Core.Path.{_≡_}
 use mathlib.Core.List.{List, [], _∷_, map}
-use Rattle.mesh.specs.Triple.{Fraction, hat}
+use Rattle.axis.specs.Fraction.{Fraction, times, whole, total}
+use Rattle.axis.specs.Triple.{hat}
 use Rattle.mesh.specs.declared.Blend.{Blend}
-
-abbrev pub times : Fraction → Fraction → Fraction
-times x y = record { num = x .num * y .num; den = x .den * y .den }
-
-abbrev pub plus : Fraction → Fraction → Fraction
-plus x y = record { num = x .num * y .den + y .num * x .den; den = x .den * y .den }
-
-abbrev pub whole : ℕ → Fraction
-whole n = record { num = n; den = 1 }
-
--- two fractions are the same number
-abbrev pub Equal : Fraction → Fraction → Type 0
-Equal x y = x .num * y .den ≡ y .num * x .den
-
--- a sum, over the product of all its denominators
-abbrev pub total : List Fraction → Fraction
-total [] = whole 0
-total (x ∷ xs) = plus x (total xs)
 
 -- "Its weight at (u, v) is the product of two hats.", at the point (p / d, q / d) in knots
 abbrev pub weight : Blend → ℕ → ℕ → ℕ → Fraction

@@ -1,20 +1,23 @@
 // Cutting: an upright cut hands its halves to the level cuts, a level cut hands its halves back, until neither cuts.
 use crate::Blend;
 use crate::Table;
-use crate::Triple;
 use crate::knots::pack;
 use crate::knots::place;
-use crate::knots::wide;
 use crate::steps::covers;
+use axis::Triple;
+use axis::supports::lower_half;
+use axis::supports::rises;
+use axis::supports::upper_half;
 ghost use mathlib.Core.Path.{_≡_};
 ghost use mathlib.Core.Bool.{true, cond};
 ghost use Prim.Native.Nat.{ℕ, _+_, _-_, _≤_};
-ghost use Rattle.mesh.specs.Range.{all, any, every};
-ghost use Rattle.mesh.specs.Triple.{half, lower, upper, rising};
+ghost use Rattle.axis.specs.Range.{all, any, every};
+ghost use Rattle.axis.specs.Triple.{Rises};
 ghost use Rattle.mesh.specs.Lines.{upright, level};
-ghost use Rattle.mesh.specs.Blends.{below, above, nearest, cutter, leaves, leavesOf, size, isCut};
+ghost use Rattle.axis.specs.Nearest.{below, above, nearest};
+ghost use Rattle.mesh.specs.Blends.{cutter, leaves, leavesOf, size, isCut};
 ghost use Rattle.mesh.specs.Sound.{proper, blendsOf};
-ghost use Rattle.mesh.specs.Bytes.{Square, stepOn, bytesMesh, Rises, Proper, keep, keepAll};
+ghost use Rattle.mesh.specs.Bytes.{Square, stepOn, bytesMesh, Proper, keep, keepAll};
 
 // The nearest line below the middle that covers the n steps from knot b on; 0 if there is none.
 fn nearest_below(steps: &[u8], x: Triple, b: u8, n: u8) -> u8
@@ -58,42 +61,6 @@ fn first_line(steps: &[u8], x: Triple, b: u8, n: u8) -> u8
         return z;
     }
     nearest_above(steps, x, b, n)
-}
-
-fn lower_half(z: u8, x: Triple) -> Triple
-    ensures { λ r. ⌜ r ≡ half lower z x ⌝ }
-{
-    if z < x.m {
-        Triple {
-            l: x.l,
-            m: z,
-            r: x.m,
-        }
-    } else {
-        Triple {
-            l: x.l,
-            m: x.m,
-            r: z,
-        }
-    }
-}
-
-fn upper_half(z: u8, x: Triple) -> Triple
-    ensures { λ r. ⌜ r ≡ half upper z x ⌝ }
-{
-    if z < x.m {
-        Triple {
-            l: z,
-            m: x.m,
-            r: x.r,
-        }
-    } else {
-        Triple {
-            l: x.m,
-            m: z,
-            r: x.r,
-        }
-    }
 }
 
 // Keeps a blend at its anchor's place.
@@ -189,20 +156,6 @@ fn cut_up(uprights: &[u8], levels: &[u8], x: Blend, tried: bool, places: &mut [u
         return;
     }
     cut_across(uprights, levels, x, true, places);
-}
-
-// Whether a triple rises within the side.
-fn rises(x: Triple, side: usize) -> bool
-    requires { ⌜ side ≤ 128 ⌝ }
-    ensures { λ r. ⌜ r ≡ rising side x ⌝ }
-{
-    if x.m <= x.l {
-        return false;
-    }
-    if x.r <= x.m {
-        return false;
-    }
-    wide(x.r) <= side + 2
 }
 
 // Whether the table's blends all rise within the sides.

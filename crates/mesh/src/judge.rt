@@ -1,37 +1,10 @@
 // Judging by area whether the live blends of a map make it sound: four over every unit square add up to four times the domain.
 use crate::Table;
-use crate::Triple;
-use crate::knots::wide;
+use axis::supports::steps_in;
 ghost use mathlib.Core.Path.{_≡_};
 ghost use Prim.Native.Nat.{_≤_, min, max};
-ghost use Rattle.mesh.specs.Triple.{stepsIn};
+ghost use Rattle.axis.specs.Triple.{stepsIn};
 ghost use Rattle.mesh.specs.Sound as sounds;
-
-// The lesser and the greater of two numbers.
-fn lesser(a: usize, b: usize) -> usize
-    ensures { λ r. ⌜ r ≡ min a b ⌝ }
-{
-    if a < b { a } else { b }
-}
-
-fn greater(a: usize, b: usize) -> usize
-    ensures { λ r. ⌜ r ≡ max a b ⌝ }
-{
-    if a < b { b } else { a }
-}
-
-// How many unit steps of a side lie in a triple.
-fn steps_in(side: usize, x: Triple) -> usize
-    requires { ⌜ side ≤ 128 ⌝ }
-    ensures { λ r. ⌜ r ≡ stepsIn side x ⌝ }
-{
-    let from = greater(wide(x.l), 1);
-    let to = lesser(wide(x.r), side + 1);
-    if to <= from {
-        return 0;
-    }
-    to - from
-}
 
 // Whether the areas of the table's blends add up to four times the domain.
 pub fn full(table: Table, w: usize, h: usize) -> bool

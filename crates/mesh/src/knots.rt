@@ -1,14 +1,9 @@
-// Knots are kept in bytes, since the last is 130, and calculated with as numbers.
+// A blend by the knots of its anchor and of its support.
 use crate::Blend;
+use axis::knots::wide;
 ghost use mathlib.Core.Path.{_≡_};
 ghost use Prim.Native.Nat.{_+_, _*_};
 ghost use Rattle.mesh.specs.Bytes.{packed};
-
-pub fn wide(knot: u8) -> usize
-    ensures { λ r. ⌜ r ≡ knot ⌝ }
-{
-    knot as usize
-}
 
 // The place of a blend's anchor in a square table, a place for each pair of knots.
 pub fn place(x: Blend) -> usize

@@ -1,6 +1,4 @@
 // Lines and blends: the first of the three layers.
-//
-// A knot is a line's position, kept shifted by one: knot k is document 01's coordinate k - 1, so that its -1 is 0.
 
 pub mod blends;
 mod cut;
@@ -12,12 +10,7 @@ mod read;
 pub mod replay;
 mod steps;
 
-// One axis of a blend: its three knots, rising.
-pub struct Triple {
-    pub l: u8,
-    pub m: u8,
-    pub r: u8,
-}
+use axis::Triple;
 
 // A blend: its triples across and up. Its anchor is the two middles, its support the two outer pairs.
 pub struct Blend {

@@ -7,7 +7,7 @@ ghost use mathlib.Core.Path.{_≡_};
 ghost use mathlib.Core.Bool.{true, _&&_, _||_};
 ghost use Prim.Native.Nat.{_+_, _≤_, _<_};
 ghost use lib.Dec.{eqb, ltb, leb};
-ghost use Rattle.mesh.specs.Range.{any};
+ghost use Rattle.axis.specs.Range.{any};
 ghost use Rattle.mesh.specs.Lines.{start, end, direction, allowed, inRange, splitsOf, meshOf, onLine, shares, ended};
 
 // Whether a fresh map has the step: the line crosses one side and runs along the other.

@@ -2,7 +2,7 @@
 use crate::Blend;
 use crate::Refined;
 use crate::Table;
-use crate::Triple;
+use axis::Triple;
 ghost use mathlib.Core.Path.{_≡_};
 ghost use mathlib.Core.Bool.{cond};
 ghost use Prim.Native.Nat.{_+_, _≤_, _<_};

@@ -6,7 +6,7 @@ use crate::Refined;
 use crate::Replayed;
 use crate::Split;
 use crate::Table;
-use crate::Triple;
+use axis::Triple;
 use crate::blends::first_four;
 use crate::cut::cut_across;
 use crate::cut::cut_all;
@@ -24,13 +24,13 @@ ghost use mathlib.Core.Bool.{true, cond, _&&_, _||_, not};
 ghost use Prim.Native.Nat.{ℕ, _+_, _-_, _≤_, _<_};
 ghost use lib.Dec.{eqb};
 ghost use lib.ListN.{length, getD};
-ghost use Rattle.mesh.specs.Range.{all, any, some, every, only};
-ghost use Rattle.mesh.specs.Triple.{inside};
+ghost use Rattle.axis.specs.Range.{all, any, some, every, only};
+ghost use Rattle.axis.specs.Triple.{inside, Rises};
 ghost use Rattle.mesh.specs.Lines.{Direction, direction, draws, inRange, shares, ended};
 ghost use Rattle.mesh.specs.Blends.{cuts, leavesOf};
 ghost use Rattle.mesh.specs.Sound.{proper, blendsOf};
 ghost use Rattle.mesh.specs.Bytes as bytes;
-ghost use Rattle.mesh.specs.Bytes.{Square, Idle, Rises, Proper, stepOn, bytesMesh, keepAll, clearAll, walk, listed, refused};
+ghost use Rattle.mesh.specs.Bytes.{Square, Idle, Proper, stepOn, bytesMesh, keepAll, clearAll, walk, listed, refused};
 ghost use Rattle.mesh.specs.Replay.{replayed};
 
 // Whether some of the n steps from knot `from` on, of the line at knot z, is on.

@@ -1,11 +1,11 @@
 // A mesh in bytes: a byte for each unit step of the lines of one direction.
 use crate::Lines;
 use crate::Split;
-use crate::knots::wide;
+use axis::knots::wide;
 ghost use mathlib.Core.Path.{_≡_};
 ghost use mathlib.Core.Bool.{true, _||_};
 ghost use Prim.Native.Nat.{ℕ, _+_, _≤_, _<_, max};
-ghost use Rattle.mesh.specs.Range.{every};
+ghost use Rattle.axis.specs.Range.{every};
 ghost use Rattle.mesh.specs.Lines.{Direction, number, other, side, start, end, draws, allowedSide, fits, inRange, allowed, freshMesh, meshOf};
 ghost use Rattle.mesh.specs.Bytes.{Square, stepOn, Drawn, empty};
 

@@ -5,7 +5,7 @@ use mathlib.Core.Path.{sym, ap, _∙_}
 use mathlib.Core.List.{List}
 use Prim.Native.Nat.{ℕ}
 use lib.Seq.{length-take-le}
-use Rattle.mesh.proofs.Tests.{cond-true, cond-false}
+use Rattle.axis.proofs.Tests.{cond-true, cond-false}
 use Rattle.maps.specs.Calls.{withTable}
 use Rattle.files.specs.Calls.{readFile}
 use Rattle.files.proofs.Changing.{no-bytes}

@@ -2,7 +2,7 @@
 use borrow.Author.Needs.{needs}
 use borrow.Author.Tests.{eq-eqb, ne-eqb}
 use mathlib.Core.Path.{_≡_, sym, _∙_}
-use Rattle.mesh.proofs.Tests.{cond-true, cond-false}
+use Rattle.axis.proofs.Tests.{cond-true, cond-false}
 use Rattle.maps.specs.Splits.{given, chosen}
 use Rattle.maps.specs.Record.{plain}
 use Rattle.maps.specs.Calls.{drawnFirst, lengthenedSplit}

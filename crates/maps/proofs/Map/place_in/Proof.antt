@@ -6,7 +6,7 @@ use mir.Syntax.{w16, w64}
 use mathlib.Core.Path.{_≡_, sym, ap, _∙_}
 use mathlib.Core.Bool.{not}
 use lib.ListN.{length, length-map}
-use Rattle.mesh.proofs.Tests.{passed, cond-true, cond-false}
+use Rattle.axis.proofs.Tests.{passed, cond-true, cond-false}
 use Rattle.maps.specs.Calls.{placeIn}
 use Rattle.maps.proofs.Over.{proper-at}
 use Rattle.maps.proofs.FromHand.{Fits, fits-all}

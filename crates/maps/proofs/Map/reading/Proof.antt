@@ -1,7 +1,7 @@
 -- `maps::Map::reading` meets its contract: a record that is not good is refused, else the answer is that of its own table.
 use borrow.Author.Needs.{needs}
 use mathlib.Core.Path.{sym, _∙_}
-use Rattle.mesh.proofs.Tests.{cond-true}
+use Rattle.axis.proofs.Tests.{cond-true}
 use Rattle.maps.specs.Calls.{reading}
 use Rattle.maps.proofs.Recording.{not-good, good-opened}
 use Rattle.maps.proofs.FromHand.{own-reading}

@@ -4,7 +4,7 @@ use borrow.Author.Tests.{eq-eqb, ne-eqb}
 use mathlib.Core.Path.{_≡_, sym, ap, _∙_}
 use mathlib.Core.Bool.{true, not, _&&_}
 use lib.Dec.{leb}
-use Rattle.mesh.proofs.Tests.{failed, passed, cond-true, cond-false}
+use Rattle.axis.proofs.Tests.{failed, passed, cond-true, cond-false}
 use Rattle.maps.specs.Calls.{fitting, readingIn}
 use Rattle.maps.proofs.FromHand.{at-point, at-four}
 use Rattle.maps.proofs.Map.reading_in.Statement.{statement}

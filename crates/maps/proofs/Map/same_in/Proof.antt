@@ -1,6 +1,6 @@
 -- `maps::Map::same_in` meets its contract: each return is what the tests before it decide.
 use borrow.Author.Tests.{le-leb, lt-leb, eq-eqb, ne-eqb}
-use Rattle.mesh.proofs.Tests.{failed, passed}
+use Rattle.axis.proofs.Tests.{failed, passed}
 use Rattle.maps.specs.Sameness.{sameIn}
 use Rattle.maps.proofs.Map.same_in.Statement.{statement}
 use Rattle.maps.proofs.Map.same_in.Tie as tie

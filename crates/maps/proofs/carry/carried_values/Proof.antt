@@ -10,13 +10,13 @@ use lib.Seq.{length-take-le, getD-take}
 use mir.Syntax.{w16}
 use borrow.Author.Needs.{needs, elem-fits}
 use Rattle.mesh.specs.declared.Blend.{Blend}
-use Rattle.maps.proofs.Exact.{entry}
+use Rattle.axis.proofs.Members.{entry}
 use Rattle.maps.proofs.Over.{four-at}
 use Rattle.maps.proofs.Readings.{Valued, reading-most}
 use Rattle.maps.proofs.Index.{OnKnots, on-knots, Indexed, old-valued, count-most, blends-of, values-of, old-indexed, old-table, noted-most, carried-new, carried-old, fill-more, fill-all}
 use Rattle.mesh.specs.Sound.{proper, none, blendsOf}
 use Rattle.mesh.specs.Bytes.{place}
-use Rattle.mesh.proofs.Tests.{all-at}
+use Rattle.axis.proofs.Tests.{all-at}
 use Rattle.mesh.proofs.Cutting.{proper-most}
 use Rattle.mesh.proofs.Places.{proper-facts}
 use Rattle.maps.specs.Plain.{blends}

@@ -5,10 +5,10 @@ use mathlib.Core.Path.{_≡_, refl}
 use mathlib.Core.Bool.{true}
 use mathlib.Core.List.{_∷_}
 use lib.ListN.{drop, getD, length, length-map, length-set}
-use Rattle.mesh.specs.Range.{all}
+use Rattle.axis.specs.Range.{all}
 use Rattle.mesh.specs.Sound.{proper, none, blendsOf}
 use Rattle.mesh.specs.Bytes.{place}
-use Rattle.mesh.proofs.Tests.{and-both}
+use Rattle.axis.proofs.Tests.{and-both}
 use Rattle.mesh.proofs.Cutting.{blends-turn, blends-end, proper-of}
 use Rattle.maps.specs.Inner.{anchorIndex}
 use Rattle.maps.proofs.carry.index_anchors.Statement.{statement}

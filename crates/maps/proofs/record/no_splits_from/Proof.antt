@@ -2,9 +2,9 @@
 use Prim.Native.Nat.{_+_, _-_}
 use mathlib.Core.Path.{_≡_, refl, sym, _∙_}
 use lib.ListN.{drop, length}
-use Rattle.mesh.specs.Range.{all}
+use Rattle.axis.specs.Range.{all}
 use Rattle.maps.specs.Record.{noSplit, isNoSplit}
-use Rattle.maps.proofs.Replay.{rest-turn, rest-none}
+use Rattle.axis.proofs.Entries.{rest-turn, rest-none}
 use borrow.Author.Tests.{not-true, not-false}
 use mathlib.Core.Bool.{_&&_}
 use native.Mathlib.Omega.{arith}

@@ -2,8 +2,9 @@
 use Prim.Native.Nat.{_+_, _-_}
 use mathlib.Core.Path.{_≡_, refl, sym, _∙_}
 use lib.ListN.{drop, getD, length}
-use Rattle.mesh.specs.Range.{all}
-use Rattle.maps.proofs.Replay.{isZero, rest-turn, rest-none}
+use Rattle.axis.specs.Range.{all}
+use Rattle.maps.proofs.Replay.{isZero}
+use Rattle.axis.proofs.Entries.{rest-turn, rest-none}
 use borrow.Author.Tests.{eq-eqb, ne-eqb}
 use mathlib.Core.Bool.{_&&_}
 use native.Mathlib.Omega.{arith}

@@ -4,10 +4,10 @@ use mathlib.Core.Path.{_≡_, sym, ap, _∙_}
 use mathlib.Core.Bool.{false}
 use lib.ListN.{length, drop}
 use Rattle.mesh.specs.declared.Table.{Table}
-use Rattle.mesh.specs.Range.{all}
+use Rattle.axis.specs.Range.{all}
 use Rattle.mesh.specs.Sound.{table}
 use Rattle.mesh.specs.Replay.{replayed}
-use Rattle.mesh.proofs.Tests.{true-not-false}
+use Rattle.axis.proofs.Tests.{true-not-false}
 use Rattle.maps.specs.declared.record.Opened.{Opened}
 use Rattle.maps.specs.Plain.{blends}
 use Rattle.maps.specs.Record.{bare, opened}

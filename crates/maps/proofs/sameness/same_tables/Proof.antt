@@ -9,10 +9,10 @@ use lib.ListN.{length, drop, getD, length-map}
 use lib.Seq.{length-take-le}
 use Rattle.mesh.specs.Blends.{same}
 use Rattle.mesh.specs.Sound.{blendsOf, none}
-use Rattle.mesh.proofs.Tests.{false-of}
+use Rattle.axis.proofs.Tests.{false-of}
 use Rattle.mesh.proofs.Cutting.{blends-turn, blends-end}
-use Rattle.maps.specs.Sameness.{agree}
-use Rattle.maps.proofs.Agreeing.{agree-length}
+use Rattle.axis.specs.Range.{agree}
+use Rattle.axis.proofs.Entries.{agree-length}
 use Rattle.maps.proofs.sameness.same_tables.Statement.{statement}
 use Rattle.maps.proofs.sameness.same_tables.Tie as tie
 

@@ -8,7 +8,7 @@ use mathlib.Core.Logic.{⊎-elim}
 use Rattle.mesh.specs.declared.Lines.{Lines}
 use Rattle.mesh.specs.declared.Table.{Table}
 use Rattle.mesh.specs.declared.Split.{Split}
-use Rattle.mesh.proofs.Tests.{either, cond-true, cond-false}
+use Rattle.axis.proofs.Tests.{either, cond-true, cond-false}
 use Rattle.maps.specs.Splits.{given, exactNumber, soundWith}
 use Rattle.maps.specs.Inner.{held, judged, stepped}
 use Rattle.maps.proofs.InHand.{given-says, hand-length}

@@ -6,7 +6,7 @@ use mathlib.Core.Bool.{true, false, cond, not}
 use lib.Dec.{leb}
 use lib.ListN.{length}
 use Rattle.mesh.specs.declared.Lines.{Lines}
-use Rattle.mesh.specs.Range.{any}
+use Rattle.axis.specs.Range.{any}
 use Rattle.mesh.specs.Blends.{isCut}
 use Rattle.mesh.specs.Lines.{splitsOf, inRange, shares, ended}
 use Rattle.mesh.specs.Sound.{someCut}

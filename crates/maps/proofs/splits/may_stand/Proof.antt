@@ -4,7 +4,7 @@ use borrow.Author.Tests.{not-true, not-false}
 use mathlib.Core.Path.{_≡_, sym, ap, _∙_}
 use mathlib.Core.Bool.{_&&_, not}
 use Rattle.mesh.specs.Lines.{inRange, ended, meshOf}
-use Rattle.mesh.proofs.Tests.{and-both}
+use Rattle.axis.proofs.Tests.{and-both}
 use Rattle.maps.proofs.splits.may_stand.Statement.{statement}
 use Rattle.maps.proofs.splits.may_stand.Tie as tie
 

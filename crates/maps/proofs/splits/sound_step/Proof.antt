@@ -6,7 +6,7 @@ use Rattle.mesh.specs.declared.Lines.{Lines}
 use Rattle.mesh.specs.declared.Table.{Table}
 use Rattle.mesh.specs.declared.Split.{Split}
 use Rattle.mesh.specs.Sound.{table}
-use Rattle.mesh.proofs.Tests.{cond-true, cond-false}
+use Rattle.axis.proofs.Tests.{cond-true, cond-false}
 use Rattle.maps.specs.Plain.{blends}
 use Rattle.maps.specs.Splits.{withLine, soundWith}
 use Rattle.maps.specs.Inner.{held, judged}

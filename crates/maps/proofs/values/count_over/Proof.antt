@@ -6,12 +6,12 @@ use mathlib.Core.Path.{_≡_, sym, _∙_}
 use mathlib.Core.Logic.{⊎-elim}
 use mathlib.Core.List.{List, _∷_}
 use lib.ListN.{drop, getD, length, length-map}
-use Rattle.mesh.specs.Range.{only}
+use Rattle.axis.specs.Range.{only}
 use Rattle.mesh.specs.Sound.{blendsOf, none, overSquare}
 use Rattle.mesh.specs.declared.Blend.{Blend}
 use Rattle.mesh.proofs.Cutting.{blends-turn, blends-end}
-use Rattle.maps.specs.Values.{corner}
-use Rattle.maps.proofs.Over.{corner-in}
+use Rattle.axis.specs.Gap.{corner}
+use Rattle.axis.proofs.Gaps.{corner-in}
 use Rattle.maps.proofs.values.count_over.Statement.{statement}
 use Rattle.maps.proofs.values.count_over.Tie as tie
 
@@ -47,7 +47,7 @@ here c =
     rw (k .before .corner-of .ensures, k .corner-of2 .ensures) at (c .is-over .ensures)
 
 corner-of-requires : tie.Need-corner-of-requires Inv-loop μ-loop
-corner-of-requires c κs = c .pre .1
+corner-of-requires c κs = search needs
 
 add-x : tie.Need-add-x Inv-loop μ-loop
 add-x c =
@@ -56,7 +56,7 @@ add-x c =
     omega (arith, corner-in (a .w) (a .u) (c .corner-of .result) (p .1) (p .5) (c .corner-of .ensures))
 
 corner-of-requires-2 : tie.Need-corner-of-requires-2 Inv-loop μ-loop
-corner-of-requires-2 c κs = c .before .pre .3
+corner-of-requires-2 c κs = search needs
 
 add-y : tie.Need-add-y Inv-loop μ-loop
 add-y c =

@@ -1,4 +1,5 @@
 -- `maps::values::denominator_at` meets its contract.
+use borrow.Author.Needs.{needs}
 use native.Mathlib.Omega.{arith}
 use Rattle.mesh.proofs.Places.{ProperIn, proper-facts}
 use Rattle.maps.proofs.Over.{denominator-most}
@@ -9,10 +10,10 @@ facts : (c : tie.Start) → ProperIn 128 128 (c .args .b)
 facts c = proper-facts 128 128 (c .args .b) (c .pre)
 
 gap-at-requires : tie.Need-gap-at-requires
-gap-at-requires c κs = let f = facts (c .before .before) .across in (f .low, f .high)
+gap-at-requires c κs = search needs
 
 gap-at-requires-2 : tie.Need-gap-at-requires-2
-gap-at-requires-2 c κs = let f = facts (c .before .before .before) .up in (f .low, f .high)
+gap-at-requires-2 c κs = search needs
 
 mul-result : tie.Need-mul-result
 mul-result c =

@@ -1,9 +1,11 @@
 -- `maps::values::numerator_at` meets its contract.
+use borrow.Author.Needs.{needs}
 use native.Mathlib.Omega.{arith}
-use Rattle.mesh.specs.Triple.{spans}
-use Rattle.mesh.proofs.Tests.{and-both}
+use Rattle.axis.specs.Triple.{spans}
+use Rattle.axis.proofs.Tests.{and-both}
 use Rattle.mesh.proofs.Places.{proper-facts}
-use Rattle.maps.proofs.Over.{Spans, spans-facts, numerator-most}
+use Rattle.axis.proofs.Gaps.{Spans, spans-facts}
+use Rattle.maps.proofs.Over.{numerator-most}
 use Rattle.maps.proofs.values.numerator_at.Statement.{statement}
 use Rattle.maps.proofs.values.numerator_at.Tie as tie
 
@@ -13,16 +15,10 @@ over c =
     (spans-facts (c .args .b .across) (c .args .x) (b .0), spans-facts (c .args .b .up) (c .args .y) (b .1))
 
 share-at-requires : tie.Need-share-at-requires
-share-at-requires c κs =
-    let o = over (c .before .before) .0 in
-    let p = c .before .before .pre in
-    (p .2, o .from, p .3, o .to)
+share-at-requires c κs = search needs
 
 share-at-requires-2 : tie.Need-share-at-requires-2
-share-at-requires-2 c κs =
-    let o = over (c .before .before .before) .1 in
-    let p = c .before .before .before .pre in
-    (p .4, o .from, p .5, o .to)
+share-at-requires-2 c κs = search needs
 
 mul-result : tie.Need-mul-result
 mul-result c =

@@ -10,9 +10,10 @@ use lib.ListN.{take, drop, getD, length, length-map}
 use Rattle.mesh.specs.Weight.{value}
 use Rattle.mesh.specs.Sound.{blendsOf, none, proper}
 use Rattle.mesh.proofs.Places.{proper-facts}
-use Rattle.mesh.proofs.Entries.{left-turn, left-none}
+use Rattle.axis.proofs.Entries.{left-turn, left-none}
 use Rattle.maps.specs.Values.{paired, readingAt}
-use Rattle.maps.proofs.Over.{End, corner-in, corner-end, proper-at}
+use Rattle.axis.proofs.Gaps.{End, corner-in, corner-end}
+use Rattle.maps.proofs.Over.{proper-at}
 use Rattle.maps.proofs.Adding.{Adding, adding-none, adding-all, adding-small, adding-outside, adding-fits, adding-over, value-positive}
 use Rattle.maps.proofs.values.reading_of.Statement.{statement}
 use Rattle.maps.proofs.values.reading_of.Tie as tie
@@ -64,7 +65,7 @@ turn c =
     rw (left-turn (a .t1 .blends) (a .t1 .count) (l .i) (omega arith) none (omega arith), left-turn (a .t2) (a .t1 .count) (l .i) (omega arith) 0 (omega arith)) at (l .inv .1)
 
 corner-of-requires : tie.Need-corner-of-requires Inv-loop μ-loop
-corner-of-requires c κs = c .pre .3
+corner-of-requires c κs = search needs
 
 add-x : tie.Need-add-x Inv-loop μ-loop
 add-x c =
@@ -73,7 +74,7 @@ add-x c =
     omega (arith, corner-in (a .w) (a .u) (c .corner-of .result) (p .3) (p .7) (c .corner-of .ensures))
 
 corner-of-requires-2 : tie.Need-corner-of-requires-2 Inv-loop μ-loop
-corner-of-requires-2 c κs = c .before .pre .5
+corner-of-requires-2 c κs = search needs
 
 add-y : tie.Need-add-y Inv-loop μ-loop
 add-y c =

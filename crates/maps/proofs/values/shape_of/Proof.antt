@@ -1,4 +1,5 @@
 -- `maps::values::shape_of` meets its contract.
+use borrow.Author.Needs.{needs}
 use Prim.Native.Nat.{_<_, _^_}
 use native.Mathlib.Omega.{arith}
 use mathlib.Core.Path.{_≡_, _∙_}

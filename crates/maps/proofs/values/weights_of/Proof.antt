@@ -7,15 +7,17 @@ use mathlib.Core.Logic.{⊎-elim}
 use mathlib.Core.Bool.{true}
 use mathlib.Core.List.{List, _∷_, map}
 use lib.ListN.{drop, getD, length, length-map}
-use Rattle.mesh.specs.Range.{only}
+use Rattle.axis.specs.Range.{only}
 use Rattle.mesh.specs.Sound.{blendsOf, none, proper, overSquare}
 use Rattle.mesh.specs.declared.Blend.{Blend}
-use Rattle.mesh.proofs.Entries.{left-turn, left-none}
+use Rattle.axis.proofs.Entries.{left-turn, left-none}
 use Rattle.maps.specs.declared.Weight.{Weight}
 use Rattle.maps.specs.Calls.{weightOver, noWeight}
-use Rattle.maps.specs.Values.{corner, weightAt}
-use Rattle.maps.proofs.Over.{End, corner-in, corner-end, proper-at}
-use Rattle.maps.proofs.Filling.{Filling, filling-none, filling-room, filling-more, filling-all}
+use Rattle.axis.specs.Gap.{corner}
+use Rattle.maps.specs.Values.{weightAt}
+use Rattle.axis.proofs.Gaps.{End, corner-in, corner-end}
+use Rattle.maps.proofs.Over.{proper-at}
+use Rattle.axis.proofs.Filling.{Filling, filling-none, filling-room, filling-more, filling-all}
 use Rattle.maps.proofs.values.weights_of.Statement.{statement}
 use Rattle.maps.proofs.values.weights_of.Tie as tie
 
@@ -87,7 +89,7 @@ place : (c : tie.Then1 Inv-loop μ-loop) → c .before .before .before .before .
 place c = omega (arith, filling-room (entry c), four (c .before .before .before .before .before .before .before))
 
 corner-of-requires : tie.Need-corner-of-requires Inv-loop μ-loop
-corner-of-requires c κs = c .pre .3
+corner-of-requires c κs = search needs
 
 add-x : tie.Need-add-x Inv-loop μ-loop
 add-x c =
@@ -96,7 +98,7 @@ add-x c =
     omega (arith, corner-in (a .w) (a .u) (c .corner-of .result) (p .3) (p .7) (c .corner-of .ensures))
 
 corner-of-requires-2 : tie.Need-corner-of-requires-2 Inv-loop μ-loop
-corner-of-requires-2 c κs = c .before .pre .5
+corner-of-requires-2 c κs = search needs
 
 add-y : tie.Need-add-y Inv-loop μ-loop
 add-y c =

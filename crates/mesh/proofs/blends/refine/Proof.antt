@@ -8,7 +8,7 @@ use Rattle.mesh.specs.Lines.{Mesh, meshOf}
 use Rattle.mesh.specs.Blends.{leavesOf}
 use Rattle.mesh.specs.Sound.{blendsOf}
 use Rattle.mesh.specs.Bytes.{bytesMesh, keepAll, empty}
-use Rattle.mesh.proofs.Tests.{failed, passed}
+use Rattle.axis.proofs.Tests.{failed, passed}
 use Rattle.mesh.proofs.Bytes.{all-marked}
 use Rattle.mesh.proofs.Refining.{Ranged, ranged-says, ranged-most, out-refused, sides, drawn-mesh, Cut, places-square, met-refused, read-refined}
 use Rattle.mesh.proofs.blends.refine.Statement.{statement}

@@ -2,12 +2,12 @@
 use native.Mathlib.Omega.{arith}
 use borrow.Author.Needs.{needs}
 use mathlib.Core.Path.{_≡_, refl, ap, _∙_}
-use Rattle.mesh.specs.Range.{any}
+use Rattle.axis.specs.Range.{any}
 use Rattle.mesh.specs.Lines.{Mesh, meshOf}
 use Rattle.mesh.specs.Blends.{isCut}
 use Rattle.mesh.specs.Sound.{blendsOf}
 use Rattle.mesh.specs.Bytes.{bytesMesh}
-use Rattle.mesh.proofs.Tests.{failed, passed}
+use Rattle.axis.proofs.Tests.{failed, passed}
 use Rattle.mesh.proofs.Refining.{Ranged, ranged-says, ranged-most, out-uncut, is-cut, drawn-mesh}
 use Rattle.mesh.proofs.blends.some_cut.Statement.{statement}
 use Rattle.mesh.proofs.blends.some_cut.Tie as tie

@@ -5,10 +5,10 @@ use borrow.Author.Needs.{needs}
 use borrow.Fn.Kinds.{In}
 use borrow.Fn.PlainCycle.{Measures, is, falls, and}
 use mathlib.Core.Path.{refl, sym, _∙_}
-use Rattle.mesh.specs.Triple.{lower, upper}
+use Rattle.axis.specs.Triple.{lower, upper}
 use Rattle.mesh.specs.Lines.{upright, level}
 use Rattle.mesh.specs.Bytes.{bytesMesh}
-use Rattle.mesh.proofs.Tests.{true-not-false}
+use Rattle.axis.proofs.Tests.{true-not-false}
 use Rattle.mesh.proofs.Cutting.{put-smaller, ahead, half-ahead, handed-ahead, cut-halves, cut-kept}
 use Rattle.mesh.proofs.cut.cut_across.Reads as cut-across
 use Rattle.mesh.proofs.cut.cut_across.Kinds as cut-across-kinds
@@ -18,8 +18,8 @@ use Rattle.mesh.proofs.cut.cut_up.Kinds as cut-up-kinds
 use Rattle.mesh.proofs.cut.+cut_across+cut_up.Lts-cut_up as cut-up-lts
 use Rattle.mesh.proofs.cut.first_line.Reads as first-line-reads
 use Rattle.mesh.proofs.cut.keep_blend.Reads as keep-blend-reads
-use Rattle.mesh.proofs.cut.lower_half.Reads as lower-half-reads
-use Rattle.mesh.proofs.cut.upper_half.Reads as upper-half-reads
+use Rattle.axis.proofs.supports.lower_half.Reads as lower-half-reads
+use Rattle.axis.proofs.supports.upper_half.Reads as upper-half-reads
 use Rattle.mesh.proofs.cut.+cut_across+cut_up.{statement}
 use Rattle.mesh.proofs.cut.+cut_across+cut_up.Tie.{close}
 

@@ -7,7 +7,7 @@ use lib.ListN.{drop, getD, length, length-map}
 use Rattle.mesh.specs.Blends.{leavesOf}
 use Rattle.mesh.specs.Sound.{none, blendsOf}
 use Rattle.mesh.specs.Bytes.{bytesMesh, keepAll}
-use Rattle.mesh.proofs.Tests.{true-not-false}
+use Rattle.axis.proofs.Tests.{true-not-false}
 use Rattle.mesh.proofs.Cutting.{blends-turn, blends-end, blends-proper, cut-first}
 use Rattle.mesh.proofs.cut.cut_all.Statement.{statement}
 use Rattle.mesh.proofs.cut.cut_all.Tie as tie

@@ -1,7 +1,7 @@
 -- `mesh::cut::first_line` meets its contract.
 use borrow.Author.Needs.{needs}
 use mathlib.Core.Path.{sym, _∙_}
-use Rattle.mesh.proofs.Nearest.{nearest-under, nearest-beyond}
+use Rattle.axis.proofs.Nearest.{nearest-under, nearest-beyond}
 use Rattle.mesh.proofs.Cutting.{over}
 use Rattle.mesh.proofs.cut.first_line.Statement.{statement}
 use Rattle.mesh.proofs.cut.first_line.Tie as tie

@@ -4,8 +4,8 @@ use native.Mathlib.Omega.{arith}
 use borrow.Author.Needs.{needs}
 use mathlib.Core.Path.{_≡_, refl, sym, _∙_}
 use mathlib.Core.Bool.{true, false}
-use Rattle.mesh.specs.Blends.{above}
-use Rattle.mesh.proofs.Nearest.{above-turn, above-none}
+use Rattle.axis.specs.Nearest.{above}
+use Rattle.axis.proofs.Nearest.{above-turn, above-none}
 use Rattle.mesh.proofs.Cutting.{over}
 use Rattle.mesh.proofs.cut.nearest_above.Statement.{statement}
 use Rattle.mesh.proofs.cut.nearest_above.Tie as tie

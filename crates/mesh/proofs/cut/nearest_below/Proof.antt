@@ -4,8 +4,8 @@ use native.Mathlib.Omega.{arith}
 use borrow.Author.Needs.{needs}
 use mathlib.Core.Path.{_≡_, refl, sym, _∙_}
 use mathlib.Core.Bool.{true, false}
-use Rattle.mesh.specs.Blends.{below}
-use Rattle.mesh.proofs.Nearest.{below-turn, below-none}
+use Rattle.axis.specs.Nearest.{below}
+use Rattle.axis.proofs.Nearest.{below-turn, below-none}
 use Rattle.mesh.proofs.Cutting.{over}
 use Rattle.mesh.proofs.cut.nearest_below.Statement.{statement}
 use Rattle.mesh.proofs.cut.nearest_below.Tie as tie

@@ -4,9 +4,9 @@ use native.Mathlib.Omega.{arith}
 use mathlib.Core.Path.{_≡_, refl, sym, ap, _∙_}
 use mathlib.Core.Bool.{_&&_}
 use lib.ListN.{drop, getD, length, length-map}
-use Rattle.mesh.specs.Range.{all}
+use Rattle.axis.specs.Range.{all}
 use Rattle.mesh.specs.Sound.{proper, blendsOf, none}
-use Rattle.mesh.proofs.Tests.{failed, passed}
+use Rattle.axis.proofs.Tests.{failed, passed}
 use Rattle.mesh.proofs.Cutting.{blends-turn, blends-end}
 use Rattle.mesh.proofs.cut.proper_table.Statement.{statement}
 use Rattle.mesh.proofs.cut.proper_table.Tie as tie

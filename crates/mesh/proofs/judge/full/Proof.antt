@@ -8,10 +8,10 @@ use mathlib.Core.Path.{_≡_}
 use mathlib.Core.Bool.{_&&_, and-false}
 use lib.Dec.{leb}
 use lib.ListN.{drop, getD, length, length-map}
-use Rattle.mesh.specs.Triple.{stepsIn}
+use Rattle.axis.specs.Triple.{stepsIn}
 use Rattle.mesh.specs.Sound.{none, blendsOf, area, areas, full}
 use Rattle.mesh.specs.declared.Blend.{Blend}
-use Rattle.mesh.proofs.Entries.{left-turn, left-none}
+use Rattle.axis.proofs.Entries.{left-turn, left-none}
 use Rattle.mesh.proofs.judge.full.Statement.{statement}
 use Rattle.mesh.proofs.judge.full.Tie as tie
 

@@ -1,6 +1,6 @@
 -- `mesh::points::both_in_range` meets its contract: one test behind the other.
 use borrow.Author.Needs.{needs}
-use Rattle.mesh.proofs.Tests.{refused, second}
+use Rattle.axis.proofs.Tests.{refused, second}
 use Rattle.mesh.proofs.points.both_in_range.Statement.{statement}
 use Rattle.mesh.proofs.points.both_in_range.Tie as tie
 

@@ -4,7 +4,7 @@ use borrow.Author.Needs.{needs}
 use mathlib.Core.Path.{_≡_, sym, _∙_}
 use mathlib.Core.Bool.{true}
 use Rattle.mesh.specs.Lines.{allowed}
-use Rattle.mesh.proofs.Tests.{refused, passed, second}
+use Rattle.axis.proofs.Tests.{refused, passed, second}
 use Rattle.mesh.proofs.SingleSteps.{Small, both-kept, ended-by}
 use Rattle.mesh.proofs.points.ends_on_lines.Statement.{statement}
 use Rattle.mesh.proofs.points.ends_on_lines.Tie as tie

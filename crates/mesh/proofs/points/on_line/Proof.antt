@@ -1,6 +1,6 @@
 -- `mesh::points::on_line` meets its contract: one test behind the other.
 use borrow.Author.Needs.{needs}
-use Rattle.mesh.proofs.Tests.{refused, passed, second}
+use Rattle.axis.proofs.Tests.{refused, passed, second}
 use Rattle.mesh.proofs.points.on_line.Statement.{statement}
 use Rattle.mesh.proofs.points.on_line.Tie as tie
 

@@ -4,9 +4,9 @@ use native.Mathlib.Omega.{arith}
 use mathlib.Core.Path.{_≡_, refl, sym, _∙_}
 use mathlib.Core.Bool.{_||_}
 use lib.ListN.{drop, length, length-map}
-use Rattle.mesh.specs.Range.{any}
+use Rattle.axis.specs.Range.{any}
 use Rattle.mesh.specs.Lines.{splitsOf}
-use Rattle.mesh.proofs.Entries.{left-turn, left-none}
+use Rattle.axis.proofs.Entries.{left-turn, left-none}
 use Rattle.mesh.proofs.Drawing.{allowed-says, blank}
 use Rattle.mesh.proofs.SingleSteps.{has, split-small}
 use Rattle.mesh.proofs.points.some_split_step.Statement.{statement}

@@ -2,7 +2,7 @@
 use Prim.Native.Nat.{_≤_}
 use mathlib.Core.Path.{_≡_, sym, _∙_}
 use mathlib.Core.Bool.{_||_}
-use Rattle.mesh.specs.Range.{any}
+use Rattle.axis.specs.Range.{any}
 use Rattle.mesh.specs.Lines.{direction, meshOf, splitsOf}
 use Rattle.mesh.proofs.Drawing.{allowed-says}
 use Rattle.mesh.proofs.SingleSteps.{has, step-upright, step-level}

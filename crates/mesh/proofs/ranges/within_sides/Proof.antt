@@ -2,7 +2,7 @@
 use borrow.Author.Needs.{needs}
 use borrow.Author.Tests.{leb-true, le-leb, lt-leb}
 use lib.Dec.{leb}
-use Rattle.mesh.proofs.Tests.{failed, passed, and-both}
+use Rattle.axis.proofs.Tests.{failed, passed, and-both}
 use Rattle.mesh.specs.Sound.{withinSides}
 use Rattle.mesh.proofs.ranges.within_sides.Statement.{statement}
 use Rattle.mesh.proofs.ranges.within_sides.Tie as tie

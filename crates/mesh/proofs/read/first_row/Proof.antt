@@ -2,7 +2,7 @@
 use borrow.Author.Needs.{needs}
 use borrow.Author.Tests.{eq-eqb, ne-eqb}
 use mathlib.Core.Path.{sym}
-use Rattle.mesh.proofs.Tests.{cond-true, cond-false}
+use Rattle.axis.proofs.Tests.{cond-true, cond-false}
 use Rattle.mesh.proofs.read.first_row.Statement.{statement}
 use Rattle.mesh.proofs.read.first_row.Tie as tie
 

@@ -9,7 +9,7 @@ use Rattle.mesh.specs.Lines.{direction}
 use Rattle.mesh.specs.Blends.{cuts}
 use Rattle.mesh.specs.Sound.{none, blendsOf}
 use Rattle.mesh.specs.Bytes.{bytesMesh, Proper}
-use Rattle.mesh.proofs.Tests.{true-not-false}
+use Rattle.axis.proofs.Tests.{true-not-false}
 use Rattle.mesh.proofs.Cutting.{blends-turn, blends-end, blends-proper}
 use Rattle.mesh.proofs.Recutting.{Keeping, keeping-none, keeping-cut, keeping-pass, keeping-done}
 use Rattle.mesh.proofs.replay.cut_those.Statement.{statement}

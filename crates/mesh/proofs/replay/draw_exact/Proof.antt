@@ -4,7 +4,7 @@ use borrow.Author.Needs.{needs}
 use mathlib.Core.Path.{_≡_, refl, sym}
 use mathlib.Core.Bool.{true}
 use Rattle.mesh.specs.Lines.{upright, level, inRange}
-use Rattle.mesh.proofs.Tests.{refused, failed, passed, second, and-of, true-not-false}
+use Rattle.axis.proofs.Tests.{refused, failed, passed, second, and-of, true-not-false}
 use Rattle.mesh.proofs.Drawing.{in-range-says}
 use Rattle.mesh.proofs.SingleSteps.{in-range-small}
 use Rattle.mesh.proofs.Recutting.{both-drawn}

@@ -6,13 +6,13 @@ use mathlib.Core.Bool.{true}
 use mathlib.Core.List.{List}
 use Prim.Native.Nat.{ℕ}
 use lib.ListN.{getD}
-use Rattle.mesh.specs.Range.{any}
+use Rattle.axis.specs.Range.{any}
 use Rattle.mesh.specs.Lines.{direction}
 use Rattle.mesh.specs.Blends.{cuts}
 use Rattle.mesh.specs.Sound.{blendsOf}
 use Rattle.mesh.specs.Bytes.{Idle, bytesMesh, recut, walk, listed, refused}
 use Rattle.mesh.specs.declared.Refined.{Refined}
-use Rattle.mesh.proofs.Tests.{failed, passed, and-of, and-first, cond-true, cond-false, true-not-false}
+use Rattle.axis.proofs.Tests.{failed, passed, and-of, and-first, cond-true, cond-false, true-not-false}
 use Rattle.mesh.proofs.Recutting.{recut-done, met-none}
 use Rattle.mesh.proofs.replay.recut.Statement.{statement}
 use Rattle.mesh.proofs.replay.recut.Tie as tie

@@ -13,7 +13,7 @@ use Rattle.mesh.specs.Bytes.{Marked, bytesMesh}
 use Rattle.mesh.specs.Replay.{accepts, replayed}
 use Rattle.mesh.specs.declared.Refined.{Refined}
 use Rattle.mesh.specs.declared.Replayed.{Replayed}
-use Rattle.mesh.proofs.Tests.{failed, passed}
+use Rattle.axis.proofs.Tests.{failed, passed}
 use Rattle.mesh.proofs.Drawing.{blank}
 use Rattle.mesh.proofs.SingleSteps.{Small}
 use Rattle.mesh.proofs.Replaying.{fresh-marked, more-marked, idle-on, Sides, sides-of, fine-small, fresh-mesh, fresh-count, fresh-proper, fresh-standing, Replaying, stopped, out-across, out-up, out-count, standing-count, standing-proper, standing-blends, not-fine, redrawn, Answer, answer-on, unfit-refused, full-decides, standing-next, replay-room, replay-stop, replay-more, replay-done}

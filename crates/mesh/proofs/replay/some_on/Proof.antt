@@ -3,9 +3,9 @@ use Prim.Native.Nat.{_+_}
 use native.Mathlib.Omega.{arith}
 use borrow.Author.Needs.{needs}
 use mathlib.Core.Path.{_≡_, refl, sym, _∙_}
-use Rattle.mesh.specs.Range.{some}
+use Rattle.axis.specs.Range.{some}
 use Rattle.mesh.specs.Bytes.{stepOn}
-use Rattle.mesh.proofs.Tests.{some-turn, some-none}
+use Rattle.axis.proofs.Tests.{some-turn, some-none}
 use Rattle.mesh.proofs.Bytes.{step-off, step-on}
 use Rattle.mesh.proofs.replay.some_on.Statement.{statement}
 use Rattle.mesh.proofs.replay.some_on.Tie as tie

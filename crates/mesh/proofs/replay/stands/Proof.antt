@@ -1,7 +1,7 @@
 -- `mesh::replay::stands` meets its contract: one test behind the other.
 use native.Mathlib.Omega.{arith}
 use mathlib.Core.Path.{sym, _∙_}
-use Rattle.mesh.proofs.Tests.{failed, passed}
+use Rattle.axis.proofs.Tests.{failed, passed}
 use Rattle.mesh.proofs.replay.stands.Statement.{statement}
 use Rattle.mesh.proofs.replay.stands.Tie as tie
 

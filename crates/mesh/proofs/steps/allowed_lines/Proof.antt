@@ -6,10 +6,10 @@ use borrow.Author.Tests.{not-true, not-false, le-leb, lt-leb}
 use mathlib.Core.Path.{_≡_, sym, _∙_}
 use mathlib.Core.Bool.{true, _&&_}
 use lib.ListN.{drop, length, length-map}
-use Rattle.mesh.specs.Range.{all}
+use Rattle.axis.specs.Range.{all}
 use Rattle.mesh.specs.Lines.{allowed, allowedSide, inRange, splitsOf}
-use Rattle.mesh.proofs.Tests.{failed, passed}
-use Rattle.mesh.proofs.Entries.{left-turn, left-none}
+use Rattle.axis.proofs.Tests.{failed, passed}
+use Rattle.axis.proofs.Entries.{left-turn, left-none}
 use Rattle.mesh.proofs.Drawing.{blank}
 use Rattle.mesh.proofs.steps.allowed_lines.Statement.{statement}
 use Rattle.mesh.proofs.steps.allowed_lines.Tie as tie

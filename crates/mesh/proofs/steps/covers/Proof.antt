@@ -3,9 +3,9 @@ use Prim.Native.Nat.{_+_}
 use native.Mathlib.Omega.{arith}
 use borrow.Author.Needs.{needs}
 use mathlib.Core.Path.{_≡_, refl, sym, _∙_}
-use Rattle.mesh.specs.Range.{every}
+use Rattle.axis.specs.Range.{every}
 use Rattle.mesh.specs.Bytes.{stepOn}
-use Rattle.mesh.proofs.Tests.{every-turn, every-none}
+use Rattle.axis.proofs.Tests.{every-turn, every-none}
 use Rattle.mesh.proofs.Bytes.{step-off, step-on}
 use Rattle.mesh.proofs.steps.covers.Statement.{statement}
 use Rattle.mesh.proofs.steps.covers.Tie as tie

@@ -1,0 +1,13 @@
+pub mod Tests
+pub mod Members
+pub mod Entries
+pub mod Distinct
+pub mod Counts
+pub mod Filling
+pub mod Triples
+pub mod Nearest
+pub mod Parts
+pub mod Scale
+pub mod Hats
+pub mod Sums
+pub mod Gaps

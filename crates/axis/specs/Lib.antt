@@ -1,0 +1,5 @@
+pub mod Range
+pub mod Fraction
+pub mod Triple
+pub mod Nearest
+pub mod Gap

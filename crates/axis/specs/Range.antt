@@ -1,0 +1,50 @@
+-- Walks over a run of numbers and over a list, as tests and as lists.
+use Prim.Native.Nat.{ℕ, zero, suc, _+_}
+use mathlib.Core.Bool.{Bool, true, false, cond, _&&_, _||_}
+use mathlib.Core.List.{List, [], _∷_, _++_, List·Memᴰ}
+
+-- whether the test holds of each of the `n` numbers from `from` on
+abbrev pub every : ℕ → ℕ → (ℕ → Bool) → Bool
+every from zero test = true
+every from (suc n) test = test from && every (from + 1) n test
+
+-- whether it holds of some of them
+abbrev pub some : ℕ → ℕ → (ℕ → Bool) → Bool
+some from zero test = false
+some from (suc n) test = test from || some (from + 1) n test
+
+-- the lists of the `n` numbers from `from` on, joined in rising order
+abbrev pub each {ℓ} : {A : Type ℓ} → ℕ → ℕ → (ℕ → List A) → List A
+each from zero f = []
+each from (suc n) f = f from ++ each (from + 1) n f
+
+-- whether the test holds of each entry of a list; of some entry
+abbrev pub all {ℓ} : {A : Type ℓ} → (A → Bool) → List A → Bool
+all test [] = true
+all test (x ∷ xs) = test x && all test xs
+
+abbrev pub any {ℓ} : {A : Type ℓ} → (A → Bool) → List A → Bool
+any test [] = false
+any test (x ∷ xs) = test x || any test xs
+
+-- the entries of a list for which the test holds, in their order
+abbrev pub only {ℓ} : {A : Type ℓ} → (A → Bool) → List A → List A
+only test [] = []
+only test (x ∷ xs) = let rest = only test xs in cond (test x) (x ∷ rest) rest
+
+-- the lists that the entries give, joined
+abbrev pub joined {ℓ ℓ′} : {A : Type ℓ} {B : Type ℓ′} → (A → List B) → List A → List B
+joined f [] = []
+joined f (x ∷ xs) = f x ++ joined f xs
+
+-- whether two lists agree entry by entry, by a test of two entries
+abbrev pub agree {ℓ} : {A : Type ℓ} → (A → A → Bool) → List A → List A → Bool
+agree test [] [] = true
+agree test [] (y ∷ ys) = false
+agree test (x ∷ xs) [] = false
+agree test (x ∷ xs) (y ∷ ys) = test x y && agree test xs ys
+
+-- no entry of a list stands in it twice
+abbrev pub Distinct {ℓ} : {A : Type ℓ} → List A → Type ℓ
+Distinct [] = Unit
+Distinct (x ∷ xs) = (List·Memᴰ x xs → ⊥) × Distinct xs
