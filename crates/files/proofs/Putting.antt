@@ -10,6 +10,7 @@ use lib.Seq.{length-take-le, take-all, take-at, drop-at, drop-drop, take-suc}
 use Rattle.axis.specs.Range.{joined}
 use Rattle.files.specs.File.{put}
 use Rattle.files.proofs.Words.{joined-length}
+use Rattle.axis.proofs.Members.{joined-more}
 
 pub put-none : (bytes : List ℕ) (at : ℕ) → bytes ≡ put bytes at []
 put-none bytes at = rw (append-nil, add-zero) (sym (take-append-drop at bytes))
