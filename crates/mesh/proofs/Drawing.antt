@@ -10,7 +10,7 @@ use lib.Dec.{eqb, ltb, leb, leb·zero}
 use lib.ListN.{length, getD, set, drop, replicate, length-set, length-replicate}
 use lib.Seq.{getD-set-same, getD-set-other}
 use Rattle.axis.specs.Range.{all, any}
-use Rattle.mesh.specs.Lines.{Direction, upright, level, number, other, side, start, end, draws, allowedSide, fits, inRange, allowed, splitsOf, freshMesh, mesh, meshOf}
+use Rattle.mesh.specs.Lines.{Direction, upright, level, number, other, side, start, end, draws, allowedSide, fits, inRange, allowed, splitsOf, freshMesh, mesh, layoutOf, meshOf}
 use Rattle.mesh.specs.Bytes.{Square, stepOn, at, Drawn, empty}
 use Rattle.mesh.specs.declared.Split.{Split}
 use Rattle.mesh.specs.declared.Lines.{Lines}
@@ -206,7 +206,7 @@ pub record Drawing (L : Lines) (direction i : ℕ) (steps : List ℕ) : Type 0 w
   pub ok : Allowed L
   pub room : length (L .splits) ≡ 60
   pub on : (d : Direction) → number d ≡ direction → (z k : ℕ) →
-      (stepOn steps z k || any (draws (L .w) (L .h) d z k) (drop i (splitsOf L))) ≡ meshOf L d z k
+      (stepOn steps z k || any (draws (L .w) (L .h) d z k) (drop i (splitsOf L))) ≡ meshOf (layoutOf L) d z k
 
 module _ (L : Lines) (direction : ℕ) where
   pub drawing-none : (steps : List ℕ) → allowed L ≡ true → length (L .splits) ≡ 60 → Square steps →
@@ -246,7 +246,7 @@ module _ (L : Lines) (direction : ℕ) where
         }
 
     pub drawing-done : L .count ≤ i → (d : Direction) → number d ≡ direction → (z k : ℕ) →
-        stepOn steps z k ≡ meshOf L d z k
+        stepOn steps z k ≡ meshOf (layoutOf L) d z k
     drawing-done done d same z k =
         let none = left-none (L .splits) (L .count) i (omega arith) done in
         sym (or-false (stepOn steps z k)) ∙ rw none at (drawing .on d same z k)

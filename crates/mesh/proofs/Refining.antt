@@ -9,7 +9,7 @@ use lib.Dec.{leb, eqb}
 use lib.ListN.{length, getD, set, replicate}
 use lib.Seq.{take-append-seam}
 use Rattle.axis.specs.Range.{all, any}
-use Rattle.mesh.specs.Lines.{Direction, upright, level, number, Mesh, meshOf, allowed}
+use Rattle.mesh.specs.Lines.{Direction, upright, level, number, Mesh, layoutOf, meshOf, allowed}
 use Rattle.mesh.specs.Blends.{cutter, isCut, refine, leavesOf, firstFour, live}
 use Rattle.mesh.specs.Sound.{proper, none, table, blendsOf, fitted, refined, someCut}
 use Rattle.mesh.specs.Bytes.{Square, ProperIn, stepOn, bytesMesh, keepAll, walk, listed, empty, refused}
@@ -69,21 +69,21 @@ module _ {L : Lines} {t : Table} (r : Ranged L t) where
   pub ranged-most : all (proper 128 128) (blendsOf t) ≡ true
   ranged-most = proper-most (L .w) (L .h) (blendsOf t) (sides .across .1) (sides .up .1) (r .good)
 
-  pub is-refined : refined L t ≡ fitted (refine (L .w) (L .h) (meshOf L) (blendsOf t))
+  pub is-refined : refined L t ≡ fitted (refine (L .w) (L .h) (meshOf (layoutOf L)) (blendsOf t))
   unfolding refined
   is-refined = cond-true _ _ _ is-ranged
 
-  pub is-cut : any (isCut (meshOf L)) (blendsOf t) ≡ someCut L t
+  pub is-cut : any (isCut (meshOf (layoutOf L))) (blendsOf t) ≡ someCut L t
   unfolding someCut
   is-cut = rw is-ranged
 
-  leaves-good : (C : Blend) → List·Memᴰ C (leavesOf (meshOf L) (blendsOf t)) → ProperIn (L .w) (L .h) C
+  leaves-good : (C : Blend) → List·Memᴰ C (leavesOf (meshOf (layoutOf L)) (blendsOf t)) → ProperIn (L .w) (L .h) C
   leaves-good C m =
       proper-facts (L .w) (L .h) C
-      (leaves-proper (L .w) (L .h) (meshOf L) (blendsOf t) (λ B k. all-at (proper (L .w) (L .h)) (blendsOf t) (r .good) B k) C m)
+      (leaves-proper (L .w) (L .h) (meshOf (layoutOf L)) (blendsOf t) (λ B k. all-at (proper (L .w) (L .h)) (blendsOf t) (r .good) B k) C m)
 
 -- what is left of the first four are the live blends
-pub first-refined : (L : Lines) → allowed L ≡ true → refined L (table (firstFour (L .w) (L .h))) ≡ fitted (live (L .w) (L .h) (meshOf L))
+pub first-refined : (L : Lines) → allowed L ≡ true → refined L (table (firstFour (L .w) (L .h))) ≡ fitted (live (L .w) (L .h) (meshOf (layoutOf L)))
 unfolding live
 first-refined L ok =
     let first = firstFour (L .w) (L .h) in
@@ -93,12 +93,12 @@ first-refined L ok =
 
 -- the bytes that were drawn are the lines' mesh
 pub drawn-mesh : (L : Lines) (ups lvs : List ℕ) →
-    ((d : Direction) → number d ≡ 0 → (z k : ℕ) → stepOn ups z k ≡ meshOf L d z k) →
-    ((d : Direction) → number d ≡ 1 → (z k : ℕ) → stepOn lvs z k ≡ meshOf L d z k) → bytesMesh ups lvs ≡ meshOf L
+    ((d : Direction) → number d ≡ 0 → (z k : ℕ) → stepOn ups z k ≡ meshOf (layoutOf L) d z k) →
+    ((d : Direction) → number d ≡ 1 → (z k : ℕ) → stepOn lvs z k ≡ meshOf (layoutOf L) d z k) → bytesMesh ups lvs ≡ meshOf (layoutOf L)
 unfolding bytesMesh
 drawn-mesh L ups lvs f g = fun-ext (by-direction)
   where
-    by-direction : (d : Direction) → bytesMesh ups lvs d ≡ meshOf L d
+    by-direction : (d : Direction) → bytesMesh ups lvs d ≡ meshOf (layoutOf L) d
     by-direction upright = fun-ext (λ z. fun-ext (λ k. f upright refl z k))
     by-direction level = fun-ext (λ z. fun-ext (λ k. g level refl z k))
 
@@ -119,7 +119,7 @@ pub record Cut (L : Lines) (t : Table) (P : List ℕ) : Type 0 where
   pub ranges : Ranged L t
   pub before : List ℕ
   pub blank : before ≡ empty
-  pub all-kept : P ≡ keepAll before (leavesOf (meshOf L) (blendsOf t))
+  pub all-kept : P ≡ keepAll before (leavesOf (meshOf (layoutOf L)) (blendsOf t))
 
 module _ {L : Lines} {t : Table} {P : List ℕ} (c : Cut L t P) where
   w-most : L .w ≤ 128
@@ -128,23 +128,23 @@ module _ {L : Lines} {t : Table} {P : List ℕ} (c : Cut L t P) where
   h-most : L .h ≤ 128
   h-most = sides (c .ranges) .up .1
 
-  holds : Kept (L .w) (L .h) P (leavesOf (meshOf L) (blendsOf t))
+  holds : Kept (L .w) (L .h) P (leavesOf (meshOf (layoutOf L)) (blendsOf t))
   holds =
-      subst (λ (X : List ℕ). Kept (L .w) (L .h) X (leavesOf (meshOf L) (blendsOf t))) (sym (c .all-kept))
+      subst (λ (X : List ℕ). Kept (L .w) (L .h) X (leavesOf (meshOf (layoutOf L)) (blendsOf t))) (sym (c .all-kept))
       (keep-list (L .w) (L .h) w-most h-most (c .before)
       (subst (λ (X : List ℕ). Kept (L .w) (L .h) X []) (sym (c .blank)) (nothing-kept (L .w) (L .h)))
-      (leavesOf (meshOf L) (blendsOf t)) (leaves-good (c .ranges)))
+      (leavesOf (meshOf (layoutOf L)) (blendsOf t)) (leaves-good (c .ranges)))
 
   -- two blends that met at a place: a table does not hold them
   pub met-refused : (getD P 0 0 ≡ 0 → ⊥) → refused ≡ refined L t
-  met-refused ne = met-fitted (L .w) (L .h) w-most h-most (meshOf L) (blendsOf t) holds ne ∙ sym (is-refined (c .ranges))
+  met-refused ne = met-fitted (L .w) (L .h) w-most h-most (meshOf (layoutOf L)) (blendsOf t) holds ne ∙ sym (is-refined (c .ranges))
 
   pub places-square : Square P
   places-square = holds .square
 
   -- else reading the places out answers
   pub read-refined : getD P 0 0 ≡ 0 → listed (walk (L .w) (L .h) P) ≡ refined L t
-  read-refined z = read-fitted (L .w) (L .h) w-most h-most (meshOf L) (blendsOf t) holds z ∙ sym (is-refined (c .ranges))
+  read-refined z = read-fitted (L .w) (L .h) w-most h-most (meshOf (layoutOf L)) (blendsOf t) holds z ∙ sym (is-refined (c .ranges))
 
 -- four blends at the front of an empty table
 pub four-set : (bs : List Blend) (A B C D : Blend) → bs ≡ table [] .blends →

@@ -12,12 +12,13 @@ use lib.ListN.{length, getD, take, drop, length-append, length-take}
 use lib.Seq.{take-suc}
 use Rattle.axis.specs.Range.{all, any, every, only}
 use Rattle.axis.specs.Triple.{inside}
-use Rattle.mesh.specs.Lines.{Direction, upright, level, number, direction, Mesh, start, draws, allowedSide, inRange, mesh, freshMesh, shares, ended, splitsOf}
+use Rattle.mesh.specs.Lines.{Direction, upright, level, number, direction, Mesh, start, draws, allowedSide, inRange, mesh, freshMesh, shares, ended, layout, splitsOf, layoutOf, meshOf}
 use Rattle.mesh.specs.Blends.{along, crossed, cuts, cutter, isCut, leavesOf, refine, firstFour, live}
 use Rattle.mesh.specs.Order.{Uncut, Coarser}
 use Rattle.mesh.specs.Sound.{sound, table, blendsOf, fitted, full, proper}
 use Rattle.mesh.specs.Bytes.{at, Square, Marked, Idle, stepOn, bytesMesh, keepAll, clearAll, recut, walk, listed, empty, refused}
-use Rattle.mesh.specs.Replay.{accepts, allAccepted, replayed}
+use Rattle.mesh.specs.Splits.{withLine, soundWith, given, exactNumber, accepted, liveOf}
+use Rattle.mesh.specs.Replay.{replays, replayed}
 use Rattle.mesh.specs.declared.Split.{Split}
 use Rattle.mesh.specs.declared.Blend.{Blend}
 use Rattle.mesh.specs.declared.Lines.{Lines}
@@ -38,6 +39,13 @@ use Rattle.mesh.proofs.Refining.{table-blends, table-count, some-line, 
 use Rattle.mesh.proofs.Cutting.{proper-most}
 use Rattle.mesh.proofs.Fitted.{fits-held, unfit-unsound, full-sound}
 use Rattle.mesh.proofs.Recutting.{clear-kept}
+
+-- an exact split of a map with these splits is accepted; and splits in order after them are
+abbrev pub accepts : ℕ → ℕ → List Split → Split → Bool
+accepts w h ss s = eqb (exactNumber (layout w h ss) s) 0
+
+abbrev pub allAccepted : ℕ → ℕ → List Split → List Split → Bool
+allAccepted w h ss rest = accepted (layout w h ss) rest
 
 number-direction : (d : Direction) → direction (number d) ≡ d
 number-direction upright = refl
@@ -249,14 +257,19 @@ module _ {w h : ℕ} (sides : Sides w h) {ss : List Split} {ups lvs places : Lis
     -- whether the split is accepted, by the tests in their order
     accepts-by : length ss < 60 →
         accepts w h ss s ≡ ((inRange w h s && (not (shares (mesh w h ss) s) && ended (mesh w h ss) s)) && any cutBy lives && sound w h next)
-    unfolding accepts
+    unfolding exactNumber given
     accepts-by room =
-        rw (lt-ltb (length ss) 60 room, some-cut)
-        (regroup (inRange w h s) (not (shares (mesh w h ss) s)) (ended (mesh w h ss) s) (any cutBy lives) (sound w h next))
+        rw (lt-leb 60 (length ss) room, some-cut)
+        (in-order (inRange w h s) (shares (mesh w h ss) s) (ended (mesh w h ss) s) (any cutBy lives) (sound w h next))
       where
-        regroup : (a b c d f : Bool) → (a && true && b && c && d && f) ≡ ((a && (b && c)) && d && f)
-        regroup true b c d f = refl
-        regroup false b c d f = refl
+        in-order : (a b c d f : Bool) → let n : ℕ = cond (not a) 3 (cond false 4 (cond b 5 (cond (not c) 6 (cond (not d) 7 0)))) in
+            eqb (cond (eqb n 0) (cond f 0 8) n) 0 ≡ ((a && (not b && c)) && d && f)
+        in-order false b c d f = refl
+        in-order true true c d f = refl
+        in-order true false false d f = refl
+        in-order true false true false f = refl
+        in-order true false true true false = refl
+        in-order true false true true true = refl
 
     abbrev fine : Mesh → Bool
     fine N = inRange w h s && (not (shares N s) && ended N s)
@@ -430,7 +443,7 @@ stopped = record { good = false; table = table [] }
 
 module _ (L : Lines) where
   fails : (allowedSide (L .w) && allowedSide (L .h) && leb (L .count) 60 && allAccepted (L .w) (L .h) [] (splitsOf L)) ≡ false → replayed L ≡ stopped
-  unfolding replayed
+  unfolding replayed replays
   fails e = cond-false _ _ _ e
 
   pub out-across : allowedSide (L .w) ≡ false → replayed L ≡ stopped
@@ -461,7 +474,7 @@ module _ {L : Lines} {i : ℕ} {ups lvs marks places : List ℕ} {t : Table} (r 
 
     turn : allAccepted (L .w) (L .h) [] (splitsOf L) ≡
         (accepts (L .w) (L .h) (take i (L .splits)) this && allAccepted (L .w) (L .h) (take i (L .splits) ++ this ∷ []) (drop (i + 1) (splitsOf L)))
-    unfolding allAccepted
+    unfolding accepted
     turn =
         let n = r .room in
         let f = r .few in
@@ -486,11 +499,11 @@ module _ {L : Lines} {i : ℕ} {ups lvs marks places : List ℕ} {t : Table} (r 
         }
 
   pub replay-done : L .count ≤ i → replayed L ≡ record { good = true; table = t }
-  unfolding replayed allAccepted
+  unfolding replayed replays accepted
   replay-done done =
       let n = r .room in
       let f = r .few in
       let all-of-it : i ≡ L .count = omega (arith, r .within) in
-      let accepted : allAccepted (L .w) (L .h) [] (splitsOf L) ≡ true = r .decides ∙ rw (left-none (L .splits) (L .count) i (omega arith) done) in
-      rw (sides-test L (r .sides) (r .few), accepted)
+      let all-taken : allAccepted (L .w) (L .h) [] (splitsOf L) ≡ true = r .decides ∙ rw (left-none (L .splits) (L .count) i (omega arith) done) in
+      rw (sides-test L (r .sides) (r .few), all-taken)
       (ap (λ (x : Table). record { good = true; table = x }) (sym (r .standing .is-table ∙ rw all-of-it)))

@@ -8,7 +8,7 @@ use borrow.Author.Tests.{eq-eqb, ne-eqb, eqb-true}
 use lib.Dec.{eqb, ltb, leb}
 use lib.ListN.{length, getD}
 use Rattle.axis.specs.Range.{any}
-use Rattle.mesh.specs.Lines.{Mesh, upright, level, other, direction, start, end, inRange, draws, freshMesh, mesh, onLine, ended, splitsOf, meshOf, allowed}
+use Rattle.mesh.specs.Lines.{Mesh, upright, level, other, direction, start, end, inRange, draws, freshMesh, mesh, onLine, ended, splitsOf, layoutOf, meshOf, allowed}
 use Rattle.mesh.specs.declared.Split.{Split}
 use Rattle.mesh.specs.declared.Lines.{Lines}
 use Rattle.axis.proofs.Tests.{either, and-both, all-at}
@@ -25,12 +25,12 @@ has number run z k s = eqb (s .direction) number && eqb z (s .position + 1) && l
 -- the mesh at a step, by those tests
 module _ (L : Lines) (n z k : ℕ) where
   pub step-upright : n ≡ 0 →
-      meshOf L (direction n) z k ≡ (fresh (L .w) (L .h) z k || any (has 0 (L .h) z k) (splitsOf L))
+      meshOf (layoutOf L) (direction n) z k ≡ (fresh (L .w) (L .h) z k || any (has 0 (L .h) z k) (splitsOf L))
   unfolding mesh freshMesh draws
   step-upright e = rw (eq-eqb n 0 e)
 
   pub step-level : (n ≡ 0 → ⊥) →
-      meshOf L (direction n) z k ≡ (fresh (L .h) (L .w) z k || any (has 1 (L .w) z k) (splitsOf L))
+      meshOf (layoutOf L) (direction n) z k ≡ (fresh (L .h) (L .w) z k || any (has 1 (L .w) z k) (splitsOf L))
   unfolding mesh freshMesh draws
   step-level ne = rw (ne-eqb n 0 ne)
 

@@ -3,6 +3,7 @@ pub mod Blends
 pub mod Order
 pub mod Sound
 pub mod Weight
+pub mod Splits
 pub mod Replay
 pub mod Bytes
 pub mod Examples

@@ -83,12 +83,23 @@ ended M s =
     let across = other (direction (s .direction)) in
     onLine M across (s .from + 1) (s .position + 1) && onLine M across (s .to + 1) (s .position + 1)
 
--- the splits that a struct of lines holds
+-- The layout of a map's lines: its sides, and its splits in order. And what a struct of lines holds.
+pub record Layout : Type 0 where
+  pub w : ℕ
+  pub h : ℕ
+  pub splits : List Split
+
+abbrev pub layout : ℕ → ℕ → List Split → Layout
+layout w h splits = record { w = w; h = h; splits = splits }
+
 abbrev pub splitsOf : Lines → List Split
 splitsOf L = take (L .count) (L .splits)
 
-abbrev pub meshOf : Lines → Mesh
-meshOf L = mesh (L .w) (L .h) (splitsOf L)
+abbrev pub layoutOf : Lines → Layout
+layoutOf L = layout (L .w) (L .h) (splitsOf L)
+
+abbrev pub meshOf : Layout → Mesh
+meshOf P = mesh (P .w) (P .h) (P .splits)
 
 -- sides, count and splits in their ranges
 unfoldable pub allowed : Lines → Bool

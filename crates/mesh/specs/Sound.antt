@@ -6,7 +6,7 @@ use lib.Dec.{leb, eqb}
 use lib.ListN.{length, take, replicate}
 use Rattle.axis.specs.Range.{every, all, any, only}
 use Rattle.axis.specs.Triple.{triple, rising, spans, stepsIn, between}
-use Rattle.mesh.specs.Lines.{allowedSide, meshOf, allowed}
+use Rattle.mesh.specs.Lines.{allowedSide, layoutOf, meshOf, allowed}
 use Rattle.mesh.specs.Blends.{blend, same, anchored, isCut, refine, live}
 use Rattle.mesh.specs.declared.Blend.{Blend}
 use Rattle.mesh.specs.declared.Lines.{Lines}
@@ -82,14 +82,14 @@ fitted bs =
 -- What is left of the blends of a table when the lines cut them; nothing where the lines or the blends are out of range.
 unfoldable pub refined : Lines → Table → Refined
 refined L t =
-    let found = fitted (refine (L .w) (L .h) (meshOf L) (blendsOf t)) in
+    let found = fitted (refine (L .w) (L .h) (meshOf (layoutOf L)) (blendsOf t)) in
     cond (allowed L && leb (t .count) 1024 && all (proper (L .w) (L .h)) (blendsOf t)) found
     (record { fits = false; table = table [] })
 
 -- whether the lines cut some blend of a table; no where the lines or the blends are out of range
 unfoldable pub someCut : Lines → Table → Bool
 someCut L t =
-    allowed L && leb (t .count) 1024 && all (proper (L .w) (L .h)) (blendsOf t) && any (isCut (meshOf L)) (blendsOf t)
+    allowed L && leb (t .count) 1024 && all (proper (L .w) (L .h)) (blendsOf t) && any (isCut (meshOf (layoutOf L))) (blendsOf t)
 
 -- the answer on a list of blends in table order: their table, where they make a sound map and a table holds them
 unfoldable pub answer : ℕ → ℕ → List Blend → Judged
@@ -101,5 +101,5 @@ answer w h bs =
 -- the live blends of a map, where it is sound; nothing where the lines are out of range
 unfoldable pub liveTable : Lines → Judged
 liveTable L =
-    let found = answer (L .w) (L .h) (live (L .w) (L .h) (meshOf L)) in
+    let found = answer (L .w) (L .h) (live (L .w) (L .h) (meshOf (layoutOf L))) in
     cond (allowed L) found (record { sound = false; table = table [] })

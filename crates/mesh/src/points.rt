@@ -8,7 +8,7 @@ ghost use mathlib.Core.Bool.{true, _&&_, _||_};
 ghost use Prim.Native.Nat.{_+_, _≤_, _<_};
 ghost use lib.Dec.{eqb, ltb, leb};
 ghost use Rattle.axis.specs.Range.{any};
-ghost use Rattle.mesh.specs.Lines.{start, end, direction, allowed, inRange, splitsOf, meshOf, onLine, shares, ended};
+ghost use Rattle.mesh.specs.Lines.{start, end, direction, allowed, inRange, splitsOf, layoutOf, meshOf, onLine, shares, ended};
 
 // Whether a fresh map has the step: the line crosses one side and runs along the other.
 fn fresh_step(crossed: usize, run: usize, z: usize, k: usize) -> bool
@@ -81,7 +81,7 @@ fn some_split_step(lines: Lines, number: usize, run: usize, z: usize, k: usize) 
 // Whether the unit step from knot k, of a line of the direction at knot z, lies on a line.
 fn step_on(lines: Lines, number: usize, z: usize, k: usize) -> bool
     requires { ⌜ allowed lines ≡ true ⌝ }
-    ensures { λ r. ⌜ r ≡ meshOf lines (direction number) z k ⌝ }
+    ensures { λ r. ⌜ r ≡ meshOf (layoutOf lines) (direction number) z k ⌝ }
 {
     let w = lines.w;
     let h = lines.h;
@@ -100,7 +100,7 @@ fn step_on(lines: Lines, number: usize, z: usize, k: usize) -> bool
 // Whether the point at knot k lies on a line of the direction at knot z.
 fn point_on(lines: Lines, number: usize, z: usize, k: usize) -> bool
     requires { ⌜ allowed lines ≡ true ⌝ }
-    ensures { λ r. ⌜ r ≡ onLine (meshOf lines) (direction number) z k ⌝ }
+    ensures { λ r. ⌜ r ≡ onLine (meshOf (layoutOf lines)) (direction number) z k ⌝ }
 {
     if step_on(lines, number, z, k) {
         return true;
@@ -113,7 +113,7 @@ fn point_on(lines: Lines, number: usize, z: usize, k: usize) -> bool
 
 // Whether the point at knot k lies on a line of the direction at knot z; no where the lines are out of range.
 pub fn on_line(lines: Lines, number: usize, z: usize, k: usize) -> bool
-    ensures { λ r. ⌜ r ≡ (allowed lines && onLine (meshOf lines) (direction number) z k) ⌝ }
+    ensures { λ r. ⌜ r ≡ (allowed lines && onLine (meshOf (layoutOf lines)) (direction number) z k) ⌝ }
 {
     if !allowed_lines(lines) {
         return false;
@@ -140,7 +140,7 @@ fn both_in_range(lines: Lines, s: Split) -> bool
 
 // Whether a split in range shares a stretch with a line at its position; no where lines or split are out of range.
 pub fn shares_stretch(lines: Lines, s: Split) -> bool
-    ensures { λ r. ⌜ r ≡ (allowed lines && inRange (lines .w) (lines .h) s && shares (meshOf lines) s) ⌝ }
+    ensures { λ r. ⌜ r ≡ (allowed lines && inRange (lines .w) (lines .h) s && shares (meshOf (layoutOf lines)) s) ⌝ }
 {
     if !both_in_range(lines, s) {
         return false;
@@ -161,7 +161,7 @@ pub fn shares_stretch(lines: Lines, s: Split) -> bool
 
 // Whether both ends of a split in range lie on crossing lines; no where lines or split are out of range.
 pub fn ends_on_lines(lines: Lines, s: Split) -> bool
-    ensures { λ r. ⌜ r ≡ (allowed lines && inRange (lines .w) (lines .h) s && ended (meshOf lines) s) ⌝ }
+    ensures { λ r. ⌜ r ≡ (allowed lines && inRange (lines .w) (lines .h) s && ended (meshOf (layoutOf lines)) s) ⌝ }
 {
     if !both_in_range(lines, s) {
         return false;

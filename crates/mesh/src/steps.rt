@@ -6,7 +6,7 @@ ghost use mathlib.Core.Path.{_≡_};
 ghost use mathlib.Core.Bool.{true, _||_};
 ghost use Prim.Native.Nat.{ℕ, _+_, _≤_, _<_, max};
 ghost use Rattle.axis.specs.Range.{every};
-ghost use Rattle.mesh.specs.Lines.{Direction, number, other, side, start, end, draws, allowedSide, fits, inRange, allowed, freshMesh, meshOf};
+ghost use Rattle.mesh.specs.Lines.{Direction, number, other, side, start, end, draws, allowedSide, fits, inRange, allowed, freshMesh, layoutOf, meshOf};
 ghost use Rattle.mesh.specs.Bytes.{Square, stepOn, Drawn, empty};
 
 // Whether the line at knot z is on at each of the n steps from knot b on.
@@ -172,7 +172,7 @@ fn side_of(direction: usize, w: usize, h: usize) -> usize
 pub(crate) fn draw_lines(lines: Lines, direction: usize, steps: &mut [u8])
     requires { ⌜ (allowed lines ≡ true) × (direction < 2) × (now steps ≡ empty) ⌝ }
     ensures { λ _. ⌜ Square (now (steps .exit)) ×
-        ((d : Direction) → number d ≡ direction → (z k : ℕ) → stepOn (now (steps .exit)) z k ≡ meshOf lines d z k) ⌝ }
+        ((d : Direction) → number d ≡ direction → (z k : ℕ) → stepOn (now (steps .exit)) z k ≡ meshOf (layoutOf lines) d z k) ⌝ }
 {
     let w = lines.w;
     let h = lines.h;

@@ -7,7 +7,7 @@ use mathlib.Core.Path.{_≡_, sym, ap, _∙_}
 use mathlib.Core.Bool.{true, false}
 use mathlib.Core.List.{List, []}
 use lib.ListN.{length, length-take}
-use Rattle.mesh.specs.Lines.{allowed, meshOf, splitsOf}
+use Rattle.mesh.specs.Lines.{allowed, layoutOf, meshOf, splitsOf}
 use Rattle.mesh.specs.Blends.{live}
 use Rattle.mesh.specs.Sound.{sound, table, fitted, refined, answer, liveTable}
 use Rattle.mesh.specs.declared.Blend.{Blend}
@@ -25,7 +25,7 @@ use Rattle.mesh.proofs.blends.live.Tie as tie
 -- the answer on lines out of range; and within it, by whether the map is sound
 module _ (L : Lines) where
   abbrev lives : List Blend
-  lives = live (L .w) (L .h) (meshOf L)
+  lives = live (L .w) (L .h) (meshOf (layoutOf L))
 
   out-of-range : allowed L ≡ false → liveTable L ≡ record { sound = false; table = table [] }
   unfolding liveTable
@@ -68,7 +68,7 @@ refine-requires c κs = search needs
 
 -- what is found are the live blends, as a table holds them
 found : (c : tie.After-refine) → let L = c .before .before .before .before .before .before .args .lines in
-    c .refine .result ≡ fitted (live (L .w) (L .h) (meshOf L))
+    c .refine .result ≡ fitted (live (L .w) (L .h) (meshOf (layoutOf L)))
 found c =
     let e = c .before .before in
     let L = e .before .before .before .before .args .lines in

@@ -4,7 +4,7 @@ use native.Mathlib.Omega.{arith}
 use borrow.Author.Needs.{needs}
 use mathlib.Core.Path.{_≡_, refl, ap, _∙_}
 use lib.ListN.{length-replicate}
-use Rattle.mesh.specs.Lines.{Mesh, meshOf}
+use Rattle.mesh.specs.Lines.{Mesh, layoutOf, meshOf}
 use Rattle.mesh.specs.Blends.{leavesOf}
 use Rattle.mesh.specs.Sound.{blendsOf}
 use Rattle.mesh.specs.Bytes.{bytesMesh, keepAll, empty}
@@ -42,7 +42,7 @@ draw-lines-requires-2 c κs = (ranged-ok (c .before .before .before .before) .ok
 -- the bytes are the lines' mesh
 drawn : (c : tie.After-draw-lines2) →
     let one = c .before .before .before in
-    bytesMesh (one .draw-lines .last .1 .1 .0) (c .draw-lines2 .last .1 .1 .0) ≡ meshOf (one .before .before .before .before .args .lines)
+    bytesMesh (one .draw-lines .last .1 .1 .0) (c .draw-lines2 .last .1 .1 .0) ≡ meshOf (layoutOf (one .before .before .before .before .args .lines))
 drawn c =
     let one = c .before .before .before in
     drawn-mesh (one .before .before .before .before .args .lines) _ _ (one .draw-lines .ensures .1) (c .draw-lines2 .ensures .1)

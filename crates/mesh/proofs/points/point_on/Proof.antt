@@ -4,7 +4,7 @@ use borrow.Author.Needs.{needs}
 use borrow.Author.Tests.{lt-ltb, le-ltb}
 use mathlib.Core.Path.{_≡_, sym, _∙_}
 use mathlib.Core.Bool.{false}
-use Rattle.mesh.specs.Lines.{direction, meshOf, onLine}
+use Rattle.mesh.specs.Lines.{direction, layoutOf, meshOf, onLine}
 use Rattle.mesh.proofs.points.point_on.Statement.{statement}
 use Rattle.mesh.proofs.points.point_on.Tie as tie
 
@@ -16,7 +16,7 @@ unfolding onLine
 returns c = rw (sym (c .before .step-on .ensures) ∙ c .if1 .taken)
 
 off : (c : tie.Else1) →
-    let a = c .before .before .args in meshOf (a .lines) (direction (a .number)) (a .z) (a .k) ≡ false
+    let a = c .before .before .args in meshOf (layoutOf (a .lines)) (direction (a .number)) (a .z) (a .k) ≡ false
 off c = sym (c .before .step-on .ensures) ∙ c .if1 .left
 
 returns-2 : tie.Need-returns-2

@@ -5,7 +5,7 @@ use borrow.Author.Needs.{needs}
 use mathlib.Core.Path.{_≡_, refl, sym, _∙_}
 use mathlib.Core.Bool.{true, _||_}
 use Rattle.axis.specs.Range.{some}
-use Rattle.mesh.specs.Lines.{direction, allowed, meshOf, shares}
+use Rattle.mesh.specs.Lines.{direction, allowed, layoutOf, meshOf, shares}
 use Rattle.axis.proofs.Tests.{refused, passed, second, some-turn, some-none}
 use Rattle.mesh.proofs.SingleSteps.{Small, both-kept}
 use Rattle.mesh.proofs.points.shares_stretch.Statement.{statement}
@@ -13,7 +13,7 @@ use Rattle.mesh.proofs.points.shares_stretch.Tie as tie
 
 abbrev Inv-loop : tie.InvT-loop
 Inv-loop lines z number k₀ left₀ k left =
-    let on = meshOf lines (direction number) z in
+    let on = meshOf (layoutOf lines) (direction number) z in
     (allowed lines ≡ true) × (k + left ≤ 129) × (some k₀ left₀ on ≡ some k left on)
 
 abbrev μ-loop : tie.MeasureT-loop
@@ -49,9 +49,9 @@ step-on-requires c κs = c .before .loop .inv .0
 turn : (c : tie.After-step-on Inv-loop μ-loop) →
     let l = c .before .before .loop in
     let a = c .before .before .before .before .before .before .before .before .args in
-    shares (meshOf (a .lines)) (a .s) ≡
+    shares (meshOf (layoutOf (a .lines))) (a .s) ≡
     (c .step-on .result ||
-    some (l .k + 1) (l .left - 1) (meshOf (a .lines) (direction (a .s .direction)) (a .s .position + 1)))
+    some (l .k + 1) (l .left - 1) (meshOf (layoutOf (a .lines)) (direction (a .s .direction)) (a .s .position + 1)))
 unfolding shares
 turn c =
     let l = c .before .before .loop in

@@ -3,7 +3,7 @@ use Prim.Native.Nat.{_≤_}
 use mathlib.Core.Path.{_≡_, sym, _∙_}
 use mathlib.Core.Bool.{_||_}
 use Rattle.axis.specs.Range.{any}
-use Rattle.mesh.specs.Lines.{direction, meshOf, splitsOf}
+use Rattle.mesh.specs.Lines.{direction, layoutOf, meshOf, splitsOf}
 use Rattle.mesh.proofs.Drawing.{allowed-says}
 use Rattle.mesh.proofs.SingleSteps.{has, step-upright, step-level}
 use Rattle.mesh.proofs.points.step_on.Statement.{statement}
@@ -17,7 +17,7 @@ fresh-step-requires c κs = sides (c .before)
 
 upright : (c : tie.After-fresh-step) →
     let a = c .before .before .args in
-    meshOf (a .lines) (direction (a .number)) (a .z) (a .k) ≡
+    meshOf (layoutOf (a .lines)) (direction (a .number)) (a .z) (a .k) ≡
     (c .fresh-step .result || any (has 0 (a .lines .h) (a .z) (a .k)) (splitsOf (a .lines)))
 upright c =
     let a = c .before .before .args in
@@ -37,7 +37,7 @@ fresh-step-requires-2 c κs = (sides (c .before) .1, sides (c .before) .0)
 
 level : (c : tie.After-fresh-step2) →
     let a = c .before .before .args in
-    meshOf (a .lines) (direction (a .number)) (a .z) (a .k) ≡
+    meshOf (layoutOf (a .lines)) (direction (a .number)) (a .z) (a .k) ≡
     (c .fresh-step2 .result || any (has 1 (a .lines .w) (a .z) (a .k)) (splitsOf (a .lines)))
 level c =
     let a = c .before .before .args in

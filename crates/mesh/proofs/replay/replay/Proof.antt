@@ -10,13 +10,13 @@ use lib.ListN.{length, length-map, length-replicate, getD, take}
 use Rattle.mesh.specs.Lines.{upright, level, mesh, inRange, shares, ended}
 use Rattle.mesh.specs.Blends.{live}
 use Rattle.mesh.specs.Bytes.{Marked, bytesMesh}
-use Rattle.mesh.specs.Replay.{accepts, replayed}
+use Rattle.mesh.specs.Replay.{replayed}
 use Rattle.mesh.specs.declared.Refined.{Refined}
 use Rattle.mesh.specs.declared.Replayed.{Replayed}
 use Rattle.axis.proofs.Tests.{failed, passed}
 use Rattle.mesh.proofs.Drawing.{blank}
 use Rattle.mesh.proofs.SingleSteps.{Small}
-use Rattle.mesh.proofs.Replaying.{fresh-marked, more-marked, idle-on, Sides, sides-of, fine-small, fresh-mesh, fresh-count, fresh-proper, fresh-standing, Replaying, stopped, out-across, out-up, out-count, standing-count, standing-proper, standing-blends, not-fine, redrawn, Answer, answer-on, unfit-refused, full-decides, standing-next, replay-room, replay-stop, replay-more, replay-done}
+use Rattle.mesh.proofs.Replaying.{accepts, fresh-marked, more-marked, idle-on, Sides, sides-of, fine-small, fresh-mesh, fresh-count, fresh-proper, fresh-standing, Replaying, stopped, out-across, out-up, out-count, standing-count, standing-proper, standing-blends, not-fine, redrawn, Answer, answer-on, unfit-refused, full-decides, standing-next, replay-room, replay-stop, replay-more, replay-done}
 use Rattle.mesh.proofs.replay.replay.Statement.{statement}
 use Rattle.mesh.proofs.replay.replay.Tie as tie
 
