@@ -8,10 +8,11 @@ use lib.Dec.{leb}
 use lib.ListN.{length, replicate, length-append, length-replicate}
 use Rattle.maps.specs.declared.Map.{Map}
 use Rattle.maps.specs.declared.Changed.{Changed}
-use Rattle.maps.specs.declared.WithTable.{WithTable}
+use Rattle.maps.specs.declared.opened.Opened.{Opened}
 use Rattle.maps.specs.Plain.{freshPlain}
-use Rattle.maps.specs.Record.{noSplit, recordOf, plain, good, opened}
-use Rattle.maps.specs.Calls.{changed, withTable}
+use Rattle.maps.specs.Record.{noSplit, recordOf, plain, good}
+use Rattle.maps.specs.Opened.{opened, withTable}
+use Rattle.maps.specs.Calls.{changed}
 use Rattle.maps.proofs.Recording.{GoodMap, opened-map}
 use Rattle.files.specs.declared.Written.{Written}
 use Rattle.files.specs.File.{fileOf, guessed}
@@ -45,11 +46,11 @@ module _ (bytes : List ℕ) (z : readFile bytes .number ≡ 0) where
       (omega (arith, length-append (P .values) (replicate (1024 - length (P .values)) zero), length-replicate {A = ℕ} (1024 - length (P .values)) 0, guessed-values bytes, told-length bytes few (a .1), few))
 
 -- the table that a call hands back with a good map
-pub handed : (w : WithTable) (c : Changed) → w ≡ withTable c → good (c .map) ≡ true → (good (w .map) ≡ true) × (w .table ≡ opened (w .map) .table)
+pub handed : (w : Opened) (c : Changed) → w ≡ withTable c → good (c .map) ≡ true → (good (w .map) ≡ true) × (w .table ≡ opened (w .map) .table)
 handed w c is y = rw is (y, refl)
 
 -- the same of the map that was read from them, and its table
-module _ (bytes : List ℕ) {file : WithTable} (is : file ≡ withTable (readFile bytes)) (z : file .number ≡ 0) where
+module _ (bytes : List ℕ) {file : Opened} (is : file ≡ withTable (readFile bytes)) (z : file .number ≡ 0) where
   accepted : readFile bytes .number ≡ 0
   accepted = rw is at z
 
@@ -70,7 +71,7 @@ pub no-bytes : readFile [] ≡ changed 11 (recordOf (freshPlain 1 1))
 no-bytes = is-refused [] (λ g e. let f = file-lengths [] g e .least in omega arith)
 
 -- how a call on the map that was read ends: its own refusal, 12, or the new file
-module _ (w : WithTable) (buffer : List ℕ) (used : ℕ) where
+module _ (w : Opened) (buffer : List ℕ) (used : ℕ) where
   abbrev pub Replaced : ℕ → List ℕ → ℕ → Type 0
   Replaced r bytes size =
       (r ≡ cond (leb 1 (w .number)) (w .number) (writeNumber (w .map) buffer)) × (bytes ≡ answered r (fileOf (plain (w .map))) buffer) ×
@@ -106,7 +107,7 @@ module _ (call : Map → Changed) (buffer : List ℕ) (used : ℕ) where
       record { is-number = says; is-bytes = left-so _ _ says ne; is-used = left-so _ _ says ne }
 
   -- the end of a call on the map that was read
-  module _ (z : readFile (lent buffer used) .number ≡ 0) (w : WithTable) (is : w ≡ withTable (changeOf call buffer used))
+  module _ (z : readFile (lent buffer used) .number ≡ 0) (w : Opened) (is : w ≡ withTable (changeOf call buffer used))
       (r : ℕ) (e : r ≡ cond (leb 1 (w .number)) (w .number) (writeNumber (w .map) buffer)) where
     same-number : r ≡ changeNumber call buffer used
     unfolding changeNumber

@@ -13,9 +13,10 @@ use Rattle.mesh.specs.Sound.{proper, table, blendsOf}
 use Rattle.axis.proofs.Tests.{either, all-at}
 use Rattle.mesh.proofs.Cutting.{proper-of}
 use Rattle.maps.specs.declared.Map.{Map}
-use Rattle.maps.specs.declared.record.Opened.{Opened}
+use Rattle.maps.specs.declared.opened.Opened.{Opened}
 use Rattle.maps.specs.Plain.{blends}
-use Rattle.maps.specs.Record.{recordOf, bare, plain, good, opened}
+use Rattle.maps.specs.Record.{recordOf, bare, plain, good}
+use Rattle.maps.specs.Opened.{opened}
 use Rattle.maps.proofs.InHand.{table-blends, table-count, hand-proper}
 use Rattle.maps.proofs.Good.{good-facts}
 use Rattle.files.specs.declared.Written.{Written}

@@ -14,7 +14,8 @@ use Rattle.mesh.specs.declared.Table.{Table}
 use Rattle.axis.proofs.Tests.{either, and-both, false-of}
 use Rattle.maps.specs.declared.Map.{Map}
 use Rattle.maps.specs.declared.Changed.{Changed}
-use Rattle.maps.specs.Record.{recordOf, plain, good, opened}
+use Rattle.maps.specs.Record.{recordOf, plain, good}
+use Rattle.maps.specs.Opened.{opened}
 use Rattle.maps.proofs.InHand.{table-blends, table-count}
 use Rattle.files.specs.declared.Written.{Written}
 use Rattle.files.specs.File.{fileOf, guessed, sameBytes, put}

@@ -17,8 +17,9 @@ use mesh::Table;
 ghost use mathlib.Core.Path.{_≡_};
 ghost use Rattle.maps.specs.Plain.{freshPlain};
 ghost use mathlib.Core.Bool.{true};
-ghost use Rattle.maps.specs.Record.{recordOf, good, opened};
-ghost use Rattle.maps.specs.Calls.{changed, withTable};
+ghost use Rattle.maps.specs.Record.{recordOf, good};
+ghost use Rattle.maps.specs.Opened.{opened, withTable};
+ghost use Rattle.maps.specs.Calls.{changed};
 ghost use Rattle.files.specs.Calls.{written, after, readFile};
 
 // A number, and how many bytes were written.

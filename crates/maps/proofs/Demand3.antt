@@ -14,7 +14,8 @@ use Rattle.mesh.specs.Order.{Coarser}
 use Rattle.axis.proofs.Tests.{either, and-of, same-test, cond-true}
 use Rattle.mesh.proofs.Order.{same-steps}
 use Rattle.maps.specs.Plain.{Plain, freshPlain, blends}
-use Rattle.maps.specs.Splits.{given, exactNumber, chosen, drawn}
+use Rattle.mesh.specs.Splits.{given, exactNumber, chosen}
+use Rattle.maps.specs.Values.{drawn}
 use Rattle.maps.specs.Record.{recordOf, plain}
 use Rattle.maps.specs.Calls.{freshMap}
 use Rattle.maps.specs.Histories.{Call, number, Outcome, outcome, firstDrawn, byLibrary, byMachine, ending}
@@ -28,7 +29,7 @@ use Rattle.maps.proofs.Squares.{valued-four, valued-sum}
 use Rattle.maps.proofs.Gentle.{split-gentle}
 
 -- The blends after a list of calls are those of its lines.
-ending-blends : (cs : List Call) (P : Plain) → Reached P → blends (ending byMachine P cs) ≡ live (P .w) (P .h) (meshBy P cs)
+ending-blends : (cs : List Call) (P : Plain) → Reached P → blends (ending byMachine P cs) ≡ live (P .lines .w) (P .lines .h) (meshBy P cs)
 ending-blends cs P at = let l = ending-leads cs P at in rw (l .wide, l .tall, l .more)
 
 -- An accepted split draws a line that is accepted as an exact split,
@@ -39,18 +40,18 @@ module _ (P : Plain) (at : Reached P) where
       (either (eqb n 0))
 
   abbrev Accepts : Outcome Plain → Type 0
-  Accepts o = (s : Split) × (exactNumber P s ≡ 0) × (o .next ≡ drawn P s)
+  Accepts o = (s : Split) × (exactNumber (P .lines) s ≡ 0) × (o .next ≡ drawn P s)
 
-  first-accepts : (s : Split) → given P s ≡ 0 → (cs : List Split) → chosen P s ≡ cs → firstDrawn P cs .answer ≡ number 0 → Accepts (firstDrawn P cs)
+  first-accepts : (s : Split) → given (P .lines) s ≡ 0 → (cs : List Split) → chosen (P .lines) s ≡ cs → firstDrawn P cs .answer ≡ number 0 → Accepts (firstDrawn P cs)
   first-accepts s e [] q a = absurd (let z : _≡_ {A = ℕ} 8 0 = cc in omega arith)
-  first-accepts s e (c ∷ cs) q a = (c, chosen-exact P (at .valued .wide .0) (at .valued .tall .0) s c cs e q, refl)
+  first-accepts s e (c ∷ cs) q a = (c, chosen-exact (P .lines) (at .valued .wide .0) (at .valued .tall .0) s c cs e q, refl)
 
   split-accepts : (c : Call) → IsSplit c → byMachine P c .answer ≡ number 0 → Accepts (byMachine P c)
   split-accepts c (exact-split s) e =
-      let r = number-zero (exactNumber P s) (outcome (number 0) (drawn P s)) e in (s, r .0, ap (λ (o : Outcome Plain). o .next) (r .1))
+      let r = number-zero (exactNumber (P .lines) s) (outcome (number 0) (drawn P s)) e in (s, r .0, ap (λ (o : Outcome Plain). o .next) (r .1))
   split-accepts c (lengthened-split s) e =
-      let r = number-zero (given P s) (firstDrawn P (chosen P s)) e in
-      let f = first-accepts s (r .0) (chosen P s) refl (sym (ap (λ (o : Outcome Plain). o .answer) (r .1)) ∙ e) in
+      let r = number-zero (given (P .lines) s) (firstDrawn P (chosen (P .lines) s)) e in
+      let f = first-accepts s (r .0) (chosen (P .lines) s) refl (sym (ap (λ (o : Outcome Plain). o .answer) (r .1)) ∙ e) in
       (f .0, f .1, ap (λ (o : Outcome Plain). o .next) (r .1) ∙ f .2)
 
   -- and so does to readings what such a split does.
@@ -67,18 +68,18 @@ module _ (P : Plain) (at : Reached P) (cs : List Call) where
   end-tabled : Tabled (leftBy P cs) (blends (ending byMachine P cs))
   end-tabled = rw (ending-follows cs P at) (holds-tabled (ending byMachine P cs) (end .holds))
 
-  end-lines : plain (leftBy P cs) .splits ≡ P .splits ++ linesOf P cs
+  end-lines : plain (leftBy P cs) .lines .splits ≡ P .lines .splits ++ linesOf P cs
   end-lines = rw (ending-follows cs P at, record-good (end .holds) .1) (ending-leads cs P at .more)
 
   any-gentle : (c : Call) → IsSplit c → let m = leftBy P cs in byLibrary m c .answer ≡ number 0 → Gentle m (byLibrary m c .next)
   any-gentle c i = rw (ending-follows cs P at, step-follows (ending byMachine P cs) end c) (accepted-gentle (ending byMachine P cs) end c i)
 
 -- lists whose lines cover the same points end with the same blends
-same-lines : (P Q : Plain) → Reached P → Reached Q → (cs ds : List Call) → Q .w ≡ P .w → Q .h ≡ P .h → Coarser (meshBy P cs) (meshBy Q ds) → Coarser (meshBy Q ds) (meshBy P cs) →
+same-lines : (P Q : Plain) → Reached P → Reached Q → (cs ds : List Call) → Q .lines .w ≡ P .lines .w → Q .lines .h ≡ P .lines .h → Coarser (meshBy P cs) (meshBy Q ds) → Coarser (meshBy Q ds) (meshBy P cs) →
     blends (ending byMachine Q ds) ≡ blends (ending byMachine P cs)
 same-lines P Q at from cs ds wide tall f g =
     ending-blends ds Q from ∙ ap₂ (λ (w h : ℕ). live w h (meshBy Q ds)) wide tall ∙
-    same-steps (P .w) (P .h) (meshBy Q ds) (meshBy P cs) (λ d z k. same-test _ _ (g d z k) (f d z k)) ∙ sym (ending-blends cs P at)
+    same-steps (P .lines .w) (P .lines .h) (meshBy Q ds) (meshBy P cs) (λ d z k. same-test _ _ (g d z k) (f d z k)) ∙ sym (ending-blends cs P at)
 
 -- The demand holds of it,
 pub reached-demand : (P : Plain) → Reached P → (cs : List Call) → DemandFrom P cs

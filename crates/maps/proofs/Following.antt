@@ -2,6 +2,7 @@
 -- record of what the machine then holds.
 use Prim.Native.Nat.{_+_}
 use mathlib.Core.Path.{_≡_, refl, ap}
+use mathlib.Core.Logic.{⊎-elim}
 use mathlib.Core.Bool.{Bool, true, false, cond}
 use mathlib.Core.List.{List, [], _∷_, map}
 use lib.Dec.{ltb, eqb}
@@ -11,12 +12,13 @@ use Rattle.maps.specs.declared.Map.{Map}
 use Rattle.maps.specs.declared.Changed.{Changed}
 use Rattle.maps.specs.Plain.{Plain, blends}
 use Rattle.maps.specs.Values.{inDomain, placeOf}
-use Rattle.maps.specs.Splits.{given, exactNumber, chosen}
+use Rattle.mesh.specs.Splits.{given, exactNumber, chosen}
 use Rattle.maps.specs.Record.{recordOf, plain, good}
 use Rattle.maps.specs.Calls.{setValue, tablePlace, reading, weights, exactSplit, drawnFirst, lengthenedSplit}
 use Rattle.maps.specs.Sameness.{sameness}
 use Rattle.maps.specs.Histories.{Call, set, exact, lengthened, place, reads, weighs, sameAs, Answer, number, placed, read, weighed, told, Outcome, outcome, byLibrary, firstDrawn, byMachine, outcomes, ending}
 use Rattle.maps.specs.Demand.{leftBy, recorded}
+use Rattle.axis.proofs.Tests.{either}
 use Rattle.maps.proofs.Good.{record-good}
 use Rattle.maps.proofs.Reached.{Reached, step-leads}
 
@@ -26,11 +28,6 @@ changed-by : (b : Bool) (x y : Changed) (p q : Outcome Plain) →
     let r = cond b x y in outcome (number (r .number)) (r .map) ≡ recorded (cond b p q)
 changed-by true x y p q e f = e
 changed-by false x y p q e f = f
-
-answered-by : {A : Type 0} (b : Bool) (make : A → Answer) (x y : A) (P : Plain) →
-    outcome (make (cond b x y)) (recordOf P) ≡ recorded (cond b (outcome (make x) P) (outcome (make y) P))
-answered-by true make x y P = refl
-answered-by false make x y P = refl
 
 module _ (P : Plain) (at : Reached P) where
   is-good : good (recordOf P) ≡ true
@@ -46,12 +43,12 @@ module _ (P : Plain) (at : Reached P) where
   pub step-follows : (c : Call) → byLibrary (recordOf P) c ≡ recorded (byMachine P c)
   unfolding setValue exactSplit lengthenedSplit tablePlace reading weights sameness
   step-follows (set i j v) = rw (is-good, is-held) (changed-by (ltb (placeOf (blends P) (i + 1) (j + 1)) (length (blends P))) _ _ _ _ refl refl)
-  step-follows (exact s) = rw (is-good, is-held) (changed-by (eqb (exactNumber P s) 0) _ _ _ _ refl refl)
-  step-follows (lengthened s) = rw (is-good, is-held) (changed-by (eqb (given P s) 0) _ _ _ _ (first-follows (chosen P s)) refl)
-  step-follows (place i) = rw (is-good, is-held) (answered-by (ltb i (length (blends P))) placed _ _ P)
-  step-follows (reads u v) = rw (is-good, is-held) (answered-by (inDomain P u v) read _ _ P)
-  step-follows (weighs u v) = rw (is-good, is-held) (answered-by (inDomain P u v) weighed _ _ P)
-  step-follows (sameAs m) = rw (is-good, is-held) (answered-by (good m) told _ _ P)
+  step-follows (exact s) = rw (is-good, is-held) (changed-by (eqb (exactNumber (P .lines) s) 0) _ _ _ _ refl refl)
+  step-follows (lengthened s) = rw (is-good, is-held) (changed-by (eqb (given (P .lines) s) 0) _ _ _ _ (first-follows (chosen (P .lines) s)) refl)
+  step-follows (place i) = rw (is-good, is-held)
+  step-follows (reads u v) = rw (is-good, is-held)
+  step-follows (weighs u v) = rw (is-good, is-held)
+  step-follows (sameAs m) = rw (is-good, is-held) (⊎-elim (λ e. rw e) (λ e. rw e) (either (good m)))
 
 -- So do lists of calls.
 pub outcomes-follow : (cs : List Call) (P : Plain) → Reached P → outcomes byLibrary (recordOf P) cs ≡ map recorded (outcomes byMachine P cs)

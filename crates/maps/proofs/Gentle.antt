@@ -16,8 +16,8 @@ use Rattle.axis.proofs.Tests.{either, and-both, and-of}
 use Rattle.mesh.proofs.Places.{proper-facts}
 use Rattle.maps.specs.declared.Reading.{Reading}
 use Rattle.maps.specs.Plain.{Plain, blends}
-use Rattle.maps.specs.Values.{readingAt, inDomain}
-use Rattle.maps.specs.Splits.{soundWith, exactNumber, drawn}
+use Rattle.maps.specs.Values.{readingAt, inDomain, drawn}
+use Rattle.mesh.specs.Splits.{soundWith, exactNumber}
 use Rattle.maps.specs.Record.{recordOf}
 use Rattle.maps.specs.Calls.{tablePlace, reading}
 use Rattle.maps.specs.Demand.{Gentle}
@@ -49,9 +49,9 @@ record Near (r q : Reading) : Type 0 where
   high : q .litres ≤ r .litres
   low : r .litres ≤ q .litres + 1
 
-module _ (P : Plain) (at : Reached P) (s : Split) (accepted : exactNumber P s ≡ 0) where
-  still : soundWith P s ≡ true
-  still = exact-says P s accepted .1
+module _ (P : Plain) (at : Reached P) (s : Split) (accepted : exactNumber (P .lines) s ≡ 0) where
+  still : soundWith (P .lines) s ≡ true
+  still = exact-says (P .lines) s accepted .1
 
   after : Holds (drawn P s)
   after = drawn-leads P at s accepted .reached .holds
@@ -63,7 +63,7 @@ module _ (P : Plain) (at : Reached P) (s : Split) (accepted : exactNumber P s �
   readings-near : (u v : ℕ) → Near (reading (recordOf P) u v) (reading (recordOf (drawn P s)) u v)
   readings-near u v =
       ⊎-elim
-      (λ e. let d = and-both (leb u (P .w)) (leb v (P .h)) e in
+      (λ e. let d = and-both (leb u (P .lines .w)) (leb v (P .lines .h)) e in
       let r = drawn-reading P (at .valued) s still u v (leb-true _ _ (d .0)) (leb-true _ _ (d .1)) in
       rw (reading-in P (at .holds) u v e, reading-in (drawn P s) after u v (same-domain u v ∙ e)) (record { number = refl; high = r .0; low = r .1 }))
       (λ e. rw (reading-out P (at .holds) u v e, reading-out (drawn P s) after u v (same-domain u v ∙ e))
@@ -74,14 +74,14 @@ module _ (P : Plain) (at : Reached P) (s : Split) (accepted : exactNumber P s �
   module _ (B : Blend) (m : List·Memᴰ B (blends P)) where
     anchor-in : inDomain P (B .across .m - 1) (B .up .m - 1) ≡ true
     anchor-in =
-        let p = proper-facts (P .w) (P .h) B (blends-proper P (at .valued) B m) in
+        let p = proper-facts (P .lines .w) (P .lines .h) B (blends-proper P (at .valued) B m) in
         let a = p .across in
         let b = p .up in
-        and-of _ _ (le-leb (B .across .m - 1) (P .w) (omega arith)) (le-leb (B .up .m - 1) (P .h) (omega arith))
+        and-of _ _ (le-leb (B .across .m - 1) (P .lines .w) (omega arith)) (le-leb (B .up .m - 1) (P .lines .h) (omega arith))
 
     anchor-shown : (predℤ (pos (B .across .m)) ≡ pos (B .across .m - 1)) × (predℤ (pos (B .up .m)) ≡ pos (B .up .m - 1))
     anchor-shown =
-        let p = proper-facts (P .w) (P .h) B (blends-proper P (at .valued) B m) in
+        let p = proper-facts (P .lines .w) (P .lines .h) B (blends-proper P (at .valued) B m) in
         let a = p .across in
         let b = p .up in
         (knot-from _ (omega arith), knot-from _ (omega arith))

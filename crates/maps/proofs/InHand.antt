@@ -15,11 +15,10 @@ use Rattle.mesh.specs.declared.Lines.{Lines}
 use Rattle.mesh.specs.declared.Table.{Table}
 use Rattle.mesh.specs.declared.Refined.{Refined}
 use Rattle.axis.specs.Range.{all, any}
-use Rattle.mesh.specs.Lines.{mesh, splitsOf, allowed, allowedSide, inRange, shares, ended}
-use Rattle.mesh.specs.Lines as lines
+use Rattle.mesh.specs.Lines.{Layout, layout, layoutOf, mesh, splitsOf, allowed, allowedSide, inRange, shares, ended, meshOf}
 use Rattle.mesh.specs.Blends.{isCut, live, firstFour}
 use Rattle.mesh.specs.Sound.{table, proper, blendsOf, full, fitted, refined, someCut}
-use Rattle.axis.proofs.Tests.{and-both, and-of, all-at, all-of}
+use Rattle.axis.proofs.Tests.{and-both, and-of, all-at, all-of, all-append}
 use Rattle.mesh.proofs.Drawing.{Allowed, allowed-says}
 pub use Rattle.mesh.proofs.Refining.{table-blends, table-count}
 use Rattle.mesh.proofs.Refining.{Ranged, is-cut, is-refined}
@@ -28,17 +27,10 @@ use Rattle.mesh.proofs.Live.{finer-fitted}
 use Rattle.mesh.proofs.Fresh.{first-proper, fresh-live, fresh-sound}
 use Rattle.mesh.proofs.AtMost.{at-most}
 use Rattle.mesh.proofs.SoundMaps.{live-proper}
-use Rattle.maps.specs.Plain.{Plain, meshOf, blends}
-use Rattle.maps.specs.Splits.{withLine, soundWith, given, exactNumber}
-use Rattle.maps.specs.Record.{noSplit}
-use Rattle.maps.specs.Inner.{held, withSplit, InHand}
+use Rattle.mesh.specs.Splits.{liveOf, withLine, soundWith, given, exactNumber}
+use Rattle.maps.specs.Record.{linesOf}
+use Rattle.maps.specs.Inner.{withSplit, InHand}
 use Rattle.maps.proofs.Readings.{drawn-finer}
-
--- a test of every entry holds with one entry more that passes it
-all-more : {A : Type 0} (test : A → Bool) (xs : List A) (y : A) → all test xs ≡ true → test y ≡ true → all test (xs ++ y ∷ []) ≡ true
-all-more test xs y e q =
-    all-of test (xs ++ y ∷ [])
-    (λ x m. ⊎-elim (λ k. all-at test xs e x k) (λ k. ap test (List·Memᴰ·eq-of-singleton k) ∙ q) (List·Memᴰ·append-cases xs m))
 
 -- the lines with one split more hold it after the others
 module _ (L : Lines) (room : L .count < 60) (places : length (L .splits) ≡ 60) (s : Split) where
@@ -46,7 +38,7 @@ module _ (L : Lines) (room : L .count < 60) (places : length (L .splits) ≡ 60)
   hand-splits =
       let lt : L .count < length (L .splits) = omega arith in rw (add-one, take-suc-set (L .splits) (L .count) s lt)
 
-  pub hand-mesh : lines.meshOf (withSplit L s) ≡ meshOf (withLine (held L) s)
+  pub hand-mesh : meshOf (layoutOf (withSplit L s)) ≡ meshOf (withLine (layoutOf L) s)
   hand-mesh = ap (mesh (L .w) (L .h)) hand-splits
 
   pub allowed-more : allowed L ≡ true → inRange (L .w) (L .h) s ≡ true → allowed (withSplit L s) ≡ true
@@ -55,7 +47,7 @@ module _ (L : Lines) (room : L .count < 60) (places : length (L .splits) ≡ 60)
       let a = and-both (allowedSide (L .w) && allowedSide (L .h) && leb (L .count) 60) (all (inRange (L .w) (L .h)) (splitsOf L)) ok in
       let b = and-both (allowedSide (L .w) && allowedSide (L .h)) (leb (L .count) 60) (a .0) in
       and-of _ _ (and-of _ _ (b .0) (le-leb (L .count + 1) 60 (omega arith)))
-      (rw hand-splits (all-more (inRange (L .w) (L .h)) (splitsOf L) s (a .1) fits))
+      (rw hand-splits (all-append (inRange (L .w) (L .h)) (splitsOf L) (s ∷ []) (a .1) (and-of _ true fits refl)))
 
 module _ {L : Lines} {t : Table} (hand : InHand L t) where
   pub hand-sides : Allowed L
@@ -64,7 +56,7 @@ module _ {L : Lines} {t : Table} (hand : InHand L t) where
   pub hand-length : length (splitsOf L) ≡ L .count
   hand-length = let a = hand-sides in length-take-le (L .count) (L .splits) (omega arith)
 
-  pub hand-few : length (blends (held L)) ≤ 1024
+  pub hand-few : length (liveOf (layoutOf L)) ≤ 1024
   hand-few =
       let a = hand-sides in
       at-most (L .w) (L .h) (a .across .0) (a .up .0) (a .up .1) (splitsOf L)
@@ -73,35 +65,35 @@ module _ {L : Lines} {t : Table} (hand : InHand L t) where
   pub hand-count : t .count ≤ 1024
   hand-count = rw (hand .is-table, table-count) hand-few
 
-  pub hand-blends : blendsOf t ≡ blends (held L)
-  hand-blends = ap blendsOf (hand .is-table) ∙ table-blends (blends (held L))
+  pub hand-blends : blendsOf t ≡ liveOf (layoutOf L)
+  hand-blends = ap blendsOf (hand .is-table) ∙ table-blends (liveOf (layoutOf L))
 
   pub hand-proper : all (proper (L .w) (L .h)) (blendsOf t) ≡ true
   hand-proper =
       let a = hand-sides in
-      rw hand-blends (all-of _ (blends (held L)) (live-proper (L .w) (L .h) (a .across .0) (a .up .0) (meshOf (held L))))
+      rw hand-blends (all-of _ (liveOf (layoutOf L)) (live-proper (L .w) (L .h) (a .across .0) (a .up .0) (meshOf (layoutOf L))))
 
 -- what it says that no refusal of 3 to 7 applies, and that an exact split is accepted
-pub record Given (P : Plain) (s : Split) : Type 0 where
+pub record Given (P : Layout) (s : Split) : Type 0 where
   pub fits : inRange (P .w) (P .h) s ≡ true
   pub room : length (P .splits) < 60
   pub apart : shares (meshOf P) s ≡ false
   pub ends : ended (meshOf P) s ≡ true
-  pub cut : any (isCut (meshOf (withLine P s))) (blends P) ≡ true
+  pub cut : any (isCut (meshOf (withLine P s))) (liveOf P) ≡ true
 
 -- the first test of a chain that ends in 0
 chain : (b : Bool) (n rest : ℕ) → 0 < n → cond b n rest ≡ 0 → (b ≡ false) × (rest ≡ 0)
 chain true n rest lt e = absurd (omega arith)
 chain false n rest lt e = (refl, e)
 
-pub given-says : (P : Plain) (s : Split) → given P s ≡ 0 → Given P s
+pub given-says : (P : Layout) (s : Split) → given P s ≡ 0 → Given P s
 unfolding given
 given-says P s e =
     let a = chain (not (inRange (P .w) (P .h) s)) 3 _ (omega arith) e in
     let b = chain (leb 60 (length (P .splits))) 4 _ (omega arith) (a .1) in
     let c = chain (shares (meshOf P) s) 5 _ (omega arith) (b .1) in
     let d = chain (not (ended (meshOf P) s)) 6 _ (omega arith) (c .1) in
-    let f = chain (not (any (isCut (meshOf (withLine P s))) (blends P))) 7 0 (omega arith) (d .1) in
+    let f = chain (not (any (isCut (meshOf (withLine P s))) (liveOf P))) 7 0 (omega arith) (d .1) in
     record {
       fits = not-false _ (a .0);
       room = leb-false 60 (length (P .splits)) (b .0);
@@ -110,7 +102,7 @@ given-says P s e =
       cut = not-false _ (f .0);
     }
 
-pub exact-says : (P : Plain) (s : Split) → exactNumber P s ≡ 0 → Given P s × (soundWith P s ≡ true)
+pub exact-says : (P : Layout) (s : Split) → exactNumber P s ≡ 0 → Given P s × (soundWith P s ≡ true)
 unfolding exactNumber
 exact-says P s e = let r = both-pass (given P s) (soundWith P s) e in (given-says P s (r .0), r .1)
   where
@@ -130,40 +122,40 @@ module _ {L : Lines} {t : Table} (hand : InHand L t) (s : Split) (fits : inRange
       }
 
   -- whether it cuts something,
-  pub hand-cut : someCut (withSplit L s) t ≡ any (isCut (meshOf (withLine (held L) s))) (blends (held L))
+  pub hand-cut : someCut (withSplit L s) t ≡ any (isCut (meshOf (withLine (layoutOf L) s))) (liveOf (layoutOf L))
   hand-cut = sym (is-cut ranged) ∙ rw (hand-mesh L room (hand .places) s, hand-blends hand)
 
   -- the blends in hand, cut further, are its live blends as a table holds them,
-  hand-refined : refined (withSplit L s) t ≡ fitted (blends (withLine (held L) s))
+  hand-refined : refined (withSplit L s) t ≡ fitted (liveOf (withLine (layoutOf L) s))
   unfolding live
   hand-refined =
       let a = hand-sides hand in
       is-refined ranged ∙
       rw (hand-mesh L room (hand .places) s, hand-blends hand)
-      (finer-fitted (L .w) (L .h) (a .up .1) (meshOf (held L)) (meshOf (withLine (held L) s)) (drawn-finer (L .w) (L .h) (splitsOf L) s)
+      (finer-fitted (L .w) (L .h) (a .up .1) (meshOf (layoutOf L)) (meshOf (withLine (layoutOf L) s)) (drawn-finer (L .w) (L .h) (splitsOf L) s)
       (firstFour (L .w) (L .h)) (first-proper (L .w) (L .h) (a .across .0) (a .up .0)))
 
   -- and that it fits and is full says that the map is sound.
   module _ {next : Lines} {r : Refined} (more : next ≡ withSplit L s) (e : r ≡ refined next t) where
-    is-next : r ≡ fitted (blends (withLine (held L) s))
+    is-next : r ≡ fitted (liveOf (withLine (layoutOf L) s))
     is-next = e ∙ ap (λ (N : Lines). refined N t) more ∙ hand-refined
 
     sixty : length (splitsOf L ++ s ∷ []) ≤ 60
     sixty = rw (length-append, hand-length hand) (omega arith)
 
-    pub unfit-next : r .fits ≡ false → soundWith (held L) s ≡ false
+    pub unfit-next : r .fits ≡ false → soundWith (layoutOf L) s ≡ false
     unfit-next = unfit-unsound (hand-sides hand) (splitsOf L ++ s ∷ []) sixty is-next
 
-    pub full-next : r .fits ≡ true → full (L .w) (L .h) (r .table) ≡ soundWith (held L) s
+    pub full-next : r .fits ≡ true → full (L .w) (L .h) (r .table) ≡ soundWith (layoutOf L) s
     full-next = full-sound (hand-sides hand) (splitsOf L ++ s ∷ []) sixty is-next
 
-    pub next-table : r .fits ≡ true → r .table ≡ table (blends (withLine (held L) s))
+    pub next-table : r .fits ≡ true → r .table ≡ table (liveOf (withLine (layoutOf L) s))
     next-table f = fits-held _ r is-next f .is-table
 
 -- The live blends of a fresh map are in hand.
 pub hand-fresh : (w h : ℕ) → allowedSide w ≡ true → allowedSide h ≡ true →
-    InHand (record { w = w; h = h; count = 0; splits = replicate 60 noSplit }) (table (firstFour w h))
-unfolding allowed
+    InHand (linesOf (layout w h [])) (table (firstFour w h))
+unfolding allowed linesOf
 hand-fresh w h a b =
     let one = leb-true 1 w (and-both (leb 1 w) (leb w 128) a .0) in
     let also = and-both (leb 1 h) (leb h 128) b in

@@ -24,7 +24,8 @@ use Rattle.mesh.proofs.Live.{AllProper}
 use Rattle.mesh.proofs.Ascending.{OwnAnchors}
 use Rattle.mesh.proofs.SoundMaps.{live-proper, live-distinct, own-anchors}
 use Rattle.maps.specs.Values.{placeOf, readingAt, carried}
-use Rattle.maps.specs.Plain.{Plain, meshOf, blends}
+use Rattle.maps.specs.Plain.{Plain, blends}
+use Rattle.mesh.specs.Lines.{meshOf}
 use Rattle.maps.specs.Inner.{anchorIndex, InTable}
 use Rattle.axis.proofs.Members.{entry, placed}
 use Rattle.maps.proofs.Readings.{Valued, place-found}
@@ -129,8 +130,8 @@ module _ (index : List ℕ) (bs : List Blend) (noted : Indexed index bs) (B : Bl
       (λ e. absurd (some (noted-absent e)))
       (either is-old)
 
-of-proper : (P : Plain) (w h : ℕ) → P .w ≡ w → P .h ≡ h → 1 ≤ w → 1 ≤ h → AllProper w h (blends P)
-of-proper P w h e f hw hh = rw (← e, ← f) (live-proper (P .w) (P .h) (omega arith) (omega arith) (meshOf P))
+of-proper : (P : Plain) (w h : ℕ) → P .lines .w ≡ w → P .lines .h ≡ h → 1 ≤ w → 1 ≤ h → AllProper w h (blends P)
+of-proper P w h e f hw hh = rw (← e, ← f) (live-proper (P .lines .w) (P .lines .h) (omega arith) (omega arith) (meshOf (P .lines)))
 
 -- The old map of a split, as a table and an array of values.
 module _ {w h : ℕ} {t : Table} {values : List ℕ} (old : InTable w h t values) where
@@ -152,7 +153,7 @@ module _ {w h : ℕ} {t : Table} {values : List ℕ} (old : InTable w h t values
   pub old-table : (all (proper w h) (blendsOf t) ≡ true) × (sound w h (blendsOf t) ≡ true)
   old-table = rw blends-of (all-of (proper w h) (blends (old .of)) old-proper, old .is-sound)
 
-  sound-here : sound (old .of .w) (old .of .h) (blends (old .of)) ≡ true
+  sound-here : sound (old .of .lines .w) (old .of .lines .h) (blends (old .of)) ≡ true
   sound-here = ap₂ (λ (a b : ℕ). sound a b (blends (old .of))) (old .across) (old .up) ∙ old .is-sound
 
   pub old-valued : length values ≡ 1024 → ((i : ℕ) → getD values i 0 < 65536) → Valued (old .of)
@@ -172,10 +173,10 @@ module _ {w h : ℕ} {t : Table} {values : List ℕ} (old : InTable w h t values
       counted = ap length (old .are-values) ∙ length-take-le _ values (omega (arith, old .is-short))
 
   old-own : OwnAnchors (blends (old .of))
-  old-own = own-anchors (old .of .w) (old .of .h) (rw (old .across) (old .sides .0)) (rw (old .up) (old .sides .2)) (meshOf (old .of)) sound-here
+  old-own = own-anchors (old .of .lines .w) (old .of .lines .h) (rw (old .across) (old .sides .0)) (rw (old .up) (old .sides .2)) (meshOf (old .of .lines)) sound-here
 
   old-distinct : Distinct (blends (old .of))
-  old-distinct = live-distinct (old .of .w) (old .of .h) (rw (old .across) (old .sides .0)) (rw (old .up) (old .sides .2)) (meshOf (old .of))
+  old-distinct = live-distinct (old .of .lines .w) (old .of .lines .h) (rw (old .across) (old .sides .0)) (rw (old .up) (old .sides .2)) (meshOf (old .of .lines))
 
   pub old-indexed : (index blank : List ℕ) → blank ≡ replicate 17161 0 → index ≡ anchorIndex blank 0 (blendsOf t) → Indexed index (blendsOf t)
   old-indexed index blank b e =

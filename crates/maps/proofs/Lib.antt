@@ -1,12 +1,11 @@
 pub mod Adding
 pub mod Agreeing
+pub mod Asking
 pub mod Demand3
 pub mod Exact
 pub mod Following
-pub mod FromHand
 pub mod Gentle
 pub mod Good
-pub mod Handed
 pub mod InHand
 pub mod Index
 pub mod Longer
@@ -14,8 +13,8 @@ pub mod Longest
 pub mod Over
 pub mod Reached
 pub mod Readings
-pub mod Recording
-pub mod Replay
+pub mod Changing
+pub mod Opening
 pub mod Replayed3
 pub mod Squares
 pub mod Tabled

@@ -12,17 +12,15 @@ use Rattle.mesh.specs.declared.Split.{Split}
 use Rattle.mesh.specs.declared.Lines.{Lines}
 use Rattle.mesh.specs.declared.Table.{Table}
 use Rattle.axis.specs.Range.{each, only}
-use Rattle.mesh.specs.Lines.{upright, level, inRange, shares, ended, fits}
+use Rattle.mesh.specs.Lines.{Layout, layoutOf, upright, level, inRange, shares, ended, fits, meshOf}
 use Rattle.axis.proofs.Tests.{either, and-both, and-of, false-of, cond-true, cond-false, each-turn, each-none}
 use Rattle.mesh.proofs.Drawing.{in-range-says}
 use Rattle.maps.specs.declared.splits.Step.{Step}
-use Rattle.maps.specs.declared.splits.Found.{Found}
-use Rattle.maps.specs.Plain.{Plain, meshOf}
-use Rattle.maps.specs.Splits.{given, soundWith, reaching, run, containing, candidate, chosen}
-use Rattle.maps.specs.Inner.{held, InHand, judged, found}
+use Rattle.mesh.specs.Splits.{liveOf, given, soundWith, reaching, run, containing, candidate, chosen}
+use Rattle.maps.specs.Inner.{InHand, refusedStep, judged, found}
 use Rattle.maps.proofs.InHand.{Given, given-says, hand-sides, hand-length}
 
-module _ (P : Plain) (s : Split) where
+module _ (P : Layout) (s : Split) where
   -- the line of a length from a start, where it keeps to the side; those of a length from a start on
   abbrev pub line : ℕ → ℕ → List Split
   line n from = only (λ c. leb (c .to) (run P s)) (reaching s from n ∷ [])
@@ -79,7 +77,7 @@ module _ (P : Plain) (s : Split) where
       ap (λ (xs : List Split). first (xs ++ more)) (cond-true _ _ _ (le-leb _ _ le)) ∙ ap (take 1) (cond-true _ _ _ ok)
 
 -- a line in range keeps to its ranges with other ends within the side that it runs along
-pub reaching-fits : (P : Plain) (s : Split) (from n : ℕ) → inRange (P .w) (P .h) s ≡ true → 0 < n → from + n ≤ run P s →
+pub reaching-fits : (P : Layout) (s : Split) (from n : ℕ) → inRange (P .w) (P .h) s ≡ true → 0 < n → from + n ≤ run P s →
     inRange (P .w) (P .h) (reaching s from n) ≡ true
 unfolding inRange
 reaching-fits P s from n e lo hi =
@@ -96,7 +94,7 @@ reaching-fits P s from n e lo hi =
         and-of _ _ (and-of _ _ (q .0) (lt-ltb from (from + n) (omega arith))) (le-leb (from + n) along le)
 
 -- the ends of a split in range
-pub ends-in : (P : Plain) (s : Split) → inRange (P .w) (P .h) s ≡ true → (s .from < s .to) × (s .to ≤ run P s)
+pub ends-in : (P : Layout) (s : Split) → inRange (P .w) (P .h) s ≡ true → (s .from < s .to) × (s .to ≤ run P s)
 unfolding inRange
 ends-in P s e =
     ⊎-elim (λ q. let r = in-range-says (P .w) (P .h) upright s e (eqb-true _ _ q) in rw q (r .1, r .2))
@@ -107,39 +105,39 @@ ends-in P s e =
     is-level q = eqb-true _ _ (and-both (eqb (s .direction) 1) (fits (P .h) (P .w) s) (rw q at e) .0)
 
 -- What holds throughout the search: nothing is found yet, and the first candidate of the lines that are left is the line that the split takes.
-pub record Search (L : Lines) (t : Table) (s : Split) (side : ℕ) (answer : Found) (n : ℕ) (left : List Split) : Type 0 where
+pub record Search (L : Lines) (t : Table) (s : Split) (side : ℕ) (answer : Step) (n : ℕ) (left : List Split) : Type 0 where
   pub hand : InHand L t
-  pub free : Given (held L) s
-  pub is-side : side ≡ run (held L) s
+  pub free : Given (layoutOf L) s
+  pub is-side : side ≡ run (layoutOf L) s
   pub long : s .to - s .from ≤ n
-  pub unfound : answer ≡ record { some = false; split = s; table = t }
-  pub rest : chosen (held L) s ≡ first (held L) s left
+  pub unfound : answer ≡ refusedStep t 8 s
+  pub rest : chosen (layoutOf L) s ≡ first (layoutOf L) s left
 
 -- it begins with all the lines from the drawn length on
-pub search-starts : {L : Lines} {t : Table} {s : Split} {side : ℕ} → InHand L t → given (held L) s ≡ 0 → side ≡ run (held L) s →
-    Search L t s side (record { some = false; split = s; table = t }) (s .to - s .from) (rows (held L) s (s .to - s .from))
+pub search-starts : {L : Lines} {t : Table} {s : Split} {side : ℕ} → InHand L t → given (layoutOf L) s ≡ 0 → side ≡ run (layoutOf L) s →
+    Search L t s side (refusedStep t 8 s) (s .to - s .from) (rows (layoutOf L) s (s .to - s .from))
 search-starts {L} {t} {s} hand e is =
-    let free = given-says (held L) s e in
-    let ends = ends-in (held L) s (free .fits) in
+    let free = given-says (layoutOf L) s e in
+    let ends = ends-in (layoutOf L) s (free .fits) in
     record {
       hand = hand;
       free = free;
       is-side = is;
       long = omega arith;
       unfound = refl;
-      rest = chosen-first (held L) s (omega arith);
+      rest = chosen-first (layoutOf L) s (omega arith);
     }
 
-run-most : (P : Plain) (s : Split) → P .w ≤ 128 → P .h ≤ 128 → run P s ≤ 128
+run-most : (P : Layout) (s : Split) → P .w ≤ 128 → P .h ≤ 128 → run P s ≤ 128
 run-most P s hw hh = ⊎-elim (λ q. rw q hh) (λ q. rw q hw) (either (eqb (s .direction) 0))
 
-module _ {L : Lines} {t : Table} {s : Split} {side n : ℕ} {answer : Found} {left : List Split} (at : Search L t s side answer n left) where
+module _ {L : Lines} {t : Table} {s : Split} {side n : ℕ} {answer : Step} {left : List Split} (at : Search L t s side answer n left) where
   -- what the numbers keep to
   pub bounds : (s .from < s .to) × (s .to ≤ side) × (side ≤ 128)
   bounds =
-      let ends = ends-in (held L) s (at .free .fits) in
+      let ends = ends-in (layoutOf L) s (at .free .fits) in
       let sides = hand-sides (at .hand) in
-      let most = run-most (held L) s (sides .across .1) (sides .up .1) in
+      let most = run-most (layoutOf L) s (sides .across .1) (sides .up .1) in
       let is = at .is-side in
       (ends .0, omega arith, omega arith)
 
@@ -147,7 +145,7 @@ module _ {L : Lines} {t : Table} {s : Split} {side n : ℕ} {answer : Found} {le
   room = omega (arith, hand-length (at .hand), at .free .room)
 
   -- another list of lines with the same first candidate
-  onward : {m : ℕ} {next : List Split} → n ≤ m → first (held L) s left ≡ first (held L) s next → Search L t s side answer m next
+  onward : {m : ℕ} {next : List Split} → n ≤ m → first (layoutOf L) s left ≡ first (layoutOf L) s next → Search L t s side answer m next
   onward le e =
       record {
         hand = at .hand;
@@ -158,73 +156,73 @@ module _ {L : Lines} {t : Table} {s : Split} {side n : ℕ} {answer : Found} {le
         rest = at .rest ∙ e;
       }
 
-module _ {L : Lines} {t : Table} {s : Split} {side n : ℕ} {answer : Found} where
+module _ {L : Lines} {t : Table} {s : Split} {side n : ℕ} {answer : Step} where
   -- One length after the other,
-  pub search-enters : Search L t s side answer n (rows (held L) s n) → n ≤ side →
-      Search L t s side answer n (ahead (held L) s n (s .to - n))
+  pub search-enters : Search L t s side answer n (rows (layoutOf L) s n) → n ≤ side →
+      Search L t s side answer n (ahead (layoutOf L) s n (s .to - n))
   search-enters at le =
-      onward at (omega arith) (ap (first (held L) s) (rows-turn (held L) s n (omega (arith, at .is-side))))
+      onward at (omega arith) (ap (first (layoutOf L) s) (rows-turn (layoutOf L) s n (omega (arith, at .is-side))))
 
   -- and one start after the other, a line that is no candidate is passed over,
-  pub search-passes : {from : ℕ} → Search L t s side answer n (ahead (held L) s n from) → from ≤ s .from →
-      (from + n ≤ side → candidate (held L) (reaching s from n) ≡ false) →
-      Search L t s side answer n (ahead (held L) s n (from + 1))
+  pub search-passes : {from : ℕ} → Search L t s side answer n (ahead (layoutOf L) s n from) → from ≤ s .from →
+      (from + n ≤ side → candidate (layoutOf L) (reaching s from n) ≡ false) →
+      Search L t s side answer n (ahead (layoutOf L) s n (from + 1))
   search-passes {from} at le out =
       onward at (omega arith)
-      (ap (first (held L) s) (starts-turn (held L) s n from le) ∙
-      line-passed (held L) s n from (ahead (held L) s n (from + 1)) (λ in-side. out (omega (arith, at .is-side))))
+      (ap (first (layoutOf L) s) (starts-turn (layoutOf L) s n from le) ∙
+      line-passed (layoutOf L) s n from (ahead (layoutOf L) s n (from + 1)) (λ in-side. out (omega (arith, at .is-side))))
 
-  pub search-leaves : {from : ℕ} → Search L t s side answer n (ahead (held L) s n from) → s .from < from →
-      Search L t s side answer (n + 1) (rows (held L) s (n + 1))
+  pub search-leaves : {from : ℕ} → Search L t s side answer n (ahead (layoutOf L) s n from) → s .from < from →
+      Search L t s side answer (n + 1) (rows (layoutOf L) s (n + 1))
   search-leaves {from} at lt =
       onward at (omega arith)
-      (ap (λ (xs : List Split). first (held L) s (xs ++ rows (held L) s (n + 1))) (starts-none (held L) s n from lt))
+      (ap (λ (xs : List Split). first (layoutOf L) s (xs ++ rows (layoutOf L) s (n + 1))) (starts-none (layoutOf L) s n from lt))
 
   -- until the lines run out.
-  pub search-fails : Search L t s side answer n (rows (held L) s n) → side < n → answer ≡ found L t s (chosen (held L) s)
+  pub search-fails : Search L t s side answer n (rows (layoutOf L) s n) → side < n → answer ≡ found L t s (chosen (layoutOf L) s)
   unfolding found first
   search-fails at lt =
       at .unfound ∙
-      sym (ap (found L t s) (at .rest ∙ ap (first (held L) s) (rows-none (held L) s n (omega (arith, at .is-side)))))
+      sym (ap (found L t s) (at .rest ∙ ap (first (layoutOf L) s) (rows-none (layoutOf L) s n (omega (arith, at .is-side)))))
 
 -- A line that is tried: whether it may stand,
-module _ {L : Lines} {t : Table} {s : Split} {side n : ℕ} {answer : Found} (from : ℕ) (at : Search L t s side answer n (ahead (held L) s n from))
+module _ {L : Lines} {t : Table} {s : Split} {side n : ℕ} {answer : Step} (from : ℕ) (at : Search L t s side answer n (ahead (layoutOf L) s n from))
     {r : Bool} (e : let c = reaching s from n in
-    r ≡ (inRange (L .w) (L .h) c && ended (meshOf (held L)) c && not (shares (meshOf (held L)) c))) where
-  pub tried-falls : r ≡ false → from + n ≤ side → candidate (held L) (reaching s from n) ≡ false
+    r ≡ (inRange (L .w) (L .h) c && ended (meshOf (layoutOf L)) c && not (shares (meshOf (layoutOf L)) c))) where
+  pub tried-falls : r ≡ false → from + n ≤ side → candidate (layoutOf L) (reaching s from n) ≡ false
   unfolding candidate
   tried-falls q le =
       let b = bounds at in
-      let in-range = reaching-fits (held L) s from n (at .free .fits) (omega (arith, at .long)) (omega (arith, at .is-side)) in
+      let in-range = reaching-fits (layoutOf L) s from n (at .free .fits) (omega (arith, at .long)) (omega (arith, at .is-side)) in
       let none = rw in-range at (sym e ∙ q) in
       rw none
 
   -- and if so, whether it leaves a sound map.
   module _ (q : r ≡ true) where
-    ends-apart : (inRange (L .w) (L .h) (reaching s from n) && ended (meshOf (held L)) (reaching s from n) ≡ true) ×
-        (not (shares (meshOf (held L)) (reaching s from n)) ≡ true)
+    ends-apart : (inRange (L .w) (L .h) (reaching s from n) && ended (meshOf (layoutOf L)) (reaching s from n) ≡ true) ×
+        (not (shares (meshOf (layoutOf L)) (reaching s from n)) ≡ true)
     ends-apart = and-both _ _ (sym e ∙ q)
 
     pub in-range : inRange (L .w) (L .h) (reaching s from n) ≡ true
-    in-range = and-both _ (ended (meshOf (held L)) (reaching s from n)) (ends-apart .0) .0
+    in-range = and-both _ (ended (meshOf (layoutOf L)) (reaching s from n)) (ends-apart .0) .0
 
-    is-candidate : candidate (held L) (reaching s from n) ≡ soundWith (held L) (reaching s from n)
+    is-candidate : candidate (layoutOf L) (reaching s from n) ≡ soundWith (layoutOf L) (reaching s from n)
     unfolding candidate
     is-candidate = rw (and-both (inRange (L .w) (L .h) (reaching s from n)) _ (ends-apart .0) .1, ends-apart .1)
 
     module _ {R : Step} (is : R ≡ judged L t (reaching s from n)) where
-      pub tried-unsound : (R .number ≡ 0 → ⊥) → candidate (held L) (reaching s from n) ≡ false
+      pub tried-unsound : (R .number ≡ 0 → ⊥) → candidate (layoutOf L) (reaching s from n) ≡ false
       unfolding judged
       tried-unsound ne = is-candidate ∙ false-of _ (λ o. ne (ap (λ (x : Step). x .number) (is ∙ cond-true _ _ _ o)))
 
       pub tried-found : from ≤ s .from → R .number ≡ 0 →
-          record { some = true; split = reaching s from n; table = R .table } ≡ found L t s (chosen (held L) s)
+          R ≡ found L t s (chosen (layoutOf L) s)
       unfolding found judged
       tried-found le z =
-          let ends = ends-in (held L) (reaching s from n) in-range in
-          let o : soundWith (held L) (reaching s from n) ≡ true =
-          ⊎-elim (λ y. y) (λ y. absurd (omega (arith, sym z ∙ ap (λ (x : Step). x .number) (is ∙ cond-false _ _ _ y)))) (either (soundWith (held L) (reaching s from n))) in
-          ap (λ (x : Step). record { some = true; split = reaching s from n; table = x .table }) (is ∙ cond-true _ _ _ o) ∙
+          let ends = ends-in (layoutOf L) (reaching s from n) in-range in
+          let o : soundWith (layoutOf L) (reaching s from n) ≡ true =
+          ⊎-elim (λ y. y) (λ y. absurd (omega (arith, sym z ∙ ap (λ (x : Step). x .number) (is ∙ cond-false _ _ _ y)))) (either (soundWith (layoutOf L) (reaching s from n))) in
+          is ∙ cond-true _ _ _ o ∙
           sym (ap (found L t s)
-          (at .rest ∙ ap (first (held L) s) (starts-turn (held L) s n from le) ∙
-          line-taken (held L) s n from (ahead (held L) s n (from + 1)) (ends .1) (is-candidate ∙ o)))
+          (at .rest ∙ ap (first (layoutOf L) s) (starts-turn (layoutOf L) s n from le) ∙
+          line-taken (layoutOf L) s n from (ahead (layoutOf L) s n (from + 1)) (ends .1) (is-candidate ∙ o)))

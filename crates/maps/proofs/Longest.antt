@@ -11,7 +11,7 @@ use lib.ListN.{length, take}
 use Rattle.mesh.specs.declared.Split.{Split}
 use Rattle.mesh.specs.declared.Blend.{Blend}
 use Rattle.axis.specs.Range.{each, any, only}
-use Rattle.mesh.specs.Lines.{Mesh, Direction, upright, level, number, side, other, mesh, freshMesh, draws, inRange, start, end, shares, ended}
+use Rattle.mesh.specs.Lines.{Layout, layoutOf, Mesh, Direction, upright, level, number, side, other, mesh, freshMesh, draws, inRange, start, end, shares, ended, meshOf}
 use Rattle.mesh.specs.Blends.{cutter, isCut}
 use Rattle.mesh.specs.Order.{Coarser}
 use Rattle.axis.proofs.Tests.{either, true-not-false, and-both, and-of, or-either, or-left, or-right, any-at, any-of, only-mem, each-mem}
@@ -20,8 +20,7 @@ use Rattle.mesh.proofs.Order.{finer-cuts}
 use Rattle.mesh.proofs.Live.{proper-rises}
 use Rattle.mesh.proofs.SoundMaps.{live-proper}
 use Rattle.mesh.proofs.Refining.{some-line}
-use Rattle.maps.specs.Plain.{Plain, meshOf, blends}
-use Rattle.maps.specs.Splits.{withLine, soundWith, given, exactNumber, reaching, run, containing, candidate, chosen}
+use Rattle.mesh.specs.Splits.{liveOf, withLine, soundWith, given, exactNumber, reaching, run, containing, candidate, chosen}
 use Rattle.maps.proofs.InHand.{given-says}
 use Rattle.maps.proofs.Longer.{line, reaching-fits, ends-in}
 
@@ -57,12 +56,12 @@ end-after run c s le within =
     (either (eqb (s .to) run))
 
 -- the side that a line of a direction runs along
-run-along : (P : Plain) (s : Split) (d : Direction) → s .direction ≡ number d → run P s ≡ side (other d) (P .w) (P .h)
+run-along : (P : Layout) (s : Split) (d : Direction) → s .direction ≡ number d → run P s ≡ side (other d) (P .w) (P .h)
 run-along P s upright e = rw e
 run-along P s level e = rw e
 
 -- So it draws, run out, all that the other draws,
-module _ (P : Plain) (c s : Split) (i : Contains c s) (within : c .to ≤ run P s) where
+module _ (P : Layout) (c s : Split) (i : Contains c s) (within : c .to ≤ run P s) where
   contains-draws : (d : Direction) (z k : ℕ) → draws (P .w) (P .h) d z k s ≡ true → draws (P .w) (P .h) d z k c ≡ true
   unfolding draws
   contains-draws d z k e =
@@ -92,7 +91,7 @@ module _ (P : Plain) (c s : Split) (i : Contains c s) (within : c .to ≤ run P 
       (or-either fresh (any test (P .splits ++ s ∷ [])) e)
 
 -- the lines that contain a given one
-containing-says : (P : Plain) (s c : Split) → s .from < s .to → List·Memᴰ c (containing P s) →
+containing-says : (P : Layout) (s c : Split) → s .from < s .to → List·Memᴰ c (containing P s) →
     (from : ℕ) × (n : ℕ) × (c ≡ reaching s from n) × (from ≤ s .from) × (s .to ≤ from + n) × (from + n ≤ run P s)
 unfolding containing
 containing-says P s c lt m =
@@ -118,7 +117,7 @@ first-passes test xs c cs e = only-mem test xs c (first (only test xs) e)
     first (y ∷ ys) e = let same : c ≡ y = cc in List·Memᴰ.List·Memᴰ·head same
 
 -- The line that a lengthened split takes passes every check of an exact one: it contains the given line, so it cuts what that cuts.
-pub chosen-exact : (P : Plain) → 1 ≤ P .w → 1 ≤ P .h → (s c : Split) (cs : List Split) → given P s ≡ 0 → chosen P s ≡ c ∷ cs →
+pub chosen-exact : (P : Layout) → 1 ≤ P .w → 1 ≤ P .h → (s c : Split) (cs : List Split) → given P s ≡ 0 → chosen P s ≡ c ∷ cs →
     exactNumber P c ≡ 0
 unfolding chosen candidate exactNumber given
 chosen-exact P hw hh s c cs e first =
@@ -135,9 +134,9 @@ chosen-exact P hw hh s c cs e first =
     let room : leb 60 (length (P .splits)) ≡ false = lt-leb _ _ (g .room) in
     let holds : Contains c s = rw is (record { same-way = refl; same-place = refl; begins = omega arith; ends = omega arith }) in
     let within : c .to ≤ run P s = rw is (omega arith) in
-    let cut = any-at (isCut (meshOf (withLine P s))) (blends P) (g .cut) in
+    let cut = any-at (isCut (meshOf (withLine P s))) (liveOf P) (g .cut) in
     let rises = proper-rises (P .w) (P .h) (cut .0) (live-proper (P .w) (P .h) hw hh (meshOf P) (cut .0) (cut .1)) in
-    let still : any (isCut (meshOf (withLine P c))) (blends P) ≡ true =
-    any-of (isCut (meshOf (withLine P c))) (blends P) (cut .0) (cut .1)
+    let still : any (isCut (meshOf (withLine P c))) (liveOf P) ≡ true =
+    any-of (isCut (meshOf (withLine P c))) (liveOf P) (cut .0) (cut .1)
     (finer-cut (meshOf (withLine P s)) (meshOf (withLine P c)) (contains-finer P c s holds within) (cut .0) rises (cut .2)) in
     rw (in-range, room, not-true (shares (meshOf P) c) (b .1), b .0, still, a .1)

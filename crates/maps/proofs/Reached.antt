@@ -13,14 +13,14 @@ use Rattle.axis.specs.Range.{only}
 use Rattle.mesh.specs.declared.Split.{Split}
 use Rattle.mesh.specs.Lines.{allowedSide}
 use Rattle.maps.specs.Plain.{Plain, freshPlain, blends}
-use Rattle.maps.specs.Values.{inDomain, placeOf}
-use Rattle.maps.specs.Splits.{given, exactNumber, containing, candidate, chosen, drawn}
+use Rattle.maps.specs.Values.{inDomain, placeOf, drawn}
+use Rattle.mesh.specs.Splits.{given, exactNumber, containing, candidate, chosen}
 use Rattle.maps.specs.Record.{good}
 use Rattle.maps.specs.Calls.{setPlain}
 use Rattle.maps.specs.Histories.{Call, set, exact, lengthened, place, reads, weighs, sameAs, Outcome, firstDrawn, byMachine, ending}
 use Rattle.maps.specs.Demand.{Start, fresh, lineOf, linesOf}
-use Rattle.maps.proofs.InHand.{exact-says, hand-sides, hand-fresh}
-use Rattle.maps.proofs.Good.{Holds, replays-stands, fresh-holds, set-holds, drawn-holds}
+use Rattle.maps.proofs.InHand.{exact-says}
+use Rattle.maps.proofs.Good.{Holds, replays-sides, replays-stands, fresh-holds, set-holds, drawn-holds}
 use Rattle.maps.proofs.Readings.{Valued, set-valued, drawn-valued}
 use Rattle.maps.proofs.Longest.{chosen-exact}
 
@@ -32,14 +32,14 @@ pub record Reached (P : Plain) : Type 0 where
 -- Of a map that a good record may hold, only that the values are small is left to show;
 pub holds-reached : (P : Plain) → Holds P → ((v : ℕ) → List·Memᴰ v (P .values) → v < 65536) → Reached P
 holds-reached P holds small =
-    let sides = hand-sides (hand-fresh (P .w) (P .h) (holds .lines .across) (holds .lines .up)) in
+    let sides = replays-sides (holds .taken) in
     record {
       holds = holds;
       valued =
           record {
-            wide = sides .across;
-            tall = sides .up;
-            is-sound = replays-stands (holds .lines) .is-sound;
+            wide = (sides .0, sides .1);
+            tall = (sides .2, sides .3);
+            is-sound = replays-stands (holds .taken) .is-sound;
             counted = holds .counted;
             small = small;
           };
@@ -60,14 +60,14 @@ start-reached P (fresh w h a b) = fresh-reached w h a b
 -- Calls lead from P to Q and draw some lines: sides stay, the lines come after the splits that were there, and Q is such a map again.
 pub record Leads (P : Plain) (lines : List Split) (Q : Plain) : Type 0 where
   pub reached : Reached Q
-  pub wide : Q .w ≡ P .w
-  pub tall : Q .h ≡ P .h
-  pub more : Q .splits ≡ P .splits ++ lines
+  pub wide : Q .lines .w ≡ P .lines .w
+  pub tall : Q .lines .h ≡ P .lines .h
+  pub more : Q .lines .splits ≡ P .lines .splits ++ lines
 
 -- One call:
 module _ (P : Plain) (at : Reached P) where
   leads-nowhere : Leads P [] P
-  leads-nowhere = record { reached = at; wide = refl; tall = refl; more = sym (append-nil (P .splits)) }
+  leads-nowhere = record { reached = at; wide = refl; tall = refl; more = sym (append-nil (P .lines .splits)) }
 
   set-leads : (i j v : ℕ) → v < 65536 → Leads P [] (setPlain P i j v)
   unfolding setPlain
@@ -76,23 +76,23 @@ module _ (P : Plain) (at : Reached P) where
         reached = record { holds = set-holds (at .holds) i j v; valued = set-valued P (at .valued) i j v lt };
         wide = refl;
         tall = refl;
-        more = sym (append-nil (P .splits));
+        more = sym (append-nil (P .lines .splits));
       }
 
-  pub drawn-leads : (s : Split) → exactNumber P s ≡ 0 → Leads P (s ∷ []) (drawn P s)
+  pub drawn-leads : (s : Split) → exactNumber (P .lines) s ≡ 0 → Leads P (s ∷ []) (drawn P s)
   unfolding drawn
   drawn-leads s e =
       record {
-        reached = record { holds = drawn-holds (at .holds) s e; valued = drawn-valued P (at .valued) s (exact-says P s e .1) };
+        reached = record { holds = drawn-holds (at .holds) s e; valued = drawn-valued P (at .valued) s (exact-says (P .lines) s e .1) };
         wide = refl;
         tall = refl;
         more = refl;
       }
 
   -- the first of a list of lines is the only one that is drawn
-  first-leads : (s : Split) → given P s ≡ 0 → (ls : List Split) → chosen P s ≡ take 1 ls → Leads P (take 1 ls) (firstDrawn P (take 1 ls) .next)
+  first-leads : (s : Split) → given (P .lines) s ≡ 0 → (ls : List Split) → chosen (P .lines) s ≡ take 1 ls → Leads P (take 1 ls) (firstDrawn P (take 1 ls) .next)
   first-leads s e [] q = leads-nowhere
-  first-leads s e (l ∷ ls) q = drawn-leads l (chosen-exact P (at .valued .wide .0) (at .valued .tall .0) s l [] e q)
+  first-leads s e (l ∷ ls) q = drawn-leads l (chosen-exact (P .lines) (at .valued .wide .0) (at .valued .tall .0) s l [] e q)
 
   by-test : (lines : List Split) (b : Bool) (x y : Outcome Plain) → (b ≡ true → Leads P lines (x .next)) → (b ≡ false → Leads P lines (y .next)) →
       Leads P lines (cond b x y .next)
@@ -104,12 +104,12 @@ module _ (P : Plain) (at : Reached P) where
   step-leads (set i j v) =
       by-test [] (ltb (placeOf (blends P) (i + 1) (j + 1)) (length (blends P))) _ _ (λ e. set-leads i j (v % 65536) (mod-lt v (omega arith)))
       (λ e. leads-nowhere)
-  step-leads (exact s) = by-test _ (eqb (exactNumber P s) 0) _ _ (λ e. rw e (drawn-leads s (eqb-true _ _ e))) (λ e. rw e leads-nowhere)
+  step-leads (exact s) = by-test _ (eqb (exactNumber (P .lines) s) 0) _ _ (λ e. rw e (drawn-leads s (eqb-true _ _ e))) (λ e. rw e leads-nowhere)
   step-leads (lengthened s) =
-      by-test _ (eqb (given P s) 0) _ _ (λ e. rw e (first-leads s (eqb-true _ _ e) (only (candidate P) (containing P s)) refl)) (λ e. rw e leads-nowhere)
-  step-leads (place i) = by-test [] (ltb i (length (blends P))) _ _ (λ e. leads-nowhere) (λ e. leads-nowhere)
-  step-leads (reads u v) = by-test [] (inDomain P u v) _ _ (λ e. leads-nowhere) (λ e. leads-nowhere)
-  step-leads (weighs u v) = by-test [] (inDomain P u v) _ _ (λ e. leads-nowhere) (λ e. leads-nowhere)
+      by-test _ (eqb (given (P .lines) s) 0) _ _ (λ e. rw e (first-leads s (eqb-true _ _ e) (only (candidate (P .lines)) (containing (P .lines) s)) refl)) (λ e. rw e leads-nowhere)
+  step-leads (place i) = leads-nowhere
+  step-leads (reads u v) = leads-nowhere
+  step-leads (weighs u v) = leads-nowhere
   step-leads (sameAs m) = by-test [] (good m) _ _ (λ e. leads-nowhere) (λ e. leads-nowhere)
 
 -- A list of calls:
@@ -122,5 +122,5 @@ ending-leads (c ∷ cs) P at =
       reached = rest .reached;
       wide = rest .wide ∙ first .wide;
       tall = rest .tall ∙ first .tall;
-      more = rest .more ∙ ap (λ (l : List Split). l ++ linesOf (byMachine P c .next) cs) (first .more) ∙ append-assoc (P .splits) _ _;
+      more = rest .more ∙ ap (λ (l : List Split). l ++ linesOf (byMachine P c .next) cs) (first .more) ∙ append-assoc (P .lines .splits) _ _;
     }

@@ -14,7 +14,7 @@ use lib.Seq.{getD-set-same, getD-set-other}
 use Rattle.mesh.specs.declared.Split.{Split}
 use Rattle.mesh.specs.declared.Blend.{Blend}
 use Rattle.axis.specs.Range.{any}
-use Rattle.mesh.specs.Lines.{mesh, freshMesh, draws}
+use Rattle.mesh.specs.Lines.{mesh, freshMesh, draws, meshOf}
 use Rattle.mesh.specs.Blends.{anchored}
 use Rattle.mesh.specs.Order.{Coarser}
 use Rattle.mesh.specs.Sound.{none, proper, sound}
@@ -26,9 +26,9 @@ use Rattle.axis.proofs.Members.{map-mem, entry, placed, entry-map, set-mem}
 use Rattle.axis.proofs.Scale.{sum, sum-same}
 use Rattle.mesh.proofs.Weights.{Covered}
 use Rattle.mesh.proofs.SoundMaps.{live-left, live-proper, live-distinct}
-use Rattle.maps.specs.Plain.{Plain, meshOf, blends}
-use Rattle.maps.specs.Values.{readingAt, placeOf, carried}
-use Rattle.maps.specs.Splits.{withLine, drawn}
+use Rattle.maps.specs.Plain.{Plain, blends}
+use Rattle.maps.specs.Values.{readingAt, placeOf, carried, drawn}
+use Rattle.mesh.specs.Splits.{withLine, liveOf}
 use Rattle.maps.specs.Calls.{setPlain}
 use Rattle.maps.proofs.Exact.{paired-single, paired-most, paired-map, means-between, scale, scale-positive, part, exact, reading-rounds, part-own, part-other, parts-one, exact-reproduced}
 
@@ -53,42 +53,42 @@ place-found (B ∷ bs) m n lt =
 
 -- A sound map of allowed sides with a 16-bit value for each live blend.
 pub record Valued (P : Plain) : Type 0 where
-  pub wide : (1 ≤ P .w) × (P .w ≤ 128)
-  pub tall : (1 ≤ P .h) × (P .h ≤ 128)
-  pub is-sound : sound (P .w) (P .h) (blends P) ≡ true
+  pub wide : (1 ≤ P .lines .w) × (P .lines .w ≤ 128)
+  pub tall : (1 ≤ P .lines .h) × (P .lines .h ≤ 128)
+  pub is-sound : sound (P .lines .w) (P .lines .h) (blends P) ≡ true
   pub counted : length (P .values) ≡ length (blends P)
   pub small : (v : ℕ) → List·Memᴰ v (P .values) → v < 65536
 
 module _ (P : Plain) (valued : Valued P) where
-  pub blends-proper : AllProper (P .w) (P .h) (blends P)
-  blends-proper = live-proper (P .w) (P .h) (valued .wide .0) (valued .tall .0) (meshOf P)
+  pub blends-proper : AllProper (P .lines .w) (P .lines .h) (blends P)
+  blends-proper = live-proper (P .lines .w) (P .lines .h) (valued .wide .0) (valued .tall .0) (meshOf (P .lines))
 
   -- a reading at the anchor of a proper blend, on its knots
-  reading-on-knots : (B : Blend) → proper (P .w) (P .h) B ≡ true →
+  reading-on-knots : (B : Blend) → proper (P .lines .w) (P .lines .h) B ≡ true →
       readingAt (blends P) (P .values) (B .across .m - 1) (B .up .m - 1) ≡
-      exact (P .w) (P .h) (blends P) (P .values) (B .across .m) (B .up .m) / scale (P .w) (P .h)
+      exact (P .lines .w) (P .lines .h) (blends P) (P .values) (B .across .m) (B .up .m) / scale (P .lines .w) (P .lines .h)
   reading-on-knots B ok =
-      let p = proper-facts (P .w) (P .h) B ok in
+      let p = proper-facts (P .lines .w) (P .lines .h) B ok in
       let a = p .across in
       let b = p .up in
       let x : B .across .m - 1 + 1 ≡ B .across .m = omega arith in
       let y : B .up .m - 1 + 1 ≡ B .up .m = omega arith in
-      rw (x, y) at (reading-rounds (P .w) (P .h) (blends P) (P .values) blends-proper (B .across .m - 1) (B .up .m - 1))
+      rw (x, y) at (reading-rounds (P .lines .w) (P .lines .h) (blends P) (P .values) blends-proper (B .across .m - 1) (B .up .m - 1))
 
   -- At an anchor the reading is the value of its blend.
   pub reading-value : (i : ℕ) → i < length (blends P) → let B = getD (blends P) i none in
       readingAt (blends P) (P .values) (B .across .m - 1) (B .up .m - 1) ≡ getD (P .values) i 0
   reading-value i lt =
-      let w = P .w in
-      let h = P .h in
+      let w = P .lines .w in
+      let h = P .lines .h in
       let B = getD (blends P) i none in
       let m = entry (blends P) i none lt in
       reading-on-knots B (blends-proper B m) ∙
       rw (
         paired-single (part w h (B .across .m) (B .up .m)) (blends P) (P .values)
-            (live-distinct w h (valued .wide .0) (valued .tall .0) (meshOf P)) (valued .counted) i lt
-            (λ C mC. part-other w h (valued .wide .0) (valued .tall .0) (meshOf P) (valued .is-sound) B C m mC),
-        part-own w h (valued .wide .0) (valued .tall .0) (meshOf P) (valued .is-sound) B m,
+            (live-distinct w h (valued .wide .0) (valued .tall .0) (meshOf (P .lines))) (valued .counted) i lt
+            (λ C mC. part-other w h (valued .wide .0) (valued .tall .0) (meshOf (P .lines)) (valued .is-sound) B C m mC),
+        part-own w h (valued .wide .0) (valued .tall .0) (meshOf (P .lines)) (valued .is-sound) B m,
       )
       (mul-div-cancel (getD (P .values) i 0) (scale-positive w h))
 
@@ -106,11 +106,11 @@ module _ (P : Plain) (valued : Valued P) where
       (either (ltb i (length (blends P))))
 
   -- A reading in the domain is again one of "0 to 65,535 litres a minute".
-  pub reading-most : (u v : ℕ) → u ≤ P .w → v ≤ P .h → readingAt (blends P) (P .values) u v ≤ 65535
+  pub reading-most : (u v : ℕ) → u ≤ P .lines .w → v ≤ P .lines .h → readingAt (blends P) (P .values) u v ≤ 65535
   reading-most u v u-in v-in =
-      let w = P .w in
-      let h = P .h in
-      let one = parts-one w h (valued .wide .0) (valued .tall .0) (meshOf P) (valued .is-sound) u v u-in v-in in
+      let w = P .lines .w in
+      let h = P .lines .h in
+      let one = parts-one w h (valued .wide .0) (valued .tall .0) (meshOf (P .lines)) (valued .is-sound) u v u-in v-in in
       let most = paired-most (part w h (u + 1) (v + 1)) 65535 (blends P) (P .values) (λ x m. omega (arith, valued .small x m)) in
       rw (reading-rounds w h (blends P) (P .values) blends-proper u v)
       (div-le-of-le-mul (scale w h) (omega (arith, most, ap (λ (n : ℕ). 65535 * n) one)))
@@ -125,27 +125,27 @@ drawn-finer w h splits s d z k e =
     (or-either (freshMesh w h d z k) (any (draws w h d z k) splits) e)
 
 -- A split that leaves a sound map:
-module _ (P : Plain) (valued : Valued P) (s : Split) (still : sound (P .w) (P .h) (blends (withLine P s)) ≡ true) where
+module _ (P : Plain) (valued : Valued P) (s : Split) (still : sound (P .lines .w) (P .lines .h) (liveOf (withLine (P .lines) s)) ≡ true) where
   -- every live blend of the map just before comes before the new ones;
   pub old-covered : (B : Blend) → List·Memᴰ B (blends P) →
-      (proper (P .w) (P .h) B ≡ true) × Covered (meshOf (withLine P s)) (blends (withLine P s)) B
+      (proper (P .lines .w) (P .lines .h) B ≡ true) × Covered (meshOf (withLine (P .lines) s)) (liveOf (withLine (P .lines) s)) B
   old-covered B m = (
     blends-proper P valued B m,
-    λ C l. let r = live-left (P .w) (P .h) (valued .wide .0) (valued .tall .0) (meshOf P) B .0 m in
-        live-left (P .w) (P .h) (valued .wide .0) (valued .tall .0) (meshOf (withLine P s)) C .1
-        (r .0, r .1, finer-back (drawn-finer (P .w) (P .h) (P .splits) s) (r .2) l),
+    λ C l. let r = live-left (P .lines .w) (P .lines .h) (valued .wide .0) (valued .tall .0) (meshOf (P .lines)) B .0 m in
+        live-left (P .lines .w) (P .lines .h) (valued .wide .0) (valued .tall .0) (meshOf (withLine (P .lines) s)) C .1
+        (r .0, r .1, finer-back (drawn-finer (P .lines .w) (P .lines .h) (P .lines .splits) s) (r .2) l),
   )
 
-  new-proper : AllProper (P .w) (P .h) (blends (withLine P s))
-  new-proper = live-proper (P .w) (P .h) (valued .wide .0) (valued .tall .0) (meshOf (withLine P s))
+  new-proper : AllProper (P .lines .w) (P .lines .h) (liveOf (withLine (P .lines) s))
+  new-proper = live-proper (P .lines .w) (P .lines .h) (valued .wide .0) (valued .tall .0) (meshOf (withLine (P .lines) s))
 
   -- each new value is the old map's reading at the anchor;
   pub drawn-value : (i : ℕ) → i < length (blends (drawn P s)) → let B = getD (blends (drawn P s)) i none in
       getD (drawn P s .values) i 0 ≡ readingAt (blends P) (P .values) (B .across .m - 1) (B .up .m - 1)
   unfolding drawn
   drawn-value i lt =
-      entry-map (carried (blends P) (P .values)) (blends (withLine P s)) i none 0 lt ∙
-      carried-reading P valued (getD (blends (withLine P s)) i none)
+      entry-map (carried (blends P) (P .values)) (liveOf (withLine (P .lines) s)) i none 0 lt ∙
+      carried-reading P valued (getD (liveOf (withLine (P .lines) s)) i none)
 
   -- the map just after is again a sound one with a 16-bit value for each live blend;
   pub drawn-valued : Valued (drawn P s)
@@ -154,10 +154,10 @@ module _ (P : Plain) (valued : Valued P) (s : Split) (still : sound (P .w) (P .h
     wide = valued .wide;
     tall = valued .tall;
     is-sound = still;
-    counted = length-map (blends (withLine P s)) (carried (blends P) (P .values));
+    counted = length-map (liveOf (withLine (P .lines) s)) (carried (blends P) (P .values));
     small = λ v m.
-        let r = map-mem (carried (blends P) (P .values)) (blends (withLine P s)) v m in
-        let p = proper-facts (P .w) (P .h) (r .0) (new-proper (r .0) (r .1)) in
+        let r = map-mem (carried (blends P) (P .values)) (liveOf (withLine (P .lines) s)) v m in
+        let p = proper-facts (P .lines .w) (P .lines .h) (r .0) (new-proper (r .0) (r .1)) in
         let a = p .across in
         let b = p .up in
         let most = reading-most P valued (r .0 .across .m - 1) (r .0 .up .m - 1) (omega arith) (omega arith) in
@@ -165,14 +165,14 @@ module _ (P : Plain) (valued : Valued P) (s : Split) (still : sound (P .w) (P .h
   }
 
   -- a reading just after the split is never above the one just before, and at most one below;
-  pub drawn-reading : (u v : ℕ) → u ≤ P .w → v ≤ P .h →
+  pub drawn-reading : (u v : ℕ) → u ≤ P .lines .w → v ≤ P .lines .h →
       (readingAt (blends (drawn P s)) (drawn P s .values) u v ≤ readingAt (blends P) (P .values) u v) ×
       (readingAt (blends P) (P .values) u v ≤ readingAt (blends (drawn P s)) (drawn P s .values) u v + 1)
   unfolding drawn
   drawn-reading u v u-in v-in =
-      let w = P .w in
-      let h = P .h in
-      let L = blends (withLine P s) in
+      let w = P .lines .w in
+      let h = P .lines .h in
+      let L = liveOf (withLine (P .lines) s) in
       let old = exact w h (blends P) (P .values) in
       let g = part w h (u + 1) (v + 1) in
       let values : exact w h L (drawn P s .values) (u + 1) (v + 1) ≡ sum (λ (C : Blend). old (C .across .m) (C .up .m) / scale w h * g C) L =
@@ -180,8 +180,8 @@ module _ (P : Plain) (valued : Valued P) (s : Split) (still : sound (P .w) (P .h
       sum-same _ _ L (λ C m. ap (λ (n : ℕ). n * g C) (carried-reading P valued C ∙ reading-on-knots P valued C (new-proper C m))) in
       rw (reading-rounds w h L (drawn P s .values) new-proper u v, reading-rounds w h (blends P) (P .values) (blends-proper P valued) u v, values)
       (means-between (scale w h) (scale-positive w h) (λ (C : Blend). old (C .across .m) (C .up .m)) g L (old (u + 1) (v + 1))
-      (parts-one w h (valued .wide .0) (valued .tall .0) (meshOf (withLine P s)) still u v u-in v-in)
-      (exact-reproduced w h (valued .wide .0) (valued .tall .0) (meshOf (withLine P s)) still (blends P) (P .values) old-covered (u + 1) (v + 1)))
+      (parts-one w h (valued .wide .0) (valued .tall .0) (meshOf (withLine (P .lines) s)) still u v u-in v-in)
+      (exact-reproduced w h (valued .wide .0) (valued .tall .0) (meshOf (withLine (P .lines) s)) still (blends P) (P .values) old-covered (u + 1) (v + 1)))
 
   -- and at an old anchor the two are the same.
   pub drawn-anchor : (B : Blend) → List·Memᴰ B (blends P) →
@@ -189,10 +189,10 @@ module _ (P : Plain) (valued : Valued P) (s : Split) (still : sound (P .w) (P .h
       readingAt (blends P) (P .values) (B .across .m - 1) (B .up .m - 1)
   unfolding drawn
   drawn-anchor B m =
-      let k = keeps-anchor (meshOf (withLine P s)) B (proper-rises (P .w) (P .h) B (blends-proper P valued B m)) in
-      let r = placed (blends (withLine P s)) (k .0) none (old-covered B m .1 (k .0) (k .1)) in
-      let x : getD (blends (withLine P s)) (r .0) none .across .m ≡ B .across .m = ap (λ (C : Blend). C .across .m) (r .2) ∙ k .2 in
-      let y : getD (blends (withLine P s)) (r .0) none .up .m ≡ B .up .m = ap (λ (C : Blend). C .up .m) (r .2) ∙ k .3 in
+      let k = keeps-anchor (meshOf (withLine (P .lines) s)) B (proper-rises (P .lines .w) (P .lines .h) B (blends-proper P valued B m)) in
+      let r = placed (liveOf (withLine (P .lines) s)) (k .0) none (old-covered B m .1 (k .0) (k .1)) in
+      let x : getD (liveOf (withLine (P .lines) s)) (r .0) none .across .m ≡ B .across .m = ap (λ (C : Blend). C .across .m) (r .2) ∙ k .2 in
+      let y : getD (liveOf (withLine (P .lines) s)) (r .0) none .up .m ≡ B .up .m = ap (λ (C : Blend). C .up .m) (r .2) ∙ k .3 in
       rw (x, y) at (reading-value (drawn P s) drawn-valued (r .0) (r .1) ∙ drawn-value (r .0) (r .1))
 
 -- Setting the value at an anchor leaves the live blends as they are,

@@ -22,11 +22,12 @@ use Rattle.mesh.proofs.Places.{proper-facts}
 use Rattle.mesh.proofs.SoundMaps.{live-distinct, own-anchors}
 use Rattle.axis.proofs.Members.{map-mem}
 use Rattle.maps.specs.declared.Map.{Map}
-use Rattle.maps.specs.Plain.{Plain, meshOf, blends}
-use Rattle.maps.specs.Values.{placeOf}
+use Rattle.maps.specs.Plain.{Plain, blends}
+use Rattle.mesh.specs.Lines.{meshOf}
+use Rattle.maps.specs.Values.{placeOf, drawn}
 use Rattle.maps.specs.Calls.{setPlain}
-use Rattle.maps.specs.Splits.{given, exactNumber, withLine, drawn}
-use Rattle.maps.specs.Record.{recordOf, accepted}
+use Rattle.mesh.specs.Splits.{given, exactNumber, withLine, accepted}
+use Rattle.maps.specs.Record.{recordOf}
 use Rattle.maps.specs.Histories.{Call, set, exact, number, Outcome, outcome, byLibrary, byMachine, outcomes, ending}
 use Rattle.maps.specs.Demand.{recorded, linesOf}
 use Rattle.maps.proofs.Readings.{Valued, blends-proper}
@@ -74,27 +75,18 @@ pub accepted-more : (c : Call) (cs : List Call) (P Q R : Plain) → byMachine P 
     AcceptedTo P (c ∷ cs) R
 accepted-more c cs P Q R e a = rw e (refl, a)
 
--- Whether an exact split is accepted is a matter of the lines alone,
-abbrev pub withValues : Plain → List ℕ → Plain
-withValues P vs = record { w = P .w; h = P .h; splits = P .splits; values = vs }
-
-lines-decide : (P : Plain) (vs : List ℕ) (s : Split) → exactNumber (withValues P vs) s ≡ exactNumber P s
-unfolding exactNumber given
-lines-decide P vs s = refl
-
--- so splits that a record may have are accepted as calls, whatever the values, and are the lines of those calls.
-pub splits-drawn : (ss : List Split) (P : Plain) (vs : List ℕ) → accepted (withValues P vs) ss ≡ true →
+-- Splits that a record may have are accepted as calls, and are the lines of those calls.
+pub splits-drawn : (ss : List Split) (P : Plain) → accepted (P .lines) ss ≡ true →
     (Q : Plain) × AcceptedTo P (map exact ss) Q × (linesOf P (map exact ss) ≡ ss)
 unfolding accepted drawn
-splits-drawn [] P vs e = (P, refl, refl)
-splits-drawn (s ∷ ss) P vs e =
-    let a = and-both (eqb (exactNumber (withValues P vs) s) 0) (accepted (withLine (withValues P vs) s) ss) e in
-    let t : eqb (exactNumber P s) 0 ≡ true = rw (lines-decide P vs s) at (a .0) in
-    let step : byMachine P (exact s) ≡ outcome (number 0) (drawn P s) = cond-true _ _ _ t in
-    let rest = splits-drawn ss (drawn P s) vs (a .1) in (
+splits-drawn [] P e = (P, refl, refl)
+splits-drawn (s ∷ ss) P e =
+    let a = and-both (eqb (exactNumber (P .lines) s) 0) (accepted (withLine (P .lines) s) ss) e in
+    let step : byMachine P (exact s) ≡ outcome (number 0) (drawn P s) = cond-true _ _ _ (a .0) in
+    let rest = splits-drawn ss (drawn P s) (a .1) in (
       rest .0,
       accepted-more (exact s) (map exact ss) P (drawn P s) (rest .0) step (rest .1),
-      rw t (ap (λ (l : List Split). s ∷ l) (rest .2)),
+      rw (a .0) (ap (λ (l : List Split). s ∷ l) (rest .2)),
     )
 
 -- The place of a blend's own anchor is where the blend stands in the table,
@@ -113,20 +105,24 @@ own-place (C ∷ done) B bs d own =
     add-one (length done))
     (either (anchored (B .across .m) (B .up .m) C))
 
+-- the same lines with other values
+abbrev pub withValues : Plain → List ℕ → Plain
+withValues P vs = record { lines = P .lines; values = vs }
+
 -- so setting its value puts it there.
 module _ (P : Plain) (valued : Valued P) (done : List Blend) (B : Blend) (bs : List Blend) (is : blends P ≡ done ++ B ∷ bs)
     (us : List ℕ) (w : ℕ) (ws : List ℕ) (full : length us ≡ length done) (v : ℕ) (lt : v < 65536) where
   there : placeOf (blends P) (B .across .m - 1 + 1) (B .up .m - 1 + 1) ≡ length done
   there =
       let m : List·Memᴰ B (blends P) = rw is (Memᴰ·append-right done (List·Memᴰ·head refl)) in
-      let p = proper-facts (P .w) (P .h) B (blends-proper P valued B m) in
+      let p = proper-facts (P .lines .w) (P .lines .h) B (blends-proper P valued B m) in
       let a = p .across in
       let b = p .up in
       let x : B .across .m - 1 + 1 ≡ B .across .m = omega arith in
       let y : B .up .m - 1 + 1 ≡ B .up .m = omega arith in
-      let d : Distinct (done ++ B ∷ bs) = rw is at (live-distinct (P .w) (P .h) (valued .wide .0) (valued .tall .0) (meshOf P)) in
+      let d : Distinct (done ++ B ∷ bs) = rw is at (live-distinct (P .lines .w) (P .lines .h) (valued .wide .0) (valued .tall .0) (meshOf (P .lines))) in
       let own : OwnAnchors (done ++ B ∷ bs) =
-      rw is at (own-anchors (P .w) (P .h) (valued .wide .0) (valued .tall .0) (meshOf P) (valued .is-sound)) in
+      rw is at (own-anchors (P .lines .w) (P .lines .h) (valued .wide .0) (valued .tall .0) (meshOf (P .lines)) (valued .is-sound)) in
       rw (x, y, is) (own-place done B bs d own)
 
   within : length done < length (blends P)

@@ -11,7 +11,8 @@ use Rattle.mesh.specs.Sound.{overSquare}
 use Rattle.axis.proofs.Tests.{either, only-mem, mem-only}
 use Rattle.mesh.proofs.Weights.{weight-den}
 use Rattle.mesh.proofs.SoundMaps.{live-distinct, weights-add-up, four-positive}
-use Rattle.maps.specs.Plain.{Plain, meshOf, blends}
+use Rattle.maps.specs.Plain.{Plain, blends}
+use Rattle.mesh.specs.Lines.{meshOf}
 use Rattle.maps.specs.Demand.{weightThere, Inside, FourIn, AddUp}
 use Rattle.maps.proofs.Readings.{Valued, blends-proper}
 
@@ -23,17 +24,17 @@ only-apart test (B ∷ bs) d =
     (either (test B))
 
 module _ (P : Plain) (valued : Valued P) where
-  pub valued-four : (x y : ℕ) → x < P .w → y < P .h → FourIn (blends P) x y
+  pub valued-four : (x y : ℕ) → x < P .lines .w → y < P .lines .h → FourIn (blends P) x y
   valued-four x y hx hy =
-      let w = P .w in
-      let h = P .h in
+      let w = P .lines .w in
+      let h = P .lines .h in
       let over = overSquare (x + 1) (y + 1) in
-      let f = four-positive w h (valued .wide .0) (valued .tall .0) (meshOf P) (valued .is-sound) x y hx hy in
+      let f = four-positive w h (valued .wide .0) (valued .tall .0) (meshOf (P .lines)) (valued .is-sound) x y hx hy in
       let some : (B : Blend) → List·Memᴰ B (only over (blends P)) → List·Memᴰ B (blends P) × (over B ≡ true) = only-mem over (blends P) in
       record {
         four = only over (blends P);
         count = f .0;
-        apart = only-apart over (blends P) (live-distinct w h (valued .wide .0) (valued .tall .0) (meshOf P));
+        apart = only-apart over (blends P) (live-distinct w h (valued .wide .0) (valued .tall .0) (meshOf (P .lines)));
         of-these = λ B m. some B m .0;
         positive = λ B m p q d i.
             (f .1 B (some B m .0) p q d (i .left) (i .right) (i .bottom) (i .top) .0 (some B m .1), den B (some B m .0) p q d i);
@@ -45,7 +46,7 @@ module _ (P : Plain) (valued : Valued P) where
       none n not = omega arith
 
       den : (B : Blend) → List·Memᴰ B (blends P) → (p q d : ℕ) → Inside x y p q d → 0 < weightThere B p q d .den
-      den B m p q d i = weight-den (P .w) (P .h) B (blends-proper P valued B m) (p + d) (q + d) d (omega arith)
+      den B m p q d i = weight-den (P .lines .w) (P .lines .h) B (blends-proper P valued B m) (p + d) (q + d) d (omega arith)
 
-  pub valued-sum : AddUp (P .w) (P .h) (blends P)
-  valued-sum = weights-add-up (P .w) (P .h) (valued .wide .0) (valued .tall .0) (meshOf P) (valued .is-sound)
+  pub valued-sum : AddUp (P .lines .w) (P .lines .h) (blends P)
+  valued-sum = weights-add-up (P .lines .w) (P .lines .h) (valued .wide .0) (valued .tall .0) (meshOf (P .lines)) (valued .is-sound)

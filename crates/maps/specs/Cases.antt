@@ -6,13 +6,14 @@ use lib.ListN.{length, replicate}
 use Rattle.mesh.specs.declared.Split.{Split}
 use Rattle.axis.specs.Triple as Triple
 use Rattle.axis.specs.Nearest as Nearest
+use Rattle.mesh.specs.Lines.{Layout, layout}
 use Rattle.mesh.specs.Lines as Lines
 use Rattle.mesh.specs.Blends as Blends
 use Rattle.mesh.specs.Sound as Sound
 use Rattle.maps.specs.declared.Changed.{Changed}
 use Rattle.maps.specs.Plain.{Plain, freshPlain, blends}
-use Rattle.maps.specs.Values.{readingAt, carried}
-use Rattle.maps.specs.Splits.{drawn, given, exactNumber, containing, candidate, chosen}
+use Rattle.maps.specs.Values.{readingAt, carried, drawn}
+use Rattle.mesh.specs.Splits.{given, exactNumber, containing, candidate, chosen}
 use Rattle.maps.specs.Record.{recordOf}
 use Rattle.maps.specs.Calls.{freshMap, setPlain}
 use Rattle.maps.specs.Histories.{Call, set, exact, lengthened, reads, Answer, number, placed, read, weighed, told, byMachine}
@@ -114,8 +115,8 @@ unfolding AllRight on starred beside Right row upright level numberOf shownBy se
 all-beside = ((refl, refl, (refl, refl, (refl, refl, (refl, refl, tt)))), ((refl, refl, (refl, refl, (refl, refl, (refl, refl, (refl, refl, tt))))), ((refl, refl, (refl, refl, (refl, refl, (refl, refl, (refl, refl, (refl, refl, tt)))))), ((refl, refl, (refl, refl, tt)), tt))))
 
 -- A map of 60 splits takes no more: 4 comes after 3 and before 5; with 59 the next check is made.
-crowded : ℕ → Plain
-crowded n = record { w = 8; h = 8; splits = replicate n (upright 4 0 8); values = [] }
+crowded : ℕ → Layout
+crowded n = layout 8 8 (replicate n (upright 4 0 8))
 
 sixty-splits : (given (crowded 60) (upright 8 0 8) ≡ 3) × (given (crowded 60) (upright 4 0 8) ≡ 4) × (given (crowded 59) (upright 4 0 8) ≡ 5)
 unfolding crowded upright given Lines.inRange Lines.draws Lines.freshMesh Lines.mesh Lines.shares

@@ -15,7 +15,7 @@ use Rattle.mesh.specs.Sound.{none}
 use Rattle.mesh.specs.Weight.{weight}
 use Rattle.maps.specs.declared.Map.{Map}
 use Rattle.maps.specs.Plain.{Plain, freshPlain}
-use Rattle.maps.specs.Splits.{given, exactNumber, chosen}
+use Rattle.mesh.specs.Splits.{given, exactNumber, chosen}
 use Rattle.maps.specs.Record.{recordOf, plain}
 use Rattle.maps.specs.Calls.{changed, freshMap, shape, tablePlace, reading}
 use Rattle.maps.specs.Histories.{Call, set, exact, lengthened, place, reads, weighs, sameAs, number, Outcome, outcome, byLibrary, byMachine, outcomes, ending}
@@ -87,8 +87,8 @@ pub data IsSplit : Call → Type 0 where
 
 -- "The lines of a history are the fresh map's and those of its accepted splits, as drawn or as lengthened, run out and joined."
 abbrev pub lineOf : Plain → Call → List Split
-lineOf P (exact s) = cond (eqb (exactNumber P s) 0) (s ∷ []) []
-lineOf P (lengthened s) = cond (eqb (given P s) 0) (chosen P s) []
+lineOf P (exact s) = cond (eqb (exactNumber (P .lines) s) 0) (s ∷ []) []
+lineOf P (lengthened s) = cond (eqb (given (P .lines) s) 0) (chosen (P .lines) s) []
 lineOf P (set i j v) = []
 lineOf P (place i) = []
 lineOf P (reads u v) = []
@@ -100,7 +100,7 @@ linesOf P [] = []
 linesOf P (c ∷ cs) = lineOf P c ++ linesOf (byMachine P c .next) cs
 
 abbrev pub meshBy : Plain → List Call → Mesh
-meshBy P cs = mesh (P .w) (P .h) (P .splits ++ linesOf P cs)
+meshBy P cs = mesh (P .lines .w) (P .lines .h) (P .lines .splits ++ linesOf P cs)
 
 -- The demand on a list of calls, of a map that holds P at its start.
 pub record DemandFrom (P : Plain) (cs : List Call) : Type 0 where
@@ -113,17 +113,17 @@ pub record DemandFrom (P : Plain) (cs : List Call) : Type 0 where
   pub are-tabled : Tabled (leftBy P cs) blends
   -- 2. After the list, for each unit square of the domain exactly four of the table's blends are positive throughout its inside, the same four
   -- at all of it, every other one nowhere in it, fractional points included.
-  pub four-in : (x y : ℕ) → x < P .w → y < P .h → FourIn blends x y
+  pub four-in : (x y : ℕ) → x < P .lines .w → y < P .lines .h → FourIn blends x y
   -- 3. At every point of the domain with fractional coordinates, edges included, the blends that the table calls give add up to exactly one.
-  pub add-up : AddUp (P .w) (P .h) blends
+  pub add-up : AddUp (P .lines .w) (P .lines .h) blends
   -- 4. Every accepted split in the list, wherever it stands, leaves the reading call's answer at every old anchor alone, raises none at a whole
   -- point and lowers none by more than one: the map just before it against the map just after.
   pub gentle : (earlier : List Call) (c : Call) (later : List Call) → cs ≡ earlier ++ c ∷ later → IsSplit c →
       let m = leftBy P earlier in byLibrary m c .answer ≡ number 0 → Gentle m (byLibrary m c .next)
   -- 5. Any two lists on equal sides whose lines cover the same points end with the same blends: "Two histories' lines cover the same points when
   -- every unit step along a line of either lies on a line of the other." The record left after a list holds its lines.
-  pub are-lines : plain (leftBy P cs) .splits ≡ P .splits ++ linesOf P cs
-  pub same-blends : (Q : Plain) → Start Q → Q .w ≡ P .w → Q .h ≡ P .h → (ds : List Call) →
+  pub are-lines : plain (leftBy P cs) .lines .splits ≡ P .lines .splits ++ linesOf P cs
+  pub same-blends : (Q : Plain) → Start Q → Q .lines .w ≡ P .lines .w → Q .lines .h ≡ P .lines .h → (ds : List Call) →
       Coarser (meshBy P cs) (meshBy Q ds) → Coarser (meshBy Q ds) (meshBy P cs) →
       (bs : List Blend) → Tabled (leftBy Q ds) bs → bs ≡ blends
 

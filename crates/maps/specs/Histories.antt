@@ -1,23 +1,20 @@
 -- Document 01, "Histories": lists of calls on one map, and the plain machine.
 use Prim.Native.Nat.{ℕ, _+_, _%_}
-use mathlib.Core.Bool.{Bool, true, false, cond, not}
-use mathlib.Core.List.{List, [], _∷_, map}
+use mathlib.Core.Bool.{true, false, cond}
+use mathlib.Core.List.{List, [], _∷_}
 use lib.Dec.{ltb, eqb}
-use lib.ListN.{length, getD}
+use lib.ListN.{length}
 use Rattle.mesh.specs.declared.Split.{Split}
-use Rattle.mesh.specs.declared.Blend.{Blend}
-use Rattle.mesh.specs.Sound.{none}
+use Rattle.mesh.specs.Splits.{given, exactNumber, chosen}
 use Rattle.maps.specs.declared.Map.{Map}
-use Rattle.maps.specs.declared.Changed.{Changed}
 use Rattle.maps.specs.declared.Placed.{Placed}
 use Rattle.maps.specs.declared.Reading.{Reading}
 use Rattle.maps.specs.declared.Weights.{Weights}
 use Rattle.maps.specs.declared.Same.{Same}
-use Rattle.maps.specs.Plain.{Plain, freshPlain, blends}
-use Rattle.maps.specs.Values.{readingAt, inDomain, over, placeOf}
-use Rattle.maps.specs.Splits.{given, exactNumber, chosen, drawn}
+use Rattle.maps.specs.Plain.{Plain, blends}
+use Rattle.maps.specs.Values.{placeOf, drawn}
 use Rattle.maps.specs.Record.{plain, good}
-use Rattle.maps.specs.Calls.{freshMap, setPlain, setValue, shape, noShape, tablePlace, reading, weightOver, noWeights, weights, exactSplit, lengthenedSplit}
+use Rattle.maps.specs.Calls.{setPlain, setValue, placeOn, tablePlace, readingOn, reading, weightsOn, weights, exactSplit, lengthenedSplit}
 use Rattle.maps.specs.Sameness.{samePlain, sameness}
 
 -- A call on a map. A value is a 16-bit number: what is left of the given one by 65,536.
@@ -64,18 +61,12 @@ byMachine P (set i j v) =
     cond (ltb (placeOf (blends P) (i + 1) (j + 1)) (length (blends P))) (outcome (number 0) (setPlain P i j (v % 65536)))
     (outcome (number 9) P)
 byMachine P (exact s) =
-    cond (eqb (exactNumber P s) 0) (outcome (number 0) (drawn P s)) (outcome (number (exactNumber P s)) P)
-byMachine P (lengthened s) = cond (eqb (given P s) 0) (firstDrawn P (chosen P s)) (outcome (number (given P s)) P)
-byMachine P (place i) =
-    cond (ltb i (length (blends P)))
-    (outcome (placed (record { number = 0; blend = shape (getD (blends P) i none); value = getD (P .values) i 0 })) P)
-    (outcome (placed (record { number = 9; blend = noShape; value = 0 })) P)
-byMachine P (reads u v) =
-    cond (inDomain P u v) (outcome (read (record { number = 0; litres = readingAt (blends P) (P .values) u v })) P)
-    (outcome (read (record { number = 10; litres = 0 })) P)
-byMachine P (weighs u v) =
-    cond (inDomain P u v) (outcome (weighed (record { number = 0; entries = map (weightOver (P .w) (P .h) u v) (over P u v) })) P)
-    (outcome (weighed (noWeights 10)) P)
+    let n = exactNumber (P .lines) s in cond (eqb n 0) (outcome (number 0) (drawn P s)) (outcome (number n) P)
+byMachine P (lengthened s) =
+    let n = given (P .lines) s in cond (eqb n 0) (firstDrawn P (chosen (P .lines) s)) (outcome (number n) P)
+byMachine P (place i) = outcome (placed (placeOn P i)) P
+byMachine P (reads u v) = outcome (read (readingOn P u v)) P
+byMachine P (weighs u v) = outcome (weighed (weightsOn P u v)) P
 byMachine P (sameAs other) =
     cond (good other) (outcome (told (record { number = 0; yes = samePlain P (plain other) })) P)
     (outcome (told (record { number = 2; yes = false })) P)

@@ -9,22 +9,17 @@ use Rattle.mesh.specs.declared.Split.{Split}
 use Rattle.mesh.specs.declared.Lines.{Lines}
 use Rattle.mesh.specs.declared.Table.{Table}
 use Rattle.mesh.specs.declared.Blend.{Blend}
-use Rattle.mesh.specs.Lines.{splitsOf, allowed}
+use Rattle.mesh.specs.Lines.{layoutOf, allowed}
 use Rattle.mesh.specs.Sound.{sound, table}
 use Rattle.mesh.specs.Bytes.{place}
-use Rattle.maps.specs.declared.Map.{Map}
 use Rattle.maps.specs.declared.splits.Step.{Step}
-use Rattle.maps.specs.declared.splits.Found.{Found}
 use Rattle.maps.specs.Plain.{Plain, blends}
-use Rattle.maps.specs.Values.{carried}
-use Rattle.maps.specs.Splits.{given, exactNumber, withLine, soundWith, chosen}
-
--- the lines of a record, as a struct; and what a struct of lines holds, without values
-abbrev pub linesOf : Map → Lines
-linesOf m = record { w = m .w; h = m .h; count = m .count; splits = m .splits }
-
-abbrev pub held : Lines → Plain
-held L = record { w = L .w; h = L .h; splits = splitsOf L; values = [] }
+use Rattle.maps.specs.declared.Map.{Map}
+use Rattle.maps.specs.declared.Changed.{Changed}
+use Rattle.maps.specs.Values.{carried, drawn}
+use Rattle.maps.specs.Record.{plain, recordOf}
+use Rattle.maps.specs.Calls.{changed}
+use Rattle.mesh.specs.Splits.{liveOf, withLine, soundWith, given, exactNumber, chosen}
 
 -- the lines with one split more
 abbrev pub withSplit : Lines → Split → Lines
@@ -34,25 +29,32 @@ withSplit L s = record { w = L .w; h = L .h; count = L .count + 1; splits = set 
 pub record InHand (L : Lines) (t : Table) : Type 0 where
   pub allowed? : allowed L ≡ true
   pub places : length (L .splits) ≡ 60
-  pub is-sound : sound (L .w) (L .h) (blends (held L)) ≡ true
-  pub is-table : t ≡ table (blends (held L))
+  pub is-sound : sound (L .w) (L .h) (liveOf (layoutOf L)) ≡ true
+  pub is-table : t ≡ table (liveOf (layoutOf L))
 
--- one split more, in range: 8 and the old table where it leaves no sound map
+-- a split refused with a number, on the table as it was; and a line drawn
+abbrev pub refusedStep : Table → ℕ → Split → Step
+refusedStep t n s = record { number = n; split = s; table = t }
+
+abbrev pub drawnStep : Lines → Split → Step
+drawnStep L s = record { number = 0; split = s; table = table (liveOf (withLine (layoutOf L) s)) }
+
+-- one split more, in range: 8 where it leaves no sound map
 unfoldable pub judged : Lines → Table → Split → Step
-judged L t s =
-    let next = table (blends (withLine (held L) s)) in
-    cond (soundWith (held L) s) (record { number = 0; table = next }) (record { number = 8; table = t })
+judged L t s = cond (soundWith (layoutOf L) s) (drawnStep L s) (refusedStep t 8 s)
 
--- one exact split: its number, and the table after it, or the old one on a refusal
-unfoldable pub stepped : Lines → Table → Split → Step
-stepped L t s =
-    let n = exactNumber (held L) s in
-    record { number = n; table = cond (eqb n 0) (table (blends (withLine (held L) s))) t }
+-- an exact split
+unfoldable pub exactStep : Lines → Table → Split → Step
+exactStep L t s = let n = exactNumber (layoutOf L) s in cond (eqb n 0) (drawnStep L s) (refusedStep t n s)
 
--- the line that a lengthened split takes, and the table after it
-unfoldable pub found : Lines → Table → Split → List Split → Found
-found L t s [] = record { some = false; split = s; table = t }
-found L t s (c ∷ cs) = record { some = true; split = c; table = table (blends (withLine (held L) c)) }
+-- a lengthened split, by the line that it takes
+unfoldable pub found : Lines → Table → Split → List Split → Step
+found L t s [] = refusedStep t 8 s
+found L t s (c ∷ cs) = drawnStep L c
+
+unfoldable pub lengthenedStep : Lines → Table → Split → Step
+lengthenedStep L t s =
+    let n = given (layoutOf L) s in cond (eqb n 0) (found L t s (chosen (layoutOf L) s)) (refusedStep t n s)
 
 -- the values after a split, in an array
 unfoldable pub carriedArray : List Blend → List ℕ → List Blend → List ℕ
@@ -66,10 +68,19 @@ anchorIndex index i (B ∷ bs) = anchorIndex (set index (place B) (i + 1)) (i + 
 -- a table of the live blends of some sound map of these sides, and an array that begins with their values
 pub record InTable (w h : ℕ) (t : Table) (values : List ℕ) : Type 0 where
   pub of : Plain
-  pub across : of .w ≡ w
-  pub up : of .h ≡ h
+  pub across : of .lines .w ≡ w
+  pub up : of .lines .h ≡ h
   pub sides : (1 ≤ w) × (w ≤ 128) × (1 ≤ h) × (h ≤ 128)
   pub is-sound : sound w h (blends of) ≡ true
   pub is-table : t ≡ table (blends of)
   pub is-short : length (blends of) ≤ 1024
   pub are-values : of .values ≡ take (length (blends of)) values
+
+-- a step from an opened record: a line that is drawn is one that an exact split may draw, and the table is that of the map with it
+abbrev pub Drawable : Map → Step → Type 0
+Drawable m r =
+    r .number ≡ 0 → (exactNumber (plain m .lines) (r .split) ≡ 0) × (r .table ≡ table (blends (drawn (plain m) (r .split))))
+
+-- the map with the line drawn, or the step's refusal
+abbrev pub drawnBy : Map → Step → Changed
+drawnBy m r = cond (eqb (r .number) 0) (changed 0 (recordOf (drawn (plain m) (r .split)))) (changed (r .number) m)

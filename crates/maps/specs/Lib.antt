@@ -1,8 +1,8 @@
 pub mod Plain
 pub mod Values
-pub mod Splits
 pub mod Record
 pub mod Calls
+pub mod Opened
 pub mod Sameness
 pub mod Histories
 pub mod Demand

@@ -1,25 +1,18 @@
--- What the record of a map holds, as plain lists; its blends are always cut anew from the first four.
+-- What the record of a map holds: its lines, and its values in table order. Its blends are always cut anew from the first four.
 use Prim.Native.Nat.{ℕ}
 use mathlib.Core.List.{List, []}
-use lib.ListN.{length, replicate}
-use Rattle.mesh.specs.declared.Split.{Split}
+use lib.ListN.{replicate}
 use Rattle.mesh.specs.declared.Blend.{Blend}
-use Rattle.mesh.specs.Lines.{Mesh, mesh}
-use Rattle.mesh.specs.Blends.{live}
+use Rattle.mesh.specs.Lines.{Layout, layout}
+use Rattle.mesh.specs.Splits.{liveOf}
 
--- sides, splits in order, and values in table order
 pub record Plain : Type 0 where
-  pub w : ℕ
-  pub h : ℕ
-  pub splits : List Split
+  pub lines : Layout
   pub values : List ℕ
 
-abbrev pub meshOf : Plain → Mesh
-meshOf P = mesh (P .w) (P .h) (P .splits)
-
 abbrev pub blends : Plain → List Blend
-blends P = live (P .w) (P .h) (meshOf P)
+blends P = liveOf (P .lines)
 
 -- document 01, "Values, readings, splits": "in a fresh map 0"
 unfoldable pub freshPlain : ℕ → ℕ → Plain
-freshPlain w h = record { w = w; h = h; splits = []; values = replicate 4 0 }
+freshPlain w h = record { lines = layout w h []; values = replicate 4 0 }

@@ -5,12 +5,14 @@ use mathlib.Core.List.{List, [], _∷_, map}
 use lib.Dec.{leb, ltb, eqb}
 use lib.ListN.{length, getD}
 use Rattle.axis.specs.declared.Triple.{Triple}
+use Rattle.mesh.specs.declared.Split.{Split}
 use Rattle.mesh.specs.declared.Blend.{Blend}
 use Rattle.axis.specs.Range.{only}
 use Rattle.axis.specs.Fraction.{Fraction}
 use Rattle.axis.specs.Gap.{corner, gap, share}
 use Rattle.mesh.specs.Blends.{anchored}
 use Rattle.mesh.specs.Sound.{overSquare}
+use Rattle.mesh.specs.Splits.{withLine, liveOf}
 use Rattle.mesh.specs.Weight.{Term, value}
 use Rattle.maps.specs.Plain.{Plain, blends}
 
@@ -30,7 +32,7 @@ readingAt bs vs u v = rounded (value (paired bs vs) (u + 1) (v + 1) 1)
 
 -- "A point lies outside the domain."
 abbrev pub inDomain : Plain → ℕ → ℕ → Bool
-inDomain P u v = leb u (P .w) && leb v (P .h)
+inDomain P u v = leb u (P .lines .w) && leb v (P .lines .h)
 
 -- "each with its weight as numerator and denominator, the denominator being the product of the two gaps, across and up, in which that square lies"
 unfoldable pub weightAt : ℕ → ℕ → ℕ → ℕ → Blend → Fraction
@@ -39,7 +41,7 @@ weightAt x y u v B =
 
 -- "the blends over the unit square whose low corner is the point", in table order
 abbrev pub over : Plain → ℕ → ℕ → List Blend
-over P u v = only (overSquare (corner (P .w) u + 1) (corner (P .h) v + 1)) (blends P)
+over P u v = only (overSquare (corner (P .lines .w) u + 1) (corner (P .lines .h) v + 1)) (blends P)
 
 -- the value at an anchor: its place in the table, counted from 0, or the table's length where no blend has the anchor
 abbrev pub placeOf : List Blend → ℕ → ℕ → ℕ
@@ -52,3 +54,9 @@ carried bs vs B =
     let new = readingAt bs vs (B .across .m - 1) (B .up .m - 1) in
     let i = placeOf bs (B .across .m) (B .up .m) in
     cond (ltb i (length bs)) (getD vs i 0) new
+
+-- the map with a split drawn
+unfoldable pub drawn : Plain → Split → Plain
+drawn P s =
+    let lines = withLine (P .lines) s in
+    record { lines = lines; values = map (carried (blends P) (P .values)) (liveOf lines) }

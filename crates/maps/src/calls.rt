@@ -1,21 +1,20 @@
-// The calls that ask of a map. Each opens the record first, once, or is handed the table that it gave.
+// The calls on a map. Each opens the record first, once; a refusal hands back the map as it came.
+use crate::Changed;
 use crate::Map;
 use crate::Placed;
 use crate::Reading;
+use crate::Same;
 use crate::Shape;
 use crate::Weight;
 use crate::Weights;
-use crate::record::open;
-use crate::values::count_over;
-use crate::values::reading_of;
-use crate::values::shape_of;
-use crate::values::weights_of;
-use mesh::Table;
-use mesh::ranges::within_sides;
+use crate::opened::open;
+use crate::opened::without_table;
+use mesh::Split;
 ghost use mathlib.Core.Path.{_≡_};
 ghost use mathlib.Core.Bool.{_&&_};
 ghost use lib.Dec.{leb};
-ghost use Rattle.maps.specs.Calls.{noShape, noWeights, tablePlace, reading, weights, fitting, placeIn, readingIn, weightsIn};
+ghost use Rattle.maps.specs.Calls.{noShape, noPlace, noWeights, setValue, tablePlace, reading, weights, exactSplit, lengthenedSplit};
+ghost use Rattle.maps.specs.Sameness.{sameness};
 
 fn no_shape() -> Shape
     ensures { λ r. ⌜ r ≡ noShape ⌝ }
@@ -30,7 +29,7 @@ fn no_shape() -> Shape
     }
 }
 
-fn no_weights(number: usize) -> Weights
+pub(crate) fn no_weights(number: usize) -> Weights
     ensures { λ r. ⌜ r ≡ noWeights number ⌝ }
 {
     let none = Weight {
@@ -45,7 +44,7 @@ fn no_weights(number: usize) -> Weights
 }
 
 // Whether the point (u, v) lies in the domain of these sides.
-fn in_domain(w: usize, h: usize, u: usize, v: usize) -> bool
+pub(crate) fn in_domain(w: usize, h: usize, u: usize, v: usize) -> bool
     ensures { λ r. ⌜ r ≡ (leb u w && leb v h) ⌝ }
 {
     if w < u {
@@ -54,15 +53,8 @@ fn in_domain(w: usize, h: usize, u: usize, v: usize) -> bool
     v <= h
 }
 
-// Whether a table may be that of a map with the sides of this one.
-fn fits_map(map: Map, table: Table) -> bool
-    ensures { λ r. ⌜ r ≡ fitting map table ⌝ }
-{
-    within_sides(table, map.w, map.h)
-}
-
-fn no_place(number: usize) -> Placed
-    ensures { λ r. ⌜ r ≡ record { number = number; blend = noShape; value = 0 } ⌝ }
+pub(crate) fn no_place(number: usize) -> Placed
+    ensures { λ r. ⌜ r ≡ noPlace number ⌝ }
 {
     Placed {
         number: number,
@@ -77,10 +69,10 @@ impl Map {
         ensures { λ r. ⌜ r ≡ tablePlace self i ⌝ }
     {
         let opened = open(self);
-        if !opened.good {
+        if opened.number != 0 {
             return no_place(2);
         }
-        self.place_in(opened.table, i)
+        opened.place(i)
     }
 
     // The reading at a whole point: refused with 2 or 10.
@@ -88,13 +80,13 @@ impl Map {
         ensures { λ r. ⌜ r ≡ reading self u v ⌝ }
     {
         let opened = open(self);
-        if !opened.good {
+        if opened.number != 0 {
             return Reading {
                 number: 2,
                 litres: 0,
             };
         }
-        self.reading_in(opened.table, u, v)
+        opened.reading(u, v)
     }
 
     // The weights at a whole point: refused with 2 or 10.
@@ -102,70 +94,61 @@ impl Map {
         ensures { λ r. ⌜ r ≡ weights self u v ⌝ }
     {
         let opened = open(self);
-        if !opened.good {
+        if opened.number != 0 {
             return no_weights(2);
         }
-        self.weights_in(opened.table, u, v)
+        opened.weights(u, v)
     }
 
-    // `place`, with the map's table in hand.
-    pub fn place_in(self, table: Table, i: usize) -> Placed
-        ensures { λ r. ⌜ r ≡ placeIn self table i ⌝ }
+    // Sets the value at the anchor (m, n): refused with 2 or 9.
+    pub fn set(self, m: usize, n: usize, value: u16) -> Changed
+        ensures { λ r. ⌜ r ≡ setValue self m n value ⌝ }
     {
-        if !fits_map(self, table) {
-            return no_place(2);
+        let opened = open(self);
+        if opened.number != 0 {
+            return without_table(opened);
         }
-        if table.count <= i {
-            return no_place(9);
-        }
-        let x = table.blends[i];
-        Placed {
-            number: 0,
-            blend: shape_of(x),
-            value: self.values[i] as usize,
-        }
+        without_table(opened.set(m, n, value))
     }
 
-    // `reading`, with the map's table in hand.
-    pub fn reading_in(self, table: Table, u: usize, v: usize) -> Reading
-        ensures { λ r. ⌜ r ≡ readingIn self table u v ⌝ }
+    // Draws a line as given: refused with 2 to 8.
+    pub fn exact_split(self, s: Split) -> Changed
+        ensures { λ r. ⌜ r ≡ exactSplit self s ⌝ }
     {
-        let refused = Reading {
+        let opened = open(self);
+        if opened.number != 0 {
+            return without_table(opened);
+        }
+        without_table(opened.exact_split(s))
+    }
+
+    // Draws the shortest sound line that contains the given one: refused with 2 to 8.
+    pub fn lengthened_split(self, s: Split) -> Changed
+        ensures { λ r. ⌜ r ≡ lengthenedSplit self s ⌝ }
+    {
+        let opened = open(self);
+        if opened.number != 0 {
+            return without_table(opened);
+        }
+        without_table(opened.lengthened_split(s))
+    }
+
+    // Whether two maps are the same; 2 where either record is not good, and then "no".
+    pub fn same(self, other: Map) -> Same
+        ensures { λ r. ⌜ r ≡ sameness self other ⌝ }
+    {
+        let refused = Same {
             number: 2,
-            litres: 0,
+            yes: false,
         };
-        if !fits_map(self, table) {
+        let mine = open(self);
+        if mine.number != 0 {
             return refused;
         }
-        if !in_domain(self.w, self.h, u, v) {
-            return Reading {
-                number: 10,
-                litres: 0,
-            };
-        }
-        if count_over(table, self.w, self.h, u, v) != 4 {
+        let theirs = open(other);
+        if theirs.number != 0 {
             return refused;
         }
-        let values = self.values;
-        Reading {
-            number: 0,
-            litres: reading_of(table, values, self.w, self.h, u, v),
-        }
-    }
-
-    // `weights`, with the map's table in hand.
-    pub fn weights_in(self, table: Table, u: usize, v: usize) -> Weights
-        ensures { λ r. ⌜ r ≡ weightsIn self table u v ⌝ }
-    {
-        if !fits_map(self, table) {
-            return no_weights(2);
-        }
-        if !in_domain(self.w, self.h, u, v) {
-            return no_weights(10);
-        }
-        if count_over(table, self.w, self.h, u, v) != 4 {
-            return no_weights(2);
-        }
-        weights_of(table, self.w, self.h, u, v)
+        mine.same(theirs)
     }
 }

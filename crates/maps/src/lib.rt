@@ -1,26 +1,22 @@
 // Maps: a pump's lines and values, and the calls on them. The second of the three layers.
 mod calls;
 mod carry;
-mod changes;
-pub mod record;
+pub mod opened;
 mod sameness;
 mod splits;
 mod values;
 
+use mesh::Lines;
 use mesh::Split;
-use mesh::Table;
 ghost use mathlib.Core.Path.{_≡_};
 ghost use Rattle.mesh.specs.Lines.{allowedSide};
 ghost use Rattle.maps.specs.Plain.{freshPlain};
 ghost use Rattle.maps.specs.Record.{recordOf};
 ghost use Rattle.maps.specs.Calls.{freshMap};
 
-// The record of a map: its sides, its splits in order and its values in table order; all unused places are zero.
+// The record of a map: its lines, which are its sides and its splits in order, and its values in table order; all unused places are zero.
 pub struct Map {
-    pub w: usize,
-    pub h: usize,
-    pub count: usize,
-    pub splits: [Split; Map::MOST_SPLITS],
+    pub lines: Lines,
     pub values: [u16; 1024],
 }
 
@@ -67,10 +63,12 @@ fn blank(w: usize, h: usize) -> Map
         to: 0,
     };
     Map {
-        w: w,
-        h: h,
-        count: 0,
-        splits: [none; 60],
+        lines: Lines {
+            w: w,
+            h: h,
+            count: 0,
+            splits: [none; 60],
+        },
         values: [0u16; 1024],
     }
 }
@@ -89,13 +87,6 @@ pub struct Shape {
 pub struct Changed {
     pub number: usize,
     pub map: Map,
-}
-
-// A number, the map that the call hands back, and the table of its live blends; an empty one where its record is not good.
-pub struct WithTable {
-    pub number: usize,
-    pub map: Map,
-    pub table: Table,
 }
 
 // A number, and the blend and value at a table place.

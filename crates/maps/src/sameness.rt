@@ -1,10 +1,8 @@
 // Are two maps the same: sides, live blends and values.
 use crate::Map;
-use crate::Same;
-use crate::record::open;
+use axis::supports::same_triple;
 use mesh::Blend;
 use mesh::Table;
-use axis::supports::same_triple;
 ghost use Prim.Native.Nat.{_≤_};
 ghost use mathlib.Core.Path.{_≡_};
 ghost use lib.Dec.{eqb};
@@ -13,64 +11,9 @@ ghost use Rattle.axis.specs.Triple.{sameTriple};
 ghost use Rattle.mesh.specs.Blends.{same};
 ghost use Rattle.mesh.specs.Sound.{blendsOf};
 ghost use Rattle.axis.specs.Range.{agree};
-ghost use Rattle.maps.specs.Sameness.{sameness, sameIn};
-
-impl Map {
-    // Whether two maps are the same; 2 where either record is not good, and then "no".
-    pub fn same(self, other: Map) -> Same
-        ensures { λ r. ⌜ r ≡ sameness self other ⌝ }
-    {
-        let refused = Same {
-            number: 2,
-            yes: false,
-        };
-        let mine = open(self);
-        if !mine.good {
-            return refused;
-        }
-        let theirs = open(other);
-        if !theirs.good {
-            return refused;
-        }
-        self.same_in(mine.table, other, theirs.table)
-    }
-
-    // `same`, with the tables of both maps in hand.
-    pub fn same_in(self, mine: Table, other: Map, theirs: Table) -> Same
-        ensures { λ r. ⌜ r ≡ sameIn self mine other theirs ⌝ }
-    {
-        let refused = Same {
-            number: 2,
-            yes: false,
-        };
-        let differ = Same {
-            number: 0,
-            yes: false,
-        };
-        if 1024 < mine.count {
-            return refused;
-        }
-        if 1024 < theirs.count {
-            return refused;
-        }
-        if self.w != other.w {
-            return differ;
-        }
-        if self.h != other.h {
-            return differ;
-        }
-        let count = mine.count;
-        if !same_tables(mine, theirs) {
-            return differ;
-        }
-        let values = self.values;
-        let others = other.values;
-        Same {
-            number: 0,
-            yes: same_values(values, others, count),
-        }
-    }
-}
+ghost use Rattle.maps.specs.Record.{plain};
+ghost use Rattle.maps.specs.Sameness.{samePlain};
+ghost use Rattle.maps.specs.Opened.{IsTable};
 
 // Whether two blends are the same.
 fn same_blend(a: Blend, b: Blend) -> bool
@@ -120,4 +63,24 @@ fn same_values(a: [u16; 1024], b: [u16; 1024], count: usize) -> bool
         i += 1;
     }
     true
+}
+
+// Whether two maps, whose tables are in hand, have the same sides, live blends and values.
+pub(crate) fn same_maps(a: Map, mine: Table, b: Map, theirs: Table) -> bool
+    requires { ⌜ IsTable a mine × IsTable b theirs ⌝ }
+    ensures { λ r. ⌜ r ≡ samePlain (plain a) (plain b) ⌝ }
+{
+    if a.lines.w != b.lines.w {
+        return false;
+    }
+    if a.lines.h != b.lines.h {
+        return false;
+    }
+    let count = mine.count;
+    if !same_tables(mine, theirs) {
+        return false;
+    }
+    let values = a.values;
+    let others = b.values;
+    same_values(values, others, count)
 }

@@ -11,19 +11,13 @@ use mesh::points::shares_stretch;
 ghost use mathlib.Core.Path.{_≡_};
 ghost use mathlib.Core.Bool.{true, _&&_, not};
 ghost use Prim.Native.Nat.{_<_};
-ghost use Rattle.mesh.specs.Lines.{allowed, inRange, ended, shares, meshOf};
-ghost use Rattle.maps.specs.Splits.{given, chosen};
-ghost use Rattle.maps.specs.Inner.{held, withSplit, InHand, judged, stepped, found};
+ghost use Rattle.mesh.specs.Lines.{layoutOf, meshOf, allowed, inRange, ended, shares};
+ghost use Rattle.mesh.specs.Splits.{given, chosen};
+ghost use Rattle.maps.specs.Inner.{withSplit, InHand, judged, exactStep, found, lengthenedStep};
 
-// A split's number, and the table of blends after it.
+// A split's number; the line that is drawn, and the table of blends after it. On a refusal the split and the table as they came.
 pub struct Step {
     pub number: usize,
-    pub table: Table,
-}
-
-// Whether a longer line was found, the line, and the table of blends after it.
-pub struct Found {
-    pub some: bool,
     pub split: Split,
     pub table: Table,
 }
@@ -41,9 +35,9 @@ fn with_split(lines: Lines, s: Split) -> Lines
 }
 
 // Refusals 3 to 7, in their order, on the split as given; 0 where none applies.
-pub(crate) fn given_number(lines: Lines, live: Table, s: Split) -> usize
+fn given_number(lines: Lines, live: Table, s: Split) -> usize
     requires { ⌜ InHand lines live ⌝ }
-    ensures { λ r. ⌜ r ≡ given (held lines) s ⌝ }
+    ensures { λ r. ⌜ r ≡ given (layoutOf lines) s ⌝ }
 {
     if !fits_sides(lines.w, lines.h, s) {
         return 3;
@@ -74,12 +68,14 @@ fn sound_step(lines: Lines, live: Table, s: Split) -> Step
         if full(t, lines.w, lines.h) {
             return Step {
                 number: 0,
+                split: s,
                 table: t,
             };
         }
     }
     Step {
         number: 8,
+        split: s,
         table: live,
     }
 }
@@ -87,12 +83,13 @@ fn sound_step(lines: Lines, live: Table, s: Split) -> Step
 // An exact split on lines whose live blends are in hand.
 pub(crate) fn exact_step(lines: Lines, live: Table, s: Split) -> Step
     requires { ⌜ InHand lines live ⌝ }
-    ensures { λ r. ⌜ r ≡ stepped lines live s ⌝ }
+    ensures { λ r. ⌜ r ≡ exactStep lines live s ⌝ }
 {
     let number = given_number(lines, live, s);
     if number != 0 {
         return Step {
             number: number,
+            split: s,
             table: live,
         };
     }
@@ -102,7 +99,7 @@ pub(crate) fn exact_step(lines: Lines, live: Table, s: Split) -> Step
 // Whether a line has both ends on crossing lines and shares no stretch with a line at its position; no where it is out of range.
 fn may_stand(lines: Lines, c: Split) -> bool
     requires { ⌜ allowed lines ≡ true ⌝ }
-    ensures { λ r. ⌜ r ≡ (inRange (lines .w) (lines .h) c && ended (meshOf lines) c && not (shares (meshOf lines) c)) ⌝ }
+    ensures { λ r. ⌜ r ≡ (inRange (lines .w) (lines .h) c && ended (meshOf (layoutOf lines)) c && not (shares (meshOf (layoutOf lines)) c)) ⌝ }
 {
     if !ends_on_lines(lines, c) {
         return false;
@@ -112,16 +109,16 @@ fn may_stand(lines: Lines, c: Split) -> bool
 
 // The line that a lengthened split takes: nested loops over length and start, left with the first sound line.
 // A line that would reach past the side is out of range, and may not stand.
-pub(crate) fn longer_line(lines: Lines, live: Table, s: Split) -> Found
-    requires { ⌜ InHand lines live × (given (held lines) s ≡ 0) ⌝ }
-    ensures { λ r. ⌜ r ≡ found lines live s (chosen (held lines) s) ⌝ }
+fn longer_line(lines: Lines, live: Table, s: Split) -> Step
+    requires { ⌜ InHand lines live × (given (layoutOf lines) s ≡ 0) ⌝ }
+    ensures { λ r. ⌜ r ≡ found lines live s (chosen (layoutOf lines) s) ⌝ }
 {
     let mut run = lines.w;
     if s.direction == 0 {
         run = lines.h;
     }
-    let mut answer = Found {
-        some: false,
+    let mut answer = Step {
+        number: 8,
         split: s,
         table: live,
     };
@@ -141,12 +138,7 @@ pub(crate) fn longer_line(lines: Lines, live: Table, s: Split) -> Found
             if may_stand(lines, c) {
                 let next = sound_step(lines, live, c);
                 if next.number == 0 {
-                    let t = next.table;
-                    answer = Found {
-                        some: true,
-                        split: c,
-                        table: t,
-                    };
+                    answer = next;
                     break 'search;
                 }
             }
@@ -155,4 +147,20 @@ pub(crate) fn longer_line(lines: Lines, live: Table, s: Split) -> Found
         length += 1;
     }
     answer
+}
+
+// A lengthened split on lines whose live blends are in hand.
+pub(crate) fn lengthened_step(lines: Lines, live: Table, s: Split) -> Step
+    requires { ⌜ InHand lines live ⌝ }
+    ensures { λ r. ⌜ r ≡ lengthenedStep lines live s ⌝ }
+{
+    let number = given_number(lines, live, s);
+    if number != 0 {
+        return Step {
+            number: number,
+            split: s,
+            table: live,
+        };
+    }
+    longer_line(lines, live, s)
 }

@@ -129,25 +129,6 @@ fn added(s: Sum, product: usize, den: usize) -> Sum
     }
 }
 
-// How many of the table's blends lie over the unit square at a whole point.
-pub(crate) fn count_over(table: Table, w: usize, h: usize, u: usize, v: usize) -> usize
-    requires { ⌜ (table .count ≤ 1024) × (1 ≤ w) × (w ≤ 128) × (1 ≤ h) × (h ≤ 128) × (u ≤ w) × (v ≤ h) ⌝ }
-    ensures { λ r. ⌜ r ≡ length (only (overSquare (corner w u + 1) (corner h v + 1)) (blendsOf table)) ⌝ }
-{
-    let x = corner_of(w, u) + 1;
-    let y = corner_of(h, v) + 1;
-    let count = table.count;
-    let mut found = 0;
-    let mut i = 0;
-    while i < count {
-        let b = table.blends[i];
-        if is_over(b, x, y) {
-            found += 1;
-        }
-        i += 1;
-    }
-    found
-}
 
 // The reading at the whole point (u, v): the weights of the blends over its unit square times their values, rounded down.
 pub(crate) fn reading_of(

@@ -3,7 +3,7 @@ use borrow.Author.Needs.{needs}
 use native.Mathlib.Omega.{arith}
 use borrow.Author.Tests.{not-true, not-false}
 use mathlib.Core.Path.{refl, sym, ap, _∙_}
-use Rattle.maps.specs.Calls.{withTable}
+use Rattle.maps.specs.Opened.{withTable}
 use Rattle.maps.proofs.Handed.{kept-table}
 use lib.Seq.{length-take-le}
 use Rattle.files.proofs.RoundTrip.{is-refused}

@@ -1,12 +1,12 @@
 -- `maps::blank` meets its contract.
 use mathlib.Core.Path.{refl}
 use Rattle.maps.specs.Plain.{freshPlain}
-use Rattle.maps.specs.Record.{recordOf}
+use Rattle.maps.specs.Record.{linesOf, recordOf}
 use Rattle.maps.proofs.blank.Statement.{statement}
 use Rattle.maps.proofs.blank.Tie as tie
 
 returns : tie.Need-returns
-unfolding recordOf freshPlain
+unfolding recordOf linesOf freshPlain
 returns c = refl
 
 pub blank-spec : {M : Type 1} → statement M

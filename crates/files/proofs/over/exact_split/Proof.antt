@@ -1,8 +1,9 @@
 -- `over::exact_split` meets its contract: the bytes are no file, or the call on their map ends as `replace` says.
 use borrow.Author.Needs.{needs}
 use mathlib.Core.Path.{sym, ap, _∙_}
-use Rattle.maps.specs.declared.WithTable.{WithTable}
-use Rattle.maps.specs.Calls.{withTable, exactSplit}
+use Rattle.maps.specs.declared.opened.Opened.{Opened}
+use Rattle.maps.specs.Opened.{withTable}
+use Rattle.maps.specs.Calls.{exactSplit}
 use Rattle.maps.proofs.Handed.{exact-good}
 use Rattle.files.proofs.Changing.{taken-handed, taken-places, taken-room, handed, Left, change-refused, change-done}
 use Rattle.files.proofs.over.exact_split.Statement.{statement}
@@ -18,7 +19,7 @@ returns : tie.Need-returns
 returns c =
     let read = c .before .before in
     let a = read .before .before .before .before .args in
-    let l = change-refused (λ m. exactSplit m (a .s)) (a .buffer .now) (a .used .now) (read .read-lent .result .number) (ap (λ (c : WithTable). c .number) (read .read-lent .ensures)) (c .if1 .taken) in
+    let l = change-refused (λ m. exactSplit m (a .s)) (a .buffer .now) (a .used .now) (read .read-lent .result .number) (ap (λ (c : Opened). c .number) (read .read-lent .ensures)) (c .if1 .taken) in
     (l .is-number, l .is-bytes, l .is-used)
 
 exact-with-table-requires : tie.Need-exact-with-table-requires
@@ -44,8 +45,8 @@ returns-2 c =
     let else = call .before .before in
     let file = else .before .before .read-lent in
     let a = else .before .before .before .before .before .before .args in
-    let z = sym (ap (λ (r : WithTable). r .number) (file .ensures)) ∙ else .if1 .left in
-    let w = call .exact-with-table .ensures ∙ ap (λ (r : WithTable). withTable (exactSplit (r .map) (a .s))) (file .ensures) in
+    let z = sym (ap (λ (r : Opened). r .number) (file .ensures)) ∙ else .if1 .left in
+    let w = call .exact-with-table .ensures ∙ ap (λ (r : Opened). withTable (exactSplit (r .map) (a .s))) (file .ensures) in
     let l = change-done (λ m. exactSplit m (a .s)) (a .buffer .now) (a .used .now) z (call .exact-with-table .result) w (end .result) (end .ensures .0) _ _ (end .ensures .1) (end .ensures .2) in
     (l .is-number, l .is-bytes, l .is-used)
 

@@ -2,7 +2,7 @@
 use borrow.Author.Needs.{needs}
 use mathlib.Core.Path.{_≡_, ap, _∙_}
 use mathlib.Core.Bool.{cond}
-use Rattle.maps.specs.declared.WithTable.{WithTable}
+use Rattle.maps.specs.declared.opened.Opened.{Opened}
 use Rattle.maps.specs.declared.Same.{Same}
 use Rattle.maps.specs.Sameness.{sameness}
 use Rattle.maps.proofs.Agreeing.{own-same}
@@ -60,8 +60,8 @@ told c =
     let left = first .before .before .read-with-table in
     let a = c .before .before .before .before .before .before .before .before .before .before .before .before .before .args in
     let is = answer .ensures ∙ own-same (taken-map _ (left .ensures) (first .if1 .left)) (taken-map _ (right .ensures) (second .if2 .left)) ∙
-    ap (λ (r : WithTable). sameness (r .map) (right .result .map)) (left .ensures) ∙
-    ap (λ (r : WithTable). sameness (readFile (a .one .now) .map) (r .map)) (right .ensures) in
+    ap (λ (r : Opened). sameness (r .map) (right .result .map)) (left .ensures) ∙
+    ap (λ (r : Opened). sameness (readFile (a .one .now) .map) (r .map)) (right .ensures) in
     same-given (a .one .now) (a .two .now) (rw (left .ensures) at (first .if1 .left)) (rw (right .ensures) at (second .if2 .left)) (answer .result .number) (answer .result .yes)
     (c .if3 .left) (ap (λ (r : Same). r .number) is) (ap (λ (r : Same). r .yes) is)
 

@@ -1,18 +1,50 @@
--- `maps::Map::lengthened_split` meets its contract: it is the call with its table, without the table.
+-- `maps::Map::lengthened_split` meets its contract: a record that is not good is refused, else the answer is that of the opened one.
 use borrow.Author.Needs.{needs}
-use mathlib.Core.Path.{_∙_}
-use Rattle.maps.proofs.Handed.{without}
+use native.Mathlib.Omega.{arith}
+use mathlib.Core.Path.{_≡_, sym, ap, _∙_}
+use mathlib.Core.Bool.{not}
+use Rattle.axis.proofs.Tests.{cond-true}
+use Rattle.maps.specs.declared.opened.Opened.{Opened}
+use Rattle.maps.specs.Calls.{changed, lengthenedSplit}
+use Rattle.maps.specs.Opened.{Opens}
+use Rattle.maps.proofs.Changing.{same-map, not-good, is-opened, refused-as}
 use Rattle.maps.proofs.Map.lengthened_split.Statement.{statement}
 use Rattle.maps.proofs.Map.lengthened_split.Tie as tie
 
-lengthened-with-table-requires : tie.Need-lengthened-with-table-requires
-lengthened-with-table-requires c κs = search needs
+open-requires : tie.Need-open-requires
+open-requires c κs = search needs
 
 without-table-requires : tie.Need-without-table-requires
 without-table-requires c κs = search needs
 
 returns : tie.Need-returns
-returns c = c .without-table .ensures ∙ without _ _ (c .before .lengthened-with-table .ensures)
+unfolding lengthenedSplit
+returns c =
+    let o = c .before .before .before .«open» in
+    let ne = c .before .if1 .taken in
+    c .without-table .ensures ∙ refused-as _ (o .result) (o .ensures) ne ∙ sym (cond-true _ _ _ (ap not (not-good _ (o .result) (o .ensures) ne)))
+
+is-open : (c : tie.Else1) → Opens (c .before .before .«open» .result)
+is-open c = let o = c .before .before .«open» in is-opened _ (o .result) (o .ensures) (c .if1 .left)
+
+lengthened-split-requires : tie.Need-lengthened-split-requires
+lengthened-split-requires c κs = is-open c
+
+without-table-requires-2 : tie.Need-without-table-requires-2
+without-table-requires-2 c κs = search needs
+
+returns-2 : tie.Need-returns-2
+returns-2 c =
+    let o = c .before .before .before .before .«open» in
+    c .without-table2 .ensures ∙ ap (λ (x : Opened). changed (x .number) (x .map)) (c .before .lengthened-split .ensures) ∙ rw (same-map _ (o .result) (o .ensures))
 
 pub lengthened-split-spec : {M : Type 1} → statement M
-lengthened-split-spec = tie.close (tie.spec lengthened-with-table-requires without-table-requires returns)
+lengthened-split-spec =
+    tie.close
+    (tie.spec
+    open-requires
+    without-table-requires
+    returns
+    lengthened-split-requires
+    without-table-requires-2
+    returns-2)

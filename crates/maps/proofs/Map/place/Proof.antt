@@ -1,10 +1,13 @@
--- `maps::Map::place` meets its contract: a record that is not good is refused, else the answer is that of its own table.
+-- `maps::Map::place` meets its contract: a record that is not good is refused, else the answer is that of the opened one.
 use borrow.Author.Needs.{needs}
-use mathlib.Core.Path.{sym, _∙_}
+use native.Mathlib.Omega.{arith}
+use mathlib.Core.Path.{_≡_, sym, ap, _∙_}
+use mathlib.Core.Bool.{not}
 use Rattle.axis.proofs.Tests.{cond-true}
+use Rattle.maps.specs.declared.Map.{Map}
 use Rattle.maps.specs.Calls.{tablePlace}
-use Rattle.maps.proofs.Recording.{not-good, good-opened}
-use Rattle.maps.proofs.FromHand.{own-place}
+use Rattle.maps.specs.Opened.{Opens}
+use Rattle.maps.proofs.Changing.{same-map, not-good, is-opened}
 use Rattle.maps.proofs.Map.place.Statement.{statement}
 use Rattle.maps.proofs.Map.place.Tie as tie
 
@@ -18,17 +21,17 @@ returns : tie.Need-returns
 unfolding tablePlace
 returns c =
     let o = c .before .before .before .«open» in
-    c .no-place .ensures ∙ sym (cond-true _ _ _ (not-good _ (o .result) (o .ensures) (c .before .if1 .taken)))
+    c .no-place .ensures ∙ sym (cond-true _ _ _ (ap not (not-good _ (o .result) (o .ensures) (c .before .if1 .taken))))
 
-place-in-requires : tie.Need-place-in-requires
-place-in-requires c κs = search needs
+is-open : (c : tie.Else1) → Opens (c .before .before .«open» .result)
+is-open c = let o = c .before .before .«open» in is-opened _ (o .result) (o .ensures) (c .if1 .left)
+
+place-requires : tie.Need-place-requires
+place-requires c κs = is-open c
 
 returns-2 : tie.Need-returns-2
 returns-2 c =
-    let e = c .before in
-    let s = e .before .before .before in
-    let o = e .before .before .«open» in
-    c .place-in .ensures ∙ own-place (good-opened (s .args .self) (o .result) (o .ensures) _ (s .good .0) (e .if1 .left)) (s .args .i)
+    let o = c .before .before .before .«open» in rw (same-map _ (o .result) (o .ensures)) at (c .place .ensures)
 
 pub place-spec : {M : Type 1} → statement M
-place-spec = tie.close (tie.spec open-requires no-place-requires returns place-in-requires returns-2)
+place-spec = tie.close (tie.spec open-requires no-place-requires returns place-requires returns-2)

@@ -1,10 +1,12 @@
--- `maps::Map::reading` meets its contract: a record that is not good is refused, else the answer is that of its own table.
+-- `maps::Map::reading` meets its contract: a record that is not good is refused, else the answer is that of the opened one.
 use borrow.Author.Needs.{needs}
-use mathlib.Core.Path.{sym, _∙_}
+use native.Mathlib.Omega.{arith}
+use mathlib.Core.Path.{_≡_, sym, ap, _∙_}
+use mathlib.Core.Bool.{not}
 use Rattle.axis.proofs.Tests.{cond-true}
 use Rattle.maps.specs.Calls.{reading}
-use Rattle.maps.proofs.Recording.{not-good, good-opened}
-use Rattle.maps.proofs.FromHand.{own-reading}
+use Rattle.maps.specs.Opened.{Opens}
+use Rattle.maps.proofs.Changing.{same-map, not-good, is-opened}
 use Rattle.maps.proofs.Map.reading.Statement.{statement}
 use Rattle.maps.proofs.Map.reading.Tie as tie
 
@@ -15,17 +17,17 @@ returns : tie.Need-returns
 unfolding reading
 returns c =
     let o = c .before .before .«open» in
-    sym (cond-true _ _ _ (not-good _ (o .result) (o .ensures) (c .if1 .taken)))
+    sym (cond-true _ _ _ (ap not (not-good _ (o .result) (o .ensures) (c .if1 .taken))))
 
-reading-in-requires : tie.Need-reading-in-requires
-reading-in-requires c κs = search needs
+is-open : (c : tie.Else1) → Opens (c .before .before .«open» .result)
+is-open c = let o = c .before .before .«open» in is-opened _ (o .result) (o .ensures) (c .if1 .left)
+
+reading-requires : tie.Need-reading-requires
+reading-requires c κs = is-open c
 
 returns-2 : tie.Need-returns-2
 returns-2 c =
-    let e = c .before in
-    let s = e .before .before .before in
-    let o = e .before .before .«open» in
-    c .reading-in .ensures ∙ own-reading (good-opened (s .args .self) (o .result) (o .ensures) _ (s .good .0) (e .if1 .left)) (s .args .u) (s .args .v)
+    let o = c .before .before .before .«open» in rw (same-map _ (o .result) (o .ensures)) at (c .reading .ensures)
 
 pub reading-spec : {M : Type 1} → statement M
-reading-spec = tie.close (tie.spec open-requires returns reading-in-requires returns-2)
+reading-spec = tie.close (tie.spec open-requires returns reading-requires returns-2)

@@ -1,35 +1,50 @@
--- `maps::Map::set` meets its contract: a record that is not good is refused, else the answer is that of its own table.
+-- `maps::Map::set` meets its contract: a record that is not good is refused, else the answer is that of the opened one.
 use borrow.Author.Needs.{needs}
-use mathlib.Core.Path.{sym, _∙_}
+use native.Mathlib.Omega.{arith}
+use mathlib.Core.Path.{_≡_, sym, ap, _∙_}
+use mathlib.Core.Bool.{not}
 use Rattle.axis.proofs.Tests.{cond-true}
-use Rattle.maps.specs.Calls.{setValue}
-use Rattle.maps.proofs.Recording.{not-good, good-opened}
-use Rattle.maps.proofs.Handed.{own-set, without}
+use Rattle.maps.specs.declared.opened.Opened.{Opened}
+use Rattle.maps.specs.Calls.{changed, setValue}
+use Rattle.maps.specs.Opened.{Opens}
+use Rattle.maps.proofs.Changing.{same-map, not-good, is-opened, refused-as}
 use Rattle.maps.proofs.Map.set.Statement.{statement}
 use Rattle.maps.proofs.Map.set.Tie as tie
 
 open-requires : tie.Need-open-requires
 open-requires c κs = search needs
 
-returns : tie.Need-returns
-unfolding setValue
-returns c =
-    let o = c .before .before .«open» in
-    sym (cond-true _ _ _ (not-good _ (o .result) (o .ensures) (c .if1 .taken)))
-
-set-in-requires : tie.Need-set-in-requires
-set-in-requires c κs = search needs
-
 without-table-requires : tie.Need-without-table-requires
 without-table-requires c κs = search needs
 
+returns : tie.Need-returns
+unfolding setValue
+returns c =
+    let o = c .before .before .before .«open» in
+    let ne = c .before .if1 .taken in
+    c .without-table .ensures ∙ refused-as _ (o .result) (o .ensures) ne ∙ sym (cond-true _ _ _ (ap not (not-good _ (o .result) (o .ensures) ne)))
+
+is-open : (c : tie.Else1) → Opens (c .before .before .«open» .result)
+is-open c = let o = c .before .before .«open» in is-opened _ (o .result) (o .ensures) (c .if1 .left)
+
+set-requires : tie.Need-set-requires
+set-requires c κs = is-open c
+
+without-table-requires-2 : tie.Need-without-table-requires-2
+without-table-requires-2 c κs = search needs
+
 returns-2 : tie.Need-returns-2
 returns-2 c =
-    let e = c .before .before in
-    let s = e .before .before .before in
-    let o = e .before .before .«open» in
-    let g = good-opened (s .args .self) (o .result) (o .ensures) _ (s .good .0) (e .if1 .left) in
-    c .without-table .ensures ∙ without _ _ (c .before .set-in .ensures ∙ own-set g (s .args .m) (s .args .n) (s .args .value))
+    let o = c .before .before .before .before .«open» in
+    c .without-table2 .ensures ∙ ap (λ (x : Opened). changed (x .number) (x .map)) (c .before .set .ensures) ∙ rw (same-map _ (o .result) (o .ensures))
 
 pub set-spec : {M : Type 1} → statement M
-set-spec = tie.close (tie.spec open-requires returns set-in-requires without-table-requires returns-2)
+set-spec =
+    tie.close
+    (tie.spec
+    open-requires
+    without-table-requires
+    returns
+    set-requires
+    without-table-requires-2
+    returns-2)

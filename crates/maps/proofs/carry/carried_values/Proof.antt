@@ -167,8 +167,8 @@ cast-carried c =
     let old = s .pre .0 in
     let k = knots t in
     let x = next t in
-    let u : x .across .m - 1 ≤ old .of .w = rw (old .across) (k .1) in
-    let v : x .up .m - 1 ≤ old .of .h = rw (old .up) (k .3) in
+    let u : x .across .m - 1 ≤ old .of .lines .w = rw (old .across) (k .1) in
+    let v : x .up .m - 1 ≤ old .of .lines .h = rw (old .up) (k .3) in
     let is : c .reading-of .result ≡ readingAt (blends (old .of)) (old .of .values) (x .across .m - 1) (x .up .m - 1) = rw (blends-of old, values-of old) at (taken c) in
     omega (arith, is, reading-most (old .of) (valued s) (x .across .m - 1) (x .up .m - 1) u v)
 

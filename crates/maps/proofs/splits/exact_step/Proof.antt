@@ -5,26 +5,27 @@ use borrow.Author.Needs.{needs}
 use borrow.Author.Tests.{ne-eqb}
 use mathlib.Core.Path.{_≡_, sym, _∙_}
 use mathlib.Core.Logic.{⊎-elim}
+use Rattle.mesh.specs.Lines.{layoutOf}
 use Rattle.mesh.specs.declared.Lines.{Lines}
 use Rattle.mesh.specs.declared.Table.{Table}
 use Rattle.mesh.specs.declared.Split.{Split}
 use Rattle.axis.proofs.Tests.{either, cond-true, cond-false}
-use Rattle.maps.specs.Splits.{given, exactNumber, soundWith}
-use Rattle.maps.specs.Inner.{held, judged, stepped}
+use Rattle.mesh.specs.Splits.{given, exactNumber, soundWith}
+use Rattle.maps.specs.Inner.{refusedStep, judged, exactStep}
 use Rattle.maps.proofs.InHand.{given-says, hand-length}
 use Rattle.maps.proofs.splits.exact_step.Statement.{statement}
 use Rattle.maps.proofs.splits.exact_step.Tie as tie
 
 -- the two ways out
 module _ (L : Lines) (t : Table) (s : Split) where
-  step-refused : (n : ℕ) → n ≡ given (held L) s → (n ≡ 0 → ⊥) → record { number = n; table = t } ≡ stepped L t s
-  unfolding stepped exactNumber
+  step-refused : (n : ℕ) → n ≡ given (layoutOf L) s → (n ≡ 0 → ⊥) → refusedStep t n s ≡ exactStep L t s
+  unfolding exactStep exactNumber
   step-refused n e ne = rw (sym e, ne-eqb n 0 ne, ne-eqb n 0 ne)
 
-  step-judged : given (held L) s ≡ 0 → judged L t s ≡ stepped L t s
-  unfolding stepped exactNumber judged
+  step-judged : given (layoutOf L) s ≡ 0 → judged L t s ≡ exactStep L t s
+  unfolding exactStep exactNumber judged
   step-judged e =
-      ⊎-elim (λ o. cond-true _ _ _ o ∙ rw (e, o)) (λ o. cond-false _ _ _ o ∙ rw (e, o)) (either (soundWith (held L) s))
+      ⊎-elim (λ o. cond-true _ _ _ o ∙ rw (e, o)) (λ o. cond-false _ _ _ o ∙ rw (e, o)) (either (soundWith (layoutOf L) s))
 
 given-number-requires : tie.Need-given-number-requires
 given-number-requires c κs = search needs
@@ -33,7 +34,7 @@ returns : tie.Need-returns
 returns c = step-refused _ _ _ _ (c .before .given-number .ensures) (c .if1 .taken)
 
 -- no refusal of 3 to 7 applies
-passed : (c : tie.Else1) → let a = c .before .before .args in given (held (a .lines)) (a .s) ≡ 0
+passed : (c : tie.Else1) → let a = c .before .before .args in given (layoutOf (a .lines)) (a .s) ≡ 0
 passed c = sym (c .before .given-number .ensures) ∙ c .if1 .left
 
 sound-step-requires : tie.Need-sound-step-requires

@@ -8,11 +8,9 @@ use lib.ListN.{length}
 use Rattle.mesh.specs.declared.Lines.{Lines}
 use Rattle.axis.specs.Range.{any}
 use Rattle.mesh.specs.Blends.{isCut}
-use Rattle.mesh.specs.Lines.{splitsOf, inRange, shares, ended}
+use Rattle.mesh.specs.Lines.{splitsOf, layoutOf, inRange, shares, ended, meshOf}
 use Rattle.mesh.specs.Sound.{someCut}
-use Rattle.maps.specs.Plain.{meshOf, blends}
-use Rattle.maps.specs.Splits.{given, withLine}
-use Rattle.maps.specs.Inner.{held}
+use Rattle.mesh.specs.Splits.{liveOf, given, withLine}
 use Rattle.maps.proofs.InHand.{hand-length, hand-cut}
 use Rattle.maps.proofs.splits.given_number.Statement.{statement}
 use Rattle.maps.proofs.splits.given_number.Tie as tie
@@ -41,7 +39,7 @@ shares-stretch-requires : tie.Need-shares-stretch-requires
 shares-stretch-requires c κs = search needs
 
 shared : (c : tie.After-shares-stretch) →
-    let a = c .before .before .before .before .before .args in c .shares-stretch .result ≡ shares (meshOf (held (a .lines))) (a .s)
+    let a = c .before .before .before .before .before .args in c .shares-stretch .result ≡ shares (meshOf (layoutOf (a .lines))) (a .s)
 shared c =
     let start = c .before .before .before .before .before in
     rw (start .pre .allowed?, fits (c .before .before .before)) at (c .shares-stretch .ensures)
@@ -55,12 +53,12 @@ ends-on-lines-requires : tie.Need-ends-on-lines-requires
 ends-on-lines-requires c κs = search needs
 
 apart : (c : tie.Else3) →
-    let a = c .before .before .before .before .before .before .args in shares (meshOf (held (a .lines))) (a .s) ≡ false
+    let a = c .before .before .before .before .before .before .args in shares (meshOf (layoutOf (a .lines))) (a .s) ≡ false
 apart c = sym (shared (c .before)) ∙ c .if3 .left
 
 reached : (c : tie.After-ends-on-lines) →
     let a = c .before .before .before .before .before .before .before .args in
-    c .ends-on-lines .result ≡ ended (meshOf (held (a .lines))) (a .s)
+    c .ends-on-lines .result ≡ ended (meshOf (layoutOf (a .lines))) (a .s)
 reached c =
     let first = c .before .before .before .before .before in
     rw (first .before .before .pre .allowed?, fits first) at (c .ends-on-lines .ensures)
@@ -81,7 +79,7 @@ some-cut-requires c κs = search needs
 -- behind the other four, the last test decides
 last : (c : tie.After-some-cut) →
     let a = c .before .before .before .before .before .before .before .before .before .before .args in
-    given (held (a .lines)) (a .s) ≡ cond (not (c .some-cut .result)) 7 0
+    given (layoutOf (a .lines)) (a .s) ≡ cond (not (c .some-cut .result)) 7 0
 unfolding given
 last c =
     let fourth = c .before .before in
@@ -90,7 +88,7 @@ last c =
     let first = second .before .before in
     let start = first .before .before in
     let a = start .args in
-    let cut : c .some-cut .result ≡ any (isCut (meshOf (withLine (held (a .lines)) (a .s)))) (blends (held (a .lines))) =
+    let cut : c .some-cut .result ≡ any (isCut (meshOf (withLine (layoutOf (a .lines)) (a .s)))) (liveOf (layoutOf (a .lines))) =
     c .some-cut .ensures ∙ ap (λ (L : Lines). someCut L (a .live)) (c .before .with-split .ensures) ∙
     hand-cut (start .pre) (a .s) (fits first) (second .if2 .left) in
     rw (fits first, few second, apart third, sym (reached (fourth .before)) ∙ not-false _ (fourth .if4 .left), sym cut)

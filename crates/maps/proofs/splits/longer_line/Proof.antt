@@ -5,8 +5,8 @@ use borrow.Author.Tests.{eq-eqb, ne-eqb}
 use mathlib.Core.Path.{_≡_, _∙_}
 use mathlib.Core.Logic.{⊎-elim}
 use mathlib.Core.Bool.{false}
-use Rattle.maps.specs.Splits.{run, reaching, candidate}
-use Rattle.maps.specs.Inner.{held}
+use Rattle.mesh.specs.Lines.{layoutOf}
+use Rattle.mesh.specs.Splits.{run, reaching, candidate}
 use Rattle.maps.proofs.InHand.{given-says}
 use Rattle.maps.proofs.Longer.{rows, ahead, Search, ends-in, search-starts, bounds, room, search-enters, search-passes, search-leaves, search-fails, tried-falls, in-range, tried-unsound, tried-found}
 use Rattle.maps.proofs.splits.longer_line.Statement.{statement}
@@ -14,13 +14,13 @@ use Rattle.maps.proofs.splits.longer_line.Tie as tie
 
 abbrev Inv-loop : tie.InvT-loop
 Inv-loop lines live s run answer₀ length from₀ answer from =
-    (length ≤ run) × Search lines live s run answer length (ahead (held lines) s length from)
+    (length ≤ run) × Search lines live s run answer length (ahead (layoutOf lines) s length from)
 
 abbrev μ-loop : tie.MeasureT-loop
 μ-loop lines live s run answer₀ length from₀ answer from = s .from + 1 - from
 
 abbrev Inv-search : tie.InvT-search
-Inv-search lines live s run answer₀ length₀ answer length = Search lines live s run answer length (rows (held lines) s length)
+Inv-search lines live s run answer₀ length₀ answer length = Search lines live s run answer length (rows (layoutOf lines) s length)
 
 abbrev μ-search : tie.MeasureT-search
 μ-search lines live s run answer₀ length₀ answer length = run + 1 - length
@@ -29,11 +29,11 @@ sub-length : tie.Need-sub-length Inv-loop μ-loop Inv-search μ-search
 sub-length c =
     let start = c .before .before .before in
     let a = start .args in
-    let ends = ends-in (held (a .lines)) (a .s) (given-says _ _ (start .pre .1) .fits) in
+    let ends = ends-in (layoutOf (a .lines)) (a .s) (given-says _ _ (start .pre .1) .fits) in
     omega arith
 
 -- the side that the split runs along
-side : (c : tie.Joined1 Inv-loop μ-loop Inv-search μ-search) → let a = c .before .before .args in c .if1 .run ≡ run (held (a .lines)) (a .s)
+side : (c : tie.Joined1 Inv-loop μ-loop Inv-search μ-search) → let a = c .before .before .args in c .if1 .run ≡ run (layoutOf (a .lines)) (a .s)
 side c =
     ⊎-elim (λ w. w .1 ∙ rw (eq-eqb _ _ (w .0 .taken))) (λ w. w .1 ∙ rw (ne-eqb _ _ (w .0 .left))) (c .if1 .came)
 
@@ -52,8 +52,8 @@ loop-holds : tie.Need-loop-holds Inv-loop μ-loop Inv-search μ-search
 loop-holds c =
     let t = c .before .before in (t .search-test .taken, rw (first-start c) (search-enters (t .before .search .inv) (t .search-test .taken)))
 
-add-t14 : tie.Need-add-t14 Inv-loop μ-loop Inv-search μ-search
-add-t14 c = let b = bounds (c .before .before .before .loop .inv .1) in omega arith
+add-t13 : tie.Need-add-t13 Inv-loop μ-loop Inv-search μ-search
+add-t13 c = let b = bounds (c .before .before .before .loop .inv .1) in omega arith
 
 may-stand-requires : tie.Need-may-stand-requires Inv-loop μ-loop Inv-search μ-search
 may-stand-requires c κs = c .before .before .before .loop .inv .1 .hand .allowed?
@@ -69,7 +69,7 @@ passed : (c : tie.Joined4 Inv-loop μ-loop Inv-search μ-search) →
     let search = at .before .before .before .before in
     let a = search .before .before .before .before .args in
     at .loop .from + search .search .length ≤ search .before .before .if1 .run →
-    candidate (held (a .lines)) (reaching (a .s) (at .loop .from) (search .search .length)) ≡ false
+    candidate (layoutOf (a .lines)) (reaching (a .s) (at .loop .from) (search .search .length)) ≡ false
 passed c le =
     let at = c .before .before .before .before .before in
     ⊎-elim
@@ -103,11 +103,11 @@ returns c = search-fails (c .before .search .inv) (c .search-test .left)
 
 returns-2 : tie.Need-returns-2 Inv-loop μ-loop Inv-search μ-search
 returns-2 c =
-    let r = c .before .before .before in
+    let r = c .before .before in
     let then = r .before in
     let at = then .before .before .before .before .before in
     tried-found (at .loop .from) (at .loop .inv .1) (then .before .may-stand .ensures) (then .if4 .taken)
-    (r .sound-step .ensures) (then .before .before .before .if3 .taken) (c .before .if5 .taken)
+    (r .sound-step .ensures) (then .before .before .before .if3 .taken) (c .if5 .taken)
 
 pub longer-line-spec : {M : Type 1} → statement M
 longer-line-spec =
@@ -121,7 +121,7 @@ longer-line-spec =
     search-holds
     sub-from
     loop-holds
-    add-t14
+    add-t13
     may-stand-requires
     sound-step-requires
     add-from

@@ -5,21 +5,20 @@ use mathlib.Core.Bool.{true, false}
 use Rattle.mesh.specs.declared.Lines.{Lines}
 use Rattle.mesh.specs.declared.Table.{Table}
 use Rattle.mesh.specs.declared.Split.{Split}
-use Rattle.mesh.specs.Sound.{table}
 use Rattle.axis.proofs.Tests.{cond-true, cond-false}
-use Rattle.maps.specs.Plain.{blends}
-use Rattle.maps.specs.Splits.{withLine, soundWith}
-use Rattle.maps.specs.Inner.{held, judged}
+use Rattle.mesh.specs.Lines.{layoutOf}
+use Rattle.mesh.specs.Splits.{soundWith}
+use Rattle.maps.specs.Inner.{refusedStep, drawnStep, judged}
 use Rattle.maps.proofs.InHand.{unfit-next, full-next, next-table}
 use Rattle.maps.proofs.splits.sound_step.Statement.{statement}
 use Rattle.maps.proofs.splits.sound_step.Tie as tie
 
 module _ (L : Lines) (t : Table) (s : Split) where
-  step-sound : soundWith (held L) s ≡ true → record { number = 0; table = table (blends (withLine (held L) s)) } ≡ judged L t s
+  step-sound : soundWith (layoutOf L) s ≡ true → drawnStep L s ≡ judged L t s
   unfolding judged
   step-sound o = sym (cond-true _ _ _ o)
 
-  step-unsound : soundWith (held L) s ≡ false → record { number = 8; table = t } ≡ judged L t s
+  step-unsound : soundWith (layoutOf L) s ≡ false → refusedStep t 8 s ≡ judged L t s
   unfolding judged
   step-unsound o = sym (cond-false _ _ _ o)
 
@@ -33,7 +32,7 @@ full-requires : tie.Need-full-requires
 full-requires c κs = search needs
 
 -- where a table holds the blends, their areas decide
-decided : (c : tie.After-full) → let a = c .before .before .before .before .before .args in c .full .result ≡ soundWith (held (a .lines)) (a .s)
+decided : (c : tie.After-full) → let a = c .before .before .before .before .before .args in c .full .result ≡ soundWith (layoutOf (a .lines)) (a .s)
 decided c =
     let r = c .before .before .before in
     let start = r .before .before in
@@ -44,7 +43,7 @@ returns : tie.Need-returns
 returns c =
     let r = c .before .before .before .before in
     let start = r .before .before in
-    ap (λ (t : Table). record { number = 0; table = t })
+    ap (λ (t : Table). record { number = 0; split = start .args .s; table = t })
     (next-table (start .pre .0) (start .args .s) (start .pre .1) (start .pre .2) (r .before .with-split .ensures) (r .refine .ensures) (c .before .before .if1 .taken)) ∙
     step-sound _ _ _ (sym (decided (c .before)) ∙ c .if2 .taken)
 

@@ -1,0 +1,326 @@
+-- A good record, opened: what it holds, and what the rest of a call leaves.
+use Prim.Native.Nat.{ℕ, suc, _+_, _-_, _≤_, _<_}
+use native.Mathlib.Omega.{arith}
+use mathlib.Core.Path.{_≡_, refl, sym, ap, _∙_}
+use mathlib.Core.Logic.{⊎-elim}
+use mathlib.Core.Bool.{true, false, cond, not, _&&_}
+use mathlib.Core.List.{List, [], _∷_, _++_, append-assoc}
+use borrow.Author.Tests.{eqb-true, eqb-false, ltb-true, ltb-false, le-ltb, lt-ltb}
+use lib.Dec.{ltb, eqb}
+use lib.ListN.{length, getD, set, take, replicate, length-append, length-map, length-set}
+use lib.Seq.{getD-take, set-append-seam, set-append-left}
+use mir.Val.{Val}
+use denote.Shadow.{shadow}
+use denote.Struct.Declared.{row}
+use Rattle.axis.specs.Range.{all}
+use Rattle.axis.proofs.Members.{entry}
+use Rattle.axis.proofs.Tests.{all-of, either, cond-true, cond-false}
+use Rattle.mesh.specs.declared.Split.{Split}
+use Rattle.mesh.specs.declared.Table.{Table}
+use Rattle.mesh.specs.Lines.{layoutOf, meshOf}
+use Rattle.mesh.specs.Sound.{none, proper, table, blendsOf}
+use Rattle.mesh.specs.Splits.{liveOf, withLine, given, exactNumber, chosen}
+use Rattle.mesh.proofs.SoundMaps.{live-proper}
+use Rattle.mesh.proofs.Places.{proper-facts}
+use Rattle.mesh.proofs.AtMost.{at-most}
+use Rattle.maps.specs.declared.Map.{Map}
+use Rattle.maps.specs.declared.Changed.{Changed}
+use Rattle.maps.specs.declared.splits.Step.{Step}
+use Rattle.maps.specs.declared.opened.Opened.{Opened}
+use Rattle.maps.specs.Plain.{Plain, blends}
+use Rattle.maps.specs.Values.{placeOf, carried, drawn}
+use Rattle.maps.specs.Record.{noSplit, linesOf, recordOf, plain, good}
+use Rattle.maps.specs.Calls.{changed, drawnFirst, setPlain, setValue, exactSplit, lengthenedSplit}
+use Rattle.maps.specs.Opened.{tableOf, withTable, opened, IsTable, Opens}
+use Rattle.maps.specs.Inner.{withSplit, InHand, InTable, refusedStep, drawnStep, exactStep, found, lengthenedStep, carriedArray, Drawable, drawnBy}
+use Rattle.maps.proofs.Map.{the-type}
+use Rattle.maps.proofs.opened.Opened as opened
+use Rattle.maps.proofs.Readings.{place-found}
+use Rattle.maps.proofs.Opening.{good-table}
+use Rattle.maps.proofs.Good.{Holds, record-good, GoodFacts, good-facts, set-holds, drawn-holds}
+use Rattle.maps.proofs.InHand.{hand-few, hand-length, hand-count, hand-blends, table-count, table-blends, exact-says}
+use Rattle.maps.proofs.Longest.{chosen-exact}
+
+-- a list padded to a length: with one entry more, and with one of its entries set
+module _ {A : Type 0} (xs : List A) (n : ℕ) (d x : A) where
+  padded-more : length xs < n → set (xs ++ replicate (n - length xs) d) (length xs) x ≡ (xs ++ x ∷ []) ++ replicate (n - length (xs ++ x ∷ [])) d
+  padded-more room =
+      let more = length-append xs (x ∷ []) in
+      let next : n - length xs ≡ suc (n - length (xs ++ x ∷ [])) = omega arith in
+      rw (next, append-assoc) (set-append-seam xs d (replicate (n - length (xs ++ x ∷ [])) d) x)
+
+  padded-set : (k : ℕ) → k < length xs → set (xs ++ replicate (n - length xs) d) k x ≡ set xs k x ++ replicate (n - length (set xs k x)) d
+  padded-set k lt = rw length-set (set-append-left xs (replicate (n - length xs) d) k x lt)
+
+-- the record after a line is drawn, and after a value is set
+module _ (P : Plain) where
+  record-drawn : (s : Split) → length (P .lines .splits) < 60 →
+      recordOf (drawn P s) ≡ record { lines = withSplit (recordOf P .lines) s; values = carriedArray (blends P) (P .values) (blends (drawn P s)) }
+  unfolding recordOf linesOf drawn carriedArray
+  record-drawn s room =
+      rw (
+        padded-more (P .lines .splits) 60 noSplit s room,
+        length-append (P .lines .splits) (s ∷ []),
+        length-map (liveOf (withLine (P .lines) s)) (carried (blends P) (P .values)),
+      )
+
+  record-set : (i j v : ℕ) → let k = placeOf (blends P) (i + 1) (j + 1) in k < length (P .values) →
+      recordOf (setPlain P i j v) ≡ record { lines = recordOf P .lines; values = set (recordOf P .values) k v }
+  unfolding recordOf setPlain
+  record-set i j v lt = rw (padded-set (P .values) 1024 0 v _ lt)
+
+-- a map that is passed by value has all the places of its arrays
+pub full : (m : Map) (vs : List Val) → shadow (row the-type .own m vs) → (length (m .lines .splits) ≡ 60) × (length (m .values) ≡ 1024)
+full m vs p = (simp length-map at (p .1 .1 .0 .1 .1 .1 .1 .1 .0 .1 .0 .1), simp length-map at (p .1 .1 .1 .0 .1 .0 .1))
+
+-- a good record, and the table of its live blends
+pub record GoodMap (m : Map) (t : Table) : Type 0 where
+  pub is-good : good m ≡ true
+  pub facts : GoodFacts m
+  pub hand : InHand (m .lines) t
+
+pub opened-map : {m : Map} {t : Table} → IsTable m t → length (m .lines .splits) ≡ 60 → length (m .values) ≡ 1024 → GoodMap m t
+opened-map {m} {t} o places room =
+    let f = good-facts m places room (o .is-good) in
+    record { is-good = o .is-good; facts = f; hand = rw (o .is-table ∙ good-table m (o .is-good)) (f .hand) }
+
+pub good-map : {m : Map} {t : Table} → IsTable m t → (vs : List Val) → shadow (row the-type .own m vs) → GoodMap m t
+good-map {m} o vs p = opened-map o (full m vs p .0) (full m vs p .1)
+
+pub open-map : (o : Opened) → Opens o → (vs : List Val) → shadow (row opened.the-type .own o vs) → GoodMap (o .map) (o .table)
+open-map o is vs p = good-map is _ (p .1 .1 .1 .0)
+
+-- What opening a record says of it.
+module _ (m : Map) (o : Opened) (e : o ≡ opened m) where
+  pub same-map : o .map ≡ m
+  unfolding opened
+  same-map = ap (λ (r : Opened). r .map) e
+
+  number-is : o .number ≡ cond (good m) 0 2
+  unfolding opened
+  number-is = ap (λ (r : Opened). r .number) e
+
+  pub not-good : (o .number ≡ 0 → ⊥) → good m ≡ false
+  not-good ne = ⊎-elim (λ y. absurd (ne (number-is ∙ rw y))) (λ n. n) (either (good m))
+
+  pub is-opened : o .number ≡ 0 → Opens o
+  unfolding opened
+  is-opened z =
+      rw e
+      (record {
+        is-good = ⊎-elim (λ y. y) (λ n. absurd (omega (arith, number-is, rw n at number-is))) (either (good m));
+        is-table = refl;
+      })
+
+  pub refused-as : (o .number ≡ 0 → ⊥) → changed (o .number) (o .map) ≡ changed 2 m
+  unfolding opened
+  refused-as ne = rw (number-is, same-map, not-good ne)
+
+module _ {m : Map} {t : Table} (g : GoodMap m t) where
+  -- its table and values are those of what it holds
+  pub live-table : t ≡ table (blends (plain m))
+  unfolding plain
+  live-table = g .hand .is-table
+
+  pub in-table : InTable (m .lines .w) (m .lines .h) t (m .values)
+  unfolding plain
+  in-table =
+      let f = g .facts in
+      record {
+        of = plain m;
+        across = refl;
+        up = refl;
+        sides = (f .across .0, f .across .1, f .up .0, f .up .1);
+        is-sound = f .is-sound;
+        is-table = live-table;
+        is-short = f .is-short;
+        are-values = refl;
+      }
+
+  pub live-blends : blendsOf t ≡ blends (plain m)
+  live-blends = rw live-table (table-blends (blends (plain m)))
+
+  pub live-count : t .count ≡ length (blends (plain m))
+  live-count = rw live-table (table-count (blends (plain m)))
+
+  pub live-values : take (t .count) (m .values) ≡ plain m .values
+  unfolding plain
+  live-values = ap (λ (n : ℕ). take n (m .values)) live-count
+
+  -- a call may go on with the test that it passed
+  pub passed : not (good m) ≡ false
+  passed = ap not (g .is-good)
+
+  pub few : t .count ≤ 1024
+  few = hand-count (g .hand)
+
+  -- the blend and the value at a table place
+  module _ (i : ℕ) (lt : i < t .count) where
+    pub live-blend : getD (t .blends) i none ≡ getD (blends (plain m)) i none
+    live-blend = rw (← live-blends) (sym (getD-take (t .count) (t .blends) i none lt))
+
+    pub live-value : getD (m .values) i 0 ≡ getD (plain m .values) i 0
+    live-value = rw (← live-values) (sym (getD-take (t .count) (m .values) i 0 lt))
+
+  -- A refusal hands back the map and its table as they came.
+  pub kept : (n : ℕ) (c : Changed) → changed n m ≡ c → record { number = n; map = m; table = t } ≡ withTable c
+  kept n c is =
+      ap (λ (t : Table). record { number = n; map = m; table = t }) (live-table ∙ sym (good-table m (g .is-good))) ∙ ap withTable is
+
+-- A new map that a good record may hold has its table.
+new-table : (Q : Plain) → Holds Q → (t : Table) → t ≡ table (blends Q) → (c : Changed) → changed 0 (recordOf Q) ≡ c →
+    record { number = 0; map = recordOf Q; table = t } ≡ withTable c
+new-table Q p t e c is =
+    let is-held = good-table (recordOf Q) (record-good p .0) ∙ ap (λ (P : Plain). table (blends P)) (record-good p .1) in
+    ap (λ (t : Table). record { number = 0; map = recordOf Q; table = t }) (e ∙ sym is-held) ∙ ap withTable is
+
+-- Setting a value:
+module _ {m : Map} {t : Table} (g : GoodMap m t) (i j v : ℕ) where
+  abbrev at : ℕ
+  at = placeOf (blends (plain m)) (i + 1) (j + 1)
+
+  none-there : length (blends (plain m)) ≤ at → changed 9 m ≡ setValue m i j v
+  unfolding setValue
+  none-there le = sym (cond-false _ _ _ (passed g) ∙ cond-false _ _ _ (le-ltb _ _ le))
+
+  -- an anchor that no blend has is refused, so one beyond the largest side;
+  pub set-none : length (blends (plain m)) ≤ at → record { number = 9; map = m; table = t } ≡ withTable (setValue m i j v)
+  set-none le = kept g 9 _ (none-there le)
+
+  pub set-beyond : (i ≤ 128 → j ≤ 128 → ⊥) → record { number = 9; map = m; table = t } ≡ withTable (setValue m i j v)
+  unfolding plain
+  set-beyond off =
+      set-none (⊎-elim (λ lt. absurd (inside (ltb-true _ _ lt))) (λ ge. ltb-false _ _ ge) (either (ltb at (length (blends (plain m))))))
+    where
+      inside : at < length (blends (plain m)) → ⊥
+      inside lt =
+          let f = g .facts in
+          let B = getD (blends (plain m)) at none in
+          let here = place-found (blends (plain m)) (i + 1) (j + 1) lt in
+          let p = proper-facts (m .lines .w) (m .lines .h) B (live-proper (m .lines .w) (m .lines .h) (f .across .0) (f .up .0) (meshOf (plain m .lines)) B (entry (blends (plain m)) _ none lt)) in
+          let across = p .across in
+          let up = p .up in
+          off (omega (arith, here .0, f .across)) (omega (arith, here .1, f .up))
+
+  -- any other has its value set.
+  pub set-some : at < length (blends (plain m)) →
+      record { number = 0; map = record { lines = m .lines; values = set (m .values) at v }; table = t } ≡ withTable (setValue m i j v)
+  unfolding setPlain setValue
+  set-some lt =
+      let Q = setPlain (plain m) i j v in
+      let counted = g .facts .holds .counted in
+      let is : recordOf Q ≡ record { lines = m .lines; values = set (m .values) at v } =
+      rw (g .facts .is-record) at (record-set (plain m) i j v (rw counted lt)) in
+      ap (λ (n : Map). record { number = 0; map = n; table = t }) (sym is) ∙
+      new-table Q (set-holds (g .facts .holds) i j v) t (live-table g) _ (sym (cond-false _ _ _ (passed g) ∙ cond-true _ _ _ (lt-ltb _ _ lt)))
+
+-- A step that was taken from a good record:
+module _ {m : Map} {t : Table} (g : GoodMap m t) (r : Step) where
+  pub step-refused : (r .number ≡ 0 → ⊥) → record { number = r .number; map = m; table = t } ≡ withTable (drawnBy m r)
+  step-refused ne = kept g _ _ (⊎-elim (λ y. absurd (ne (eqb-true _ _ y))) (λ n. sym (cond-false _ _ _ n)) (either (eqb (r .number) 0)))
+
+  module _ (ok : Drawable m r) (z : r .number ≡ 0) where
+    accepted : exactNumber (plain m .lines) (r .split) ≡ 0
+    accepted = ok z .0
+
+    is-new : r .table ≡ table (blends (drawn (plain m) (r .split)))
+    is-new = ok z .1
+
+    pub step-room : m .lines .count < 60
+    unfolding plain
+    step-room = rw (← hand-length (g .hand)) (exact-says (plain m .lines) (r .split) accepted .0 .room)
+
+    pub new-few : r .table .count ≤ 1024
+    unfolding drawn plain
+    new-few =
+        let f = g .facts in
+        rw (is-new, table-count)
+        (at-most (m .lines .w) (m .lines .h) (f .across .0) (f .up .0) (f .up .1) (plain m .lines .splits ++ r .split ∷ [])
+        (omega (arith, length-append (plain m .lines .splits) (r .split ∷ []), hand-length (g .hand), step-room)) (exact-says (plain m .lines) (r .split) accepted .1))
+
+    pub new-proper : all (proper (m .lines .w) (m .lines .h)) (blendsOf (r .table)) ≡ true
+    unfolding drawn plain
+    new-proper =
+        let f = g .facts in
+        rw (is-new, table-blends) (all-of _ _ (live-proper (m .lines .w) (m .lines .h) (f .across .0) (f .up .0) (meshOf (withLine (plain m .lines) (r .split)))))
+
+    pub step-drawn : (values : List ℕ) → values ≡ carriedArray (blendsOf t) (take (t .count) (m .values)) (blendsOf (r .table)) →
+        record { number = 0; map = record { lines = withSplit (m .lines) (r .split); values = values }; table = r .table } ≡ withTable (drawnBy m r)
+    step-drawn values v =
+        let Q = drawn (plain m) (r .split) in
+        let new-blends : blendsOf (r .table) ≡ blends Q = rw is-new (table-blends (blends Q)) in
+        let is : recordOf Q ≡ record { lines = withSplit (m .lines) (r .split); values = values } =
+        rw (v, live-blends g, live-values g, new-blends)
+        (rw (g .facts .is-record) at (record-drawn (plain m) (r .split) (exact-says (plain m .lines) (r .split) accepted .0 .room))) in
+        ap (λ (n : Map). record { number = 0; map = n; table = r .table }) (sym is) ∙
+        new-table Q (drawn-holds (g .facts .holds) (r .split) accepted) (r .table) is-new _ (rw z)
+
+-- The steps of the two splits are those of the calls: an exact one,
+module _ {m : Map} {t : Table} (g : GoodMap m t) (s : Split) where
+  pub exact-by : drawnBy m (exactStep (m .lines) t s) ≡ exactSplit m s
+  unfolding exactStep exactSplit plain
+  exact-by =
+      let n = exactNumber (layoutOf (m .lines)) s in
+      rw (g .is-good) (⊎-elim (λ (e : eqb n 0 ≡ true). rw e) (λ (e : eqb n 0 ≡ false). rw (e, e)) (either (eqb n 0)))
+
+  pub exact-drawable : Drawable m (exactStep (m .lines) t s)
+  unfolding exactStep plain drawn
+  exact-drawable =
+      let n = exactNumber (layoutOf (m .lines)) s in
+      ⊎-elim (λ (e : eqb n 0 ≡ true). rw e (λ z. (eqb-true n 0 e, refl))) (λ (e : eqb n 0 ≡ false). rw e (λ z. absurd (eqb-false n 0 e z)))
+      (either (eqb n 0))
+
+  -- and a lengthened one, by the line that it takes.
+  by-found : (cs : List Split) → drawnBy m (found (m .lines) t s cs) ≡ drawnFirst m (plain m) cs
+  unfolding found
+  by-found [] = refl
+  by-found (c ∷ cs) = refl
+
+  found-drawable : given (plain m .lines) s ≡ 0 → (cs : List Split) → chosen (plain m .lines) s ≡ cs → Drawable m (found (m .lines) t s cs)
+  unfolding found plain drawn
+  found-drawable z [] e = λ q. absurd (omega arith)
+  found-drawable z (c ∷ cs) e = λ q. (chosen-exact (plain m .lines) (g .facts .across .0) (g .facts .up .0) s c cs z e, refl)
+
+  pub lengthened-by : drawnBy m (lengthenedStep (m .lines) t s) ≡ lengthenedSplit m s
+  unfolding lengthenedStep lengthenedSplit plain
+  lengthened-by =
+      let n = given (layoutOf (m .lines)) s in
+      rw (g .is-good)
+      (⊎-elim (λ (e : eqb n 0 ≡ true). rw e (by-found (chosen (layoutOf (m .lines)) s))) (λ (e : eqb n 0 ≡ false). rw (e, e)) (either (eqb n 0)))
+
+  pub lengthened-drawable : Drawable m (lengthenedStep (m .lines) t s)
+  unfolding lengthenedStep plain
+  lengthened-drawable =
+      let n = given (layoutOf (m .lines)) s in
+      ⊎-elim (λ (e : eqb n 0 ≡ true). rw e (found-drawable (eqb-true n 0 e) (chosen (layoutOf (m .lines)) s) refl))
+      (λ (e : eqb n 0 ≡ false). rw e (λ z. absurd (eqb-false n 0 e z))) (either (eqb n 0))
+
+-- A changing call on a good record leaves a good one.
+module _ (m : Map) (places : length (m .lines .splits) ≡ 60) (room : length (m .values) ≡ 1024) (y : good m ≡ true) where
+  facts : GoodFacts m
+  facts = good-facts m places room y
+
+  either-good : (b : mathlib.Core.Bool.Bool) (x : Changed) (n : ℕ) → (b ≡ true → good (x .map) ≡ true) → good (cond b x (changed n m) .map) ≡ true
+  either-good true x n f = f refl
+  either-good false x n f = y
+
+  drawn-good : (s : Split) → exactNumber (plain m .lines) s ≡ 0 → good (recordOf (drawn (plain m) s)) ≡ true
+  drawn-good s z = record-good (drawn-holds (facts .holds) s z) .0
+
+  pub set-good : (i j v : ℕ) → good (setValue m i j v .map) ≡ true
+  unfolding setValue
+  set-good i j v =
+      rw y (either-good (ltb (placeOf (blends (plain m)) (i + 1) (j + 1)) (length (blends (plain m)))) _ 9 (λ e. record-good (set-holds (facts .holds) i j v) .0))
+
+  pub exact-good : (s : Split) → good (exactSplit m s .map) ≡ true
+  unfolding exactSplit
+  exact-good s = rw y (either-good (eqb (exactNumber (plain m .lines) s) 0) _ _ (λ e. drawn-good s (eqb-true _ _ e)))
+
+  first-good : (s : Split) → given (plain m .lines) s ≡ 0 → (cs : List Split) → chosen (plain m .lines) s ≡ cs → good (drawnFirst m (plain m) cs .map) ≡ true
+  unfolding plain
+  first-good s z [] e = y
+  first-good s z (c ∷ cs) e = drawn-good c (chosen-exact (plain m .lines) (facts .across .0) (facts .up .0) s c cs z e)
+
+  pub lengthened-good : (s : Split) → good (lengthenedSplit m s .map) ≡ true
+  unfolding lengthenedSplit
+  lengthened-good s = rw y (either-good (eqb (given (plain m .lines) s) 0) _ _ (λ e. first-good s (eqb-true _ _ e) (chosen (plain m .lines) s) refl))

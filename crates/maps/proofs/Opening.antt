@@ -1,0 +1,60 @@
+-- Opening a record: the tests of a good one, one by one, and what is then in hand.
+use mathlib.Core.Path.{_≡_, sym, ap, _∙_}
+use mathlib.Core.Logic.{⊎-elim}
+use mathlib.Core.Bool.{true, false, cond}
+use mathlib.Core.List.{[]}
+use lib.ListN.{length, drop}
+use Rattle.axis.specs.Range.{all}
+use Rattle.mesh.specs.declared.Lines.{Lines}
+use Rattle.mesh.specs.declared.Table.{Table}
+use Rattle.mesh.specs.declared.Replayed.{Replayed}
+use Rattle.mesh.specs.Lines.{layoutOf}
+use Rattle.mesh.specs.Sound.{table}
+use Rattle.mesh.specs.Splits.{liveOf}
+use Rattle.mesh.specs.Replay.{replays, replayed}
+use Rattle.axis.proofs.Tests.{either, false-of, and-both, cond-true, cond-false}
+use Rattle.maps.specs.declared.Map.{Map}
+use Rattle.maps.specs.declared.opened.Opened.{Opened}
+use Rattle.maps.specs.Plain.{blends}
+use Rattle.maps.specs.Record.{isNoSplit, isZero, plain, good}
+use Rattle.maps.specs.Opened.{tableOf, opened}
+
+pub record Passes (m : Map) : Type 0 where
+  pub accepted? : replays (m .lines) ≡ true
+  pub no-splits : all isNoSplit (drop (m .lines .count) (m .lines .splits)) ≡ true
+  pub no-values : all isZero (drop (length (liveOf (layoutOf (m .lines)))) (m .values)) ≡ true
+
+module _ (m : Map) where
+  pub good-passes : good m ≡ true → Passes m
+  unfolding good
+  good-passes e =
+      let a = and-both _ (all isZero (drop (length (liveOf (layoutOf (m .lines)))) (m .values))) e in
+      let b = and-both (replays (m .lines)) (all isNoSplit (drop (m .lines .count) (m .lines .splits))) (a .0) in
+      record { accepted? = b .0; no-splits = b .1; no-values = a .1 }
+
+  pub passes-good : Passes m → good m ≡ true
+  unfolding good
+  passes-good p = rw (p .accepted?, p .no-splits, p .no-values)
+
+  -- a record that fails a test is refused, and one that passes them all is opened
+  pub not-opened : (Passes m → ⊥) → opened m ≡ record { number = 2; map = m; table = table [] }
+  unfolding opened tableOf
+  not-opened f = rw (false-of (good m) (λ e. f (good-passes e)))
+
+  pub is-opened : Passes m → opened m ≡ record { number = 0; map = m; table = table (liveOf (layoutOf (m .lines))) }
+  unfolding opened tableOf plain
+  is-opened p = rw (passes-good p)
+
+  pub good-table : good m ≡ true → tableOf m ≡ table (blends (plain m))
+  unfolding tableOf
+  good-table e = cond-true _ _ _ e
+
+-- what it says that lines were replayed
+module _ (L : Lines) {r : Replayed} (e : r ≡ replayed L) where
+  pub replay-says : r .good ≡ replays L
+  unfolding replayed
+  replay-says = ap (λ (x : Replayed). x .good) e ∙ ⊎-elim (λ q. rw q) (λ q. rw q) (either (replays L))
+
+  pub replay-table : r .good ≡ true → r .table ≡ table (liveOf (layoutOf L))
+  unfolding replayed
+  replay-table f = ap (λ (x : Replayed). x .table) (e ∙ cond-true _ _ _ (sym replay-says ∙ f))

@@ -1,0 +1,304 @@
+// A record opened: its splits are replayed once, as exact splits, and the table of its live blends stands beside it. Every call on a map starts with
+// `open`. What goes on from an opened record is the rest of a call, after the test of the record; it is open to the crates above, so that who has
+// read a map from its file does not replay it again.
+use crate::Changed;
+use crate::Map;
+use crate::Placed;
+use crate::Reading;
+use crate::Same;
+use crate::Weights;
+use crate::calls::in_domain;
+use crate::calls::no_place;
+use crate::calls::no_weights;
+use crate::carry::carried_values;
+use crate::sameness::same_maps;
+use crate::splits::Step;
+use crate::splits::exact_step;
+use crate::splits::lengthened_step;
+use crate::values::place_of;
+use crate::values::reading_of;
+use crate::values::shape_of;
+use crate::values::weights_of;
+use axis::Triple;
+use mesh::Blend;
+use mesh::Split;
+use mesh::Table;
+use mesh::replay::replay;
+ghost use mathlib.Core.Path.{_≡_};
+ghost use mathlib.Core.List.{[]};
+ghost use mathlib.Core.Bool.{true};
+ghost use Prim.Native.Nat.{_<_};
+ghost use lib.Dec.{eqb};
+ghost use lib.ListN.{drop};
+ghost use Rattle.axis.specs.Range.{all};
+ghost use Rattle.mesh.specs.Sound.{table};
+ghost use Rattle.mesh.specs.Splits.{withLine, liveOf, soundWith};
+ghost use Rattle.maps.specs.Record.{isNoSplit, isZero, good, plain, recordOf};
+ghost use Rattle.maps.specs.Values.{drawn};
+ghost use Rattle.maps.specs.Calls.{changed, setValue, tablePlace, reading, weights, exactSplit, lengthenedSplit};
+ghost use Rattle.maps.specs.Sameness.{sameness};
+ghost use Rattle.maps.specs.Opened.{withTable, opened, Opens};
+ghost use Rattle.maps.specs.Inner.{Drawable, drawnBy};
+
+// A number, a map, and the table of its live blends; an empty one where its record is not good.
+pub struct Opened {
+    pub number: usize,
+    pub map: Map,
+    pub table: Table,
+}
+
+// Whether a split is zero.
+fn no_split(s: Split) -> bool
+    ensures { λ r. ⌜ r ≡ isNoSplit s ⌝ }
+{
+    if s.direction != 0 {
+        return false;
+    }
+    if s.position != 0 {
+        return false;
+    }
+    if s.from != 0 {
+        return false;
+    }
+    s.to == 0
+}
+
+// Whether the splits from a place on are all zero.
+fn no_splits_from(splits: [Split; 60], from: usize) -> bool
+    ensures { λ r. ⌜ r ≡ all isNoSplit (drop from splits) ⌝ }
+{
+    let mut i = from;
+    while i < 60 {
+        let s = splits[i];
+        if !no_split(s) {
+            return false;
+        }
+        i += 1;
+    }
+    true
+}
+
+// Whether the values from a place on are all zero.
+fn no_values_from(values: [u16; 1024], from: usize) -> bool
+    ensures { λ r. ⌜ r ≡ all (λ v. eqb v 0) (drop from values) ⌝ }
+{
+    let mut i = from;
+    while i < 1024 {
+        if values[i] != 0 {
+            return false;
+        }
+        i += 1;
+    }
+    true
+}
+
+// A table without blends.
+fn no_table() -> Table
+    ensures { λ r. ⌜ r ≡ table [] ⌝ }
+{
+    let zero = Triple { l: 0, m: 0, r: 0 };
+    let none = Blend {
+        across: zero,
+        up: zero,
+    };
+    Table {
+        count: 0,
+        blends: [none; 1024],
+    }
+}
+
+// Opens a record: 2 where it is not good.
+pub fn open(map: Map) -> Opened
+    ensures { λ r. ⌜ r ≡ opened map ⌝ }
+{
+    let refused = Opened {
+        number: 2,
+        map: map,
+        table: no_table(),
+    };
+    let lines = map.lines;
+    let found = replay(lines);
+    if !found.good {
+        return refused;
+    }
+    let splits = lines.splits;
+    if !no_splits_from(splits, lines.count) {
+        return refused;
+    }
+    let table = found.table;
+    let values = map.values;
+    if !no_values_from(values, table.count) {
+        return refused;
+    }
+    Opened {
+        number: 0,
+        map: map,
+        table: table,
+    }
+}
+
+// The number and the map alone.
+pub(crate) fn without_table(o: Opened) -> Changed
+    ensures { λ r. ⌜ r ≡ changed (o .number) (o .map) ⌝ }
+{
+    let map = o.map;
+    Changed {
+        number: o.number,
+        map: map,
+    }
+}
+
+// The same map with a number.
+fn numbered(o: Opened, number: usize) -> Opened
+    ensures { λ r. ⌜ r ≡ record { number = number; map = o .map; table = o .table } ⌝ }
+{
+    let mut next = o;
+    next.number = number;
+    next
+}
+
+// The map with a split's line drawn, or the split's refusal.
+fn after_step(o: Opened, step: Step) -> Opened
+    requires { ⌜ Opens o × Drawable (o .map) step ⌝ }
+    ensures { λ r. ⌜ r ≡ withTable (drawnBy (o .map) step) ⌝ }
+{
+    if step.number != 0 {
+        return numbered(o, step.number);
+    }
+    let map = o.map;
+    let mut lines = map.lines;
+    let old = o.table;
+    let new = step.table;
+    let split = step.split;
+    let at = lines.count;
+    lines.splits[at] = split;
+    lines.count = at + 1;
+    let values = map.values;
+    let carried = carried_values(old, values, new, lines.w, lines.h);
+    Opened {
+        number: 0,
+        map: Map {
+            lines: lines,
+            values: carried,
+        },
+        table: new,
+    }
+}
+
+impl Opened {
+    // The rest of `Map::place`.
+    pub fn place(self, i: usize) -> Placed
+        requires { ⌜ Opens self ⌝ }
+        ensures { λ r. ⌜ r ≡ tablePlace (self .map) i ⌝ }
+    {
+        let table = self.table;
+        if table.count <= i {
+            return no_place(9);
+        }
+        let x = table.blends[i];
+        let map = self.map;
+        Placed {
+            number: 0,
+            blend: shape_of(x),
+            value: map.values[i] as usize,
+        }
+    }
+
+    // The rest of `Map::reading`.
+    pub fn reading(self, u: usize, v: usize) -> Reading
+        requires { ⌜ Opens self ⌝ }
+        ensures { λ r. ⌜ r ≡ reading (self .map) u v ⌝ }
+    {
+        let map = self.map;
+        let w = map.lines.w;
+        let h = map.lines.h;
+        if !in_domain(w, h, u, v) {
+            return Reading {
+                number: 10,
+                litres: 0,
+            };
+        }
+        let table = self.table;
+        let values = map.values;
+        Reading {
+            number: 0,
+            litres: reading_of(table, values, w, h, u, v),
+        }
+    }
+
+    // The rest of `Map::weights`.
+    pub fn weights(self, u: usize, v: usize) -> Weights
+        requires { ⌜ Opens self ⌝ }
+        ensures { λ r. ⌜ r ≡ weights (self .map) u v ⌝ }
+    {
+        let map = self.map;
+        let w = map.lines.w;
+        let h = map.lines.h;
+        if !in_domain(w, h, u, v) {
+            return no_weights(10);
+        }
+        let table = self.table;
+        weights_of(table, w, h, u, v)
+    }
+
+    // The rest of `Map::set`.
+    pub fn set(self, m: usize, n: usize, value: u16) -> Opened
+        requires { ⌜ Opens self ⌝ }
+        ensures { λ r. ⌜ r ≡ withTable (setValue (self .map) m n value) ⌝ }
+    {
+        // An anchor lies within the sides, so that its knots fit.
+        if Map::LARGEST_SIDE < m {
+            return numbered(self, 9);
+        }
+        if Map::LARGEST_SIDE < n {
+            return numbered(self, 9);
+        }
+        let table = self.table;
+        let place = place_of(table, m + 1, n + 1);
+        if table.count <= place {
+            return numbered(self, 9);
+        }
+        let mut map = self.map;
+        map.values[place] = value;
+        Opened {
+            number: 0,
+            map: map,
+            table: table,
+        }
+    }
+
+    // The rest of `Map::exact_split`.
+    pub fn exact_split(self, s: Split) -> Opened
+        requires { ⌜ Opens self ⌝ }
+        ensures { λ r. ⌜ r ≡ withTable (exactSplit (self .map) s) ⌝ }
+    {
+        let map = self.map;
+        let lines = map.lines;
+        let table = self.table;
+        after_step(self, exact_step(lines, table, s))
+    }
+
+    // The rest of `Map::lengthened_split`.
+    pub fn lengthened_split(self, s: Split) -> Opened
+        requires { ⌜ Opens self ⌝ }
+        ensures { λ r. ⌜ r ≡ withTable (lengthenedSplit (self .map) s) ⌝ }
+    {
+        let map = self.map;
+        let lines = map.lines;
+        let table = self.table;
+        after_step(self, lengthened_step(lines, table, s))
+    }
+
+    // The rest of `Map::same`.
+    pub fn same(self, other: Opened) -> Same
+        requires { ⌜ Opens self × Opens other ⌝ }
+        ensures { λ r. ⌜ r ≡ sameness (self .map) (other .map) ⌝ }
+    {
+        let mine = self.map;
+        let theirs = other.map;
+        Same {
+            number: 0,
+            yes: same_maps(mine, self.table, theirs, other.table),
+        }
+    }
+}
