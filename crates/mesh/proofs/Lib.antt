@@ -1,4 +1,5 @@
 pub mod Bytes
+pub mod Arrays
 pub mod Cuts
 pub mod Order
 pub mod Tables

@@ -4,12 +4,13 @@ use native.Mathlib.Omega.{arith}
 use mathlib.Core.Path.{_≡_, refl, sym, ap, _∙_}
 use mathlib.Core.Bool.{true, false, _||_}
 use mathlib.Core.List.{_∷_}
-use lib.ListN.{drop, getD, length, length-map}
+use lib.ListN.{drop, getD}
 use Rattle.axis.specs.Range.{any}
 use Rattle.mesh.specs.Lines.{upright, level}
 use Rattle.mesh.specs.Blends.{isCut}
 use Rattle.mesh.specs.Sound.{none, blendsOf}
 use Rattle.mesh.specs.Bytes.{bytesMesh, Proper}
+use Rattle.mesh.proofs.Arrays.{table-full}
 use Rattle.mesh.proofs.Cutting.{blends-turn, blends-end, blends-proper}
 use Rattle.mesh.proofs.Refining.{some-line, no-line}
 use Rattle.mesh.proofs.cut.any_cut.Statement.{statement}
@@ -26,25 +27,21 @@ abbrev μ-loop : tie.MeasureT-loop
 loop-holds : tie.Need-loop-holds Inv-loop μ-loop
 loop-holds c = (omega arith, refl)
 
-full : (c : tie.In-loop Inv-loop μ-loop) → length (c .before .before .before .before .args .t3 .blends) ≡ 1024
-full c = simp length-map at (c .before .before .before .before .good .1 .1 .0 .1 .1 .1 .0 .1 .0 .1)
-
 -- the next blend, and those behind it
 turn : (c : tie.In-loop Inv-loop μ-loop) →
     let l = c .before .loop in
     let a = c .before .before .before .before .args in
     drop (l .i) (blendsOf (a .t3)) ≡ getD (a .t3 .blends) (l .i) none ∷ drop (l .i + 1) (blendsOf (a .t3))
 turn c =
-    let n = full c in
-    blends-turn (c .before .before .before .before .args .t3) (c .before .loop .i) (omega arith) (omega arith)
+    let s = c .before .before .before .before in
+    blends-turn (s .args .t3) (c .before .loop .i) (omega arith) (omega (arith, table-full (s .args .t3) (s .good .1 .1 .0)))
 
 -- it rises, as the searches for a line ask
 next-proper : (c : tie.In-loop Inv-loop μ-loop) →
     Proper (getD (c .before .before .before .before .args .t3 .blends) (c .before .loop .i) none)
 next-proper c =
     let s = c .before .before .before .before in
-    let n = full c in
-    blends-proper (s .args .t3) (c .before .loop .i) (s .pre .3) (omega arith) (omega arith)
+    blends-proper (s .args .t3) (c .before .loop .i) (s .pre .3) (omega arith) (omega (arith, table-full (s .args .t3) (s .good .1 .1 .0)))
 
 -- the whole answer, by whether it is cut
 answer-turn : (c : tie.In-loop Inv-loop μ-loop) →

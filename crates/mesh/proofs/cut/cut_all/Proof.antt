@@ -3,11 +3,12 @@ use Prim.Native.Nat.{_+_, _-_, _≤_}
 use native.Mathlib.Omega.{arith}
 use mathlib.Core.Path.{_≡_, refl, _∙_}
 use mathlib.Core.List.{_∷_}
-use lib.ListN.{drop, getD, length, length-map}
+use lib.ListN.{drop, getD, length}
 use Rattle.mesh.specs.Blends.{leavesOf}
 use Rattle.mesh.specs.Sound.{none, blendsOf}
 use Rattle.mesh.specs.Bytes.{bytesMesh, keepAll}
 use Rattle.axis.proofs.Tests.{true-not-false}
+use Rattle.mesh.proofs.Arrays.{table-full}
 use Rattle.mesh.proofs.Cutting.{blends-turn, blends-end, blends-proper, cut-first}
 use Rattle.mesh.proofs.cut.cut_all.Statement.{statement}
 use Rattle.mesh.proofs.cut.cut_all.Tie as tie
@@ -23,17 +24,14 @@ abbrev μ-loop : tie.MeasureT-loop
 loop-holds : tie.Need-loop-holds Inv-loop μ-loop
 loop-holds c = (omega arith, refl, refl)
 
-full : (c : tie.In-loop Inv-loop μ-loop) → length (c .before .before .before .before .before .args .t3 .blends) ≡ 1024
-full c = simp length-map at (c .before .before .before .before .before .good .1 .1 .0 .1 .1 .1 .0 .1 .0 .1)
-
 -- the next blend, and those behind it
 turn : (c : tie.In-loop Inv-loop μ-loop) →
     let l = c .before .loop in
     let a = c .before .before .before .before .before .args in
     drop (l .i) (blendsOf (a .t3)) ≡ getD (a .t3 .blends) (l .i) none ∷ drop (l .i + 1) (blendsOf (a .t3))
 turn c =
-    let n = full c in
-    blends-turn (c .before .before .before .before .before .args .t3) (c .before .loop .i) (omega arith) (omega arith)
+    let s = c .before .before .before .before .before in
+    blends-turn (s .args .t3) (c .before .loop .i) (omega arith) (omega (arith, table-full (s .args .t3) (s .good .1 .1 .0)))
 
 mul-x : tie.Need-mul-x Inv-loop μ-loop
 mul-x c = omega arith
@@ -45,7 +43,7 @@ cut-across-requires : tie.Need-cut-across-requires Inv-loop μ-loop
 cut-across-requires c κs =
     let l = c .before .before .before .loop in
     let b = c .before .before .before .before .before .before .before in
-    let n = full (c .before .before) in (
+    let n = table-full (b .args .t3) (b .good .1 .1 .0) in (
       b .pre .0,
       b .pre .1,
       l .inv .1 ∙ b .pre .2,

@@ -4,11 +4,12 @@ use native.Mathlib.Omega.{arith}
 use mathlib.Core.Path.{_≡_, sym, _∙_}
 use mathlib.Core.Logic.{⊎-elim}
 use mathlib.Core.List.{_∷_}
-use lib.ListN.{drop, getD, length, length-map}
+use lib.ListN.{drop, getD}
 use Rattle.mesh.specs.Lines.{direction}
 use Rattle.mesh.specs.Blends.{cuts}
 use Rattle.mesh.specs.Sound.{none, blendsOf}
 use Rattle.mesh.specs.Bytes.{bytesMesh, Proper}
+use Rattle.mesh.proofs.Arrays.{table-full}
 use Rattle.mesh.proofs.Cutting.{blends-turn, blends-end, blends-proper}
 use Rattle.mesh.proofs.Recutting.{Clearing, clearing-none, clearing-cut, clearing-pass, clearing-done}
 use Rattle.mesh.proofs.replay.clear_cut.Statement.{statement}
@@ -24,23 +25,19 @@ abbrev μ-loop : tie.MeasureT-loop
 loop-holds : tie.Need-loop-holds Inv-loop μ-loop
 loop-holds c = (omega arith, clearing-none _ _ _)
 
-full : (c : tie.In-loop Inv-loop μ-loop) → length (c .before .before .before .before .before .args .t5 .blends) ≡ 1024
-full c = simp length-map at (c .before .before .before .before .before .good .1 .1 .1 .1 .0 .1 .1 .1 .0 .1 .0 .1)
-
 -- the next blend, and those behind it
 turn : (c : tie.In-loop Inv-loop μ-loop) →
     let l = c .before .loop in
     let a = c .before .before .before .before .before .args in
     drop (l .i) (blendsOf (a .t5)) ≡ getD (a .t5 .blends) (l .i) none ∷ drop (l .i + 1) (blendsOf (a .t5))
 turn c =
-    let n = full c in
-    blends-turn (c .before .before .before .before .before .args .t5) (c .before .loop .i) (omega arith) (omega arith)
+    let s = c .before .before .before .before .before in
+    blends-turn (s .args .t5) (c .before .loop .i) (omega arith) (omega (arith, table-full (s .args .t5) (s .good .1 .1 .1 .1 .0)))
 
 next-proper : (c : tie.In-loop Inv-loop μ-loop) → Proper (getD (c .before .before .before .before .before .args .t5 .blends) (c .before .loop .i) none)
 next-proper c =
     let s = c .before .before .before .before .before in
-    let n = full c in
-    blends-proper (s .args .t5) (c .before .loop .i) (s .pre .5) (omega arith) (omega arith)
+    blends-proper (s .args .t5) (c .before .loop .i) (s .pre .5) (omega arith) (omega (arith, table-full (s .args .t5) (s .good .1 .1 .1 .1 .0)))
 
 mul-x : tie.Need-mul-x Inv-loop μ-loop
 mul-x c = omega arith
