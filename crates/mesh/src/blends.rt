@@ -17,6 +17,7 @@ ghost use mathlib.Core.Path.{_≡_};
 ghost use mathlib.Core.Bool.{_&&_};
 ghost use Prim.Native.Nat.{_≤_};
 ghost use lib.Dec.{leb};
+ghost use Rattle.axis.specs.Limits.{largestSide, mostBlends};
 ghost use Rattle.axis.specs.Range.{all};
 ghost use Rattle.mesh.specs.Lines.{allowed};
 ghost use Rattle.axis.specs.Triple as triples;
@@ -25,13 +26,13 @@ ghost use Rattle.mesh.specs.Sound.{proper, blendsOf, table, refined, som
 
 // Whether the lines and the table's blends keep to their ranges.
 fn in_ranges(lines: Lines, old: Table) -> bool
-    ensures { λ r. ⌜ r ≡ (allowed lines && leb (old .count) 1024 && all (proper (lines .w) (lines .h)) (blendsOf old)) ⌝ }
+    ensures { λ r. ⌜ r ≡ (allowed lines && leb (old .count) mostBlends && all (proper (lines .w) (lines .h)) (blendsOf old)) ⌝ }
 {
     if !allowed_lines(lines) {
         return false;
     }
     let count = old.count;
-    if 1024 < count {
+    if Table::MOST_BLENDS < count {
         return false;
     }
     proper_table(old, lines.w, lines.h)
@@ -60,7 +61,7 @@ pub fn refine(lines: Lines, old: Table) -> Refined
 
 // The two triples of the first blends, on one axis.
 fn low(side: usize) -> Triple
-    requires { ⌜ side ≤ 128 ⌝ }
+    requires { ⌜ side ≤ largestSide ⌝ }
     ensures { λ r. ⌜ r ≡ triples.low side ⌝ }
 {
     Triple {
@@ -71,7 +72,7 @@ fn low(side: usize) -> Triple
 }
 
 fn high(side: usize) -> Triple
-    requires { ⌜ side ≤ 128 ⌝ }
+    requires { ⌜ side ≤ largestSide ⌝ }
     ensures { λ r. ⌜ r ≡ triples.high side ⌝ }
 {
     Triple {
@@ -83,7 +84,7 @@ fn high(side: usize) -> Triple
 
 // The first four blends.
 pub(crate) fn first_four(w: usize, h: usize) -> Table
-    requires { ⌜ (w ≤ 128) × (h ≤ 128) ⌝ }
+    requires { ⌜ (w ≤ largestSide) × (h ≤ largestSide) ⌝ }
     ensures { λ r. ⌜ r ≡ table (firstFour w h) ⌝ }
 {
     let mut t = refusal().table;

@@ -1,4 +1,5 @@
 // Judging by area whether the live blends of a map make it sound: four over every unit square add up to four times the domain.
+use crate::Lines;
 use crate::Table;
 use axis::supports::steps_in;
 ghost use mathlib.Core.Path.{_≡_};
@@ -10,14 +11,14 @@ ghost use Rattle.mesh.specs.Sound as sounds;
 pub fn full(table: Table, w: usize, h: usize) -> bool
     ensures { λ r. ⌜ r ≡ sounds.full w h table ⌝ }
 {
-    if 128 < w {
+    if Lines::LARGEST_SIDE < w {
         return false;
     }
-    if 128 < h {
+    if Lines::LARGEST_SIDE < h {
         return false;
     }
     let count = table.count;
-    if 1024 < count {
+    if Table::MOST_BLENDS < count {
         return false;
     }
     let mut sum = 0;

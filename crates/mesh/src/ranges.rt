@@ -14,7 +14,7 @@ pub fn within_sides(table: Table, w: usize, h: usize) -> bool
     if !allowed_side(h) {
         return false;
     }
-    if 1024 < table.count {
+    if Table::MOST_BLENDS < table.count {
         return false;
     }
     proper_table(table, w, h)
