@@ -11,7 +11,7 @@ use crate::values::reading_of;
 use crate::values::shape_of;
 use crate::values::weights_of;
 use mesh::Table;
-use mesh::ranges::within_sides;
+use mesh::tables::within_sides;
 ghost use mathlib.Core.Path.{_≡_};
 ghost use mathlib.Core.Bool.{_&&_};
 ghost use lib.Dec.{leb};

@@ -4,7 +4,7 @@ use mesh::Split;
 use mesh::Table;
 use mesh::blends::refine;
 use mesh::blends::some_cut;
-use mesh::judge::full;
+use mesh::tables::full;
 use mesh::points::ends_on_lines;
 use mesh::points::fits_sides;
 use mesh::points::shares_stretch;

@@ -6,7 +6,6 @@ use crate::knots::place;
 use crate::steps::covers;
 use axis::Triple;
 use axis::supports::lower_half;
-use axis::supports::rises;
 use axis::supports::upper_half;
 ghost use mathlib.Core.Path.{_≡_};
 ghost use mathlib.Core.Bool.{true, cond};
@@ -157,26 +156,6 @@ fn cut_up(uprights: &[u8], levels: &[u8], x: Blend, tried: bool, places: &mut [u
         return;
     }
     cut_across(uprights, levels, x, true, places);
-}
-
-// Whether the table's blends all rise within the sides.
-pub(crate) fn proper_table(table: Table, w: usize, h: usize) -> bool
-    requires { ⌜ (table .count ≤ mostBlends) × (w ≤ largestSide) × (h ≤ largestSide) ⌝ }
-    ensures { λ r. ⌜ r ≡ all (proper w h) (blendsOf table) ⌝ }
-{
-    let count = table.count;
-    let mut i = 0;
-    while i < count {
-        let x = table.blends[i];
-        if !rises(x.across, w) {
-            return false;
-        }
-        if !rises(x.up, h) {
-            return false;
-        }
-        i += 1;
-    }
-    true
 }
 
 // Cuts every blend of a table to the end and keeps what is left.

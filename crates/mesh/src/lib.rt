@@ -2,13 +2,12 @@
 
 pub mod blends;
 mod cut;
-pub mod judge;
 pub mod knots;
 pub mod points;
-pub mod ranges;
 mod read;
 pub mod replay;
 mod steps;
+pub mod tables;
 
 use axis::Triple;
 

@@ -1,55 +1,16 @@
 // Reading the kept blends out in table order.
-use crate::Blend;
 use crate::Refined;
 use crate::Table;
-use axis::Triple;
+use crate::knots::unpack;
+use crate::tables::nothing;
+use crate::tables::refusal;
 ghost use mathlib.Core.Path.{_≡_};
 ghost use mathlib.Core.Bool.{cond};
 ghost use Prim.Native.Nat.{_+_, _≤_, _<_};
 ghost use lib.Dec.{eqb};
 ghost use lib.ListN.{length, getD};
 ghost use Rattle.axis.specs.Limits.{largestSide};
-ghost use Rattle.mesh.specs.Sound.{none};
-ghost use Rattle.mesh.specs.Bytes.{Square, Idle, unpacked, walk, listed, refused};
-
-// The blend that a place holds, taken apart.
-fn unpack(m: usize, n: usize, c: u32) -> Blend
-    requires { ⌜ (m ≤ 130) × (n ≤ 130) ⌝ }
-    ensures { λ r. ⌜ r ≡ unpacked m n c ⌝ }
-{
-    Blend {
-        across: Triple {
-            l: (c / 16777216) as u8,
-            m: m as u8,
-            r: (c / 65536 % 256) as u8,
-        },
-        up: Triple {
-            l: (c / 256 % 256) as u8,
-            m: n as u8,
-            r: (c % 256) as u8,
-        },
-    }
-}
-
-// An unused place of a table.
-fn nothing() -> Blend
-    ensures { λ r. ⌜ r ≡ none ⌝ }
-{
-    unpack(0, 0, 0)
-}
-
-// The answer where a table does not hold the blends.
-pub(crate) fn refusal() -> Refined
-    ensures { λ r. ⌜ r ≡ refused ⌝ }
-{
-    Refined {
-        fits: false,
-        table: Table {
-            count: 0,
-            blends: [nothing(); Table::MOST_BLENDS],
-        },
-    }
-}
+ghost use Rattle.mesh.specs.Bytes.{Square, Idle, walk, listed};
 
 // The knot from which a column of places is read: a column without a mark has none.
 fn first_row(marks: &[u8], m: usize, h: usize) -> usize

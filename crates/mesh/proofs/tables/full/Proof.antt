@@ -1,4 +1,4 @@
--- `mesh::judge::full` meets its contract. The invariant: the sum so far, with the areas of the blends that are left, is the whole sum.
+-- `mesh::tables::full` meets its contract. The invariant: the sum so far, with the areas of the blends that are left, is the whole sum.
 use borrow.Author.Needs.{needs}
 use borrow.Author.Tests.{le-leb, lt-leb}
 use native.Mathlib.Omega.{arith}
@@ -13,8 +13,8 @@ use Rattle.mesh.specs.Sound.{none, blendsOf, area, areas, full}
 use Rattle.mesh.specs.declared.Blend.{Blend}
 use Rattle.mesh.proofs.Arrays.{table-full}
 use Rattle.mesh.proofs.Cutting.{blends-turn, blends-end}
-use Rattle.mesh.proofs.judge.full.Statement.{statement}
-use Rattle.mesh.proofs.judge.full.Tie as tie
+use Rattle.mesh.proofs.tables.full.Statement.{statement}
+use Rattle.mesh.proofs.tables.full.Tie as tie
 
 product-most : (a b : ℕ) → a ≤ 128 → b ≤ 128 → a * b ≤ 16384
 product-most a b p q = le-trans (mul-le-mul-right b p) (mul-le-mul-left 128 q)

@@ -1,4 +1,4 @@
--- `mesh::cut::proper_table` meets its contract. The invariant: the blends that remain decide the whole answer.
+-- `mesh::tables::proper_table` meets its contract. The invariant: the blends that remain decide the whole answer.
 use Prim.Native.Nat.{_≤_, _+_, _-_}
 use native.Mathlib.Omega.{arith}
 use mathlib.Core.Path.{_≡_, refl, sym, ap, _∙_}
@@ -9,8 +9,8 @@ use Rattle.mesh.specs.Sound.{proper, blendsOf, none}
 use Rattle.axis.proofs.Tests.{failed, passed}
 use Rattle.mesh.proofs.Arrays.{table-full}
 use Rattle.mesh.proofs.Cutting.{blends-turn, blends-end}
-use Rattle.mesh.proofs.cut.proper_table.Statement.{statement}
-use Rattle.mesh.proofs.cut.proper_table.Tie as tie
+use Rattle.mesh.proofs.tables.proper_table.Statement.{statement}
+use Rattle.mesh.proofs.tables.proper_table.Tie as tie
 
 abbrev Inv-loop : tie.InvT-loop
 Inv-loop w h table count i₀ i =
