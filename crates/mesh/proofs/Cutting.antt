@@ -6,6 +6,10 @@ use mathlib.Core.Path.{_≡_, refl, sym, ap, _∙_}
 use mathlib.Core.Bool.{Bool, true, false, cond}
 use mathlib.Core.List.{List, [], _∷_, _++_}
 use lib.ListN.{length, getD, set, drop}
+use mir.Val.{Val}
+use denote.Shadow.{shadow}
+use denote.Struct.Declared.{row}
+use Rattle.axis.specs.Limits.{largestSide, mostBlends}
 use Rattle.axis.specs.Range.{every, all}
 use Rattle.axis.specs.Triple.{Side, lower, upper, half}
 use Rattle.mesh.specs.Lines.{Direction, upright, level, other, Mesh}
@@ -17,6 +21,8 @@ use Rattle.axis.specs.declared.Triple.{Triple}
 use Rattle.mesh.specs.declared.Blend.{Blend}
 use Rattle.axis.proofs.Tests.{all-at, all-of}
 use Rattle.axis.proofs.Entries.{none-left, left-turn, left-mem}
+use Rattle.mesh.proofs.Table.{the-type}
+use Rattle.mesh.proofs.Arrays.{table-full}
 use Rattle.mesh.proofs.Cuts.{put, halve-own, cut-fact, cutter-cuts, riseB-of, halve-proper, halve-smaller, proper-facts, proper-wider, proper-of as proper-test}
 
 -- whether the line at a knot covers the n steps from knot b on
@@ -132,8 +138,16 @@ module _ (t : Table) (i : ℕ) where
   pub blends-end : t .count ≤ i → drop i (blendsOf t) ≡ []
   blends-end = none-left (t .blends) (t .count) i
 
-  -- the next one is proper if all are
-  pub blends-proper : all (proper 128 128) (blendsOf t) ≡ true → i < t .count → t .count ≤ length (t .blends) →
-      Proper (getD (t .blends) i none)
-  blends-proper e lt le =
-      proper-facts 128 128 _ (all-at (proper 128 128) (blendsOf t) e _ (left-mem (t .blends) (t .count) i le none lt))
+  -- the next one with those behind it, and that it is proper, as all of them are
+  pub record Next : Type 0 where
+    pub turn : drop i (blendsOf t) ≡ getD (t .blends) i none ∷ drop (i + 1) (blendsOf t)
+    pub proper : Proper (getD (t .blends) i none)
+
+  pub next-blend : {vs : List Val} → shadow (row the-type .own t vs) → t .count ≤ mostBlends → all (proper largestSide largestSide) (blendsOf t) ≡ true →
+      i < t .count → Next
+  next-blend own few e lt =
+      let le : t .count ≤ length (t .blends) = omega (arith, table-full t own) in
+      record {
+        turn = blends-turn lt le;
+        proper = proper-facts _ _ _ (all-at (proper largestSide largestSide) (blendsOf t) e _ (left-mem (t .blends) (t .count) i le none lt));
+      }

@@ -2,14 +2,12 @@
 use Prim.Native.Nat.{_+_, _-_, _≤_}
 use native.Mathlib.Omega.{arith}
 use mathlib.Core.Path.{_≡_, refl, _∙_}
-use mathlib.Core.List.{_∷_}
-use lib.ListN.{drop, getD, length}
+use lib.ListN.{drop, length}
 use Rattle.mesh.specs.Blends.{leavesOf}
-use Rattle.mesh.specs.Sound.{none, blendsOf}
+use Rattle.mesh.specs.Sound.{blendsOf}
 use Rattle.mesh.specs.Bytes.{bytesMesh, keepAll}
 use Rattle.axis.proofs.Tests.{true-not-false}
-use Rattle.mesh.proofs.Arrays.{table-full}
-use Rattle.mesh.proofs.Cutting.{blends-turn, blends-end, blends-proper, cut-first}
+use Rattle.mesh.proofs.Cutting.{blends-end, Next, next-blend, cut-first}
 use Rattle.mesh.proofs.cut.cut_all.Statement.{statement}
 use Rattle.mesh.proofs.cut.cut_all.Tie as tie
 
@@ -24,14 +22,10 @@ abbrev μ-loop : tie.MeasureT-loop
 loop-holds : tie.Need-loop-holds Inv-loop μ-loop
 loop-holds c = (omega arith, refl, refl)
 
--- the next blend, and those behind it
-turn : (c : tie.In-loop Inv-loop μ-loop) →
-    let l = c .before .loop in
-    let a = c .before .before .before .before .before .args in
-    drop (l .i) (blendsOf (a .t3)) ≡ getD (a .t3 .blends) (l .i) none ∷ drop (l .i + 1) (blendsOf (a .t3))
-turn c =
+next : (c : tie.In-loop Inv-loop μ-loop) → Next (c .before .before .before .before .before .args .t3) (c .before .loop .i)
+next c =
     let s = c .before .before .before .before .before in
-    blends-turn (s .args .t3) (c .before .loop .i) (omega arith) (omega (arith, table-full (s .args .t3) (s .good .1 .1 .0)))
+    next-blend (s .args .t3) _ (s .good .1 .1 .0) (s .pre .3) (s .pre .4) (omega arith)
 
 mul-x : tie.Need-mul-x Inv-loop μ-loop
 mul-x c = omega arith
@@ -42,12 +36,11 @@ element-copy-out-x c = omega arith
 cut-across-requires : tie.Need-cut-across-requires Inv-loop μ-loop
 cut-across-requires c κs =
     let l = c .before .before .before .loop in
-    let b = c .before .before .before .before .before .before .before in
-    let n = table-full (b .args .t3) (b .good .1 .1 .0) in (
+    let b = c .before .before .before .before .before .before .before in (
       b .pre .0,
       b .pre .1,
       l .inv .1 ∙ b .pre .2,
-      blends-proper (b .args .t3) (l .i) (b .pre .4) (omega arith) (omega arith),
+      next (c .before .before) .proper,
       λ e. absurd (true-not-false _ e refl),
     )
 
@@ -67,7 +60,7 @@ loop-again c =
     (call .ensures) in (
       omega arith,
       call .kept .1 .1 .1 .1 .0 ∙ l .inv .1,
-      first ∙ (rw (turn (c .before .before .before .before .before)) at (l .inv .2)),
+      first ∙ (rw (next (c .before .before .before .before .before) .turn) at (l .inv .2)),
     )
 
 same-length : tie.Need-same-length Inv-loop μ-loop
