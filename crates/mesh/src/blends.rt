@@ -7,7 +7,7 @@ use crate::cut::any_cut;
 use crate::cut::cut_all;
 use crate::read::read_out;
 use crate::steps::allowed_lines;
-use crate::steps::draw_lines;
+use crate::steps::draw_mesh;
 use crate::tables::first_four;
 use crate::tables::full;
 use crate::tables::proper_table;
@@ -44,8 +44,7 @@ pub fn refine(lines: Lines, old: Table) -> Refined
     }
     let mut uprights = [0u8; 17161];
     let mut levels = [0u8; 17161];
-    draw_lines(lines, 0, &mut uprights);
-    draw_lines(lines, 1, &mut levels);
+    draw_mesh(lines, &mut uprights, &mut levels);
     let mut places = [0u32; 17161];
     cut_all(&uprights, &levels, old, &mut places);
     if places[0] != 0 {
@@ -90,7 +89,6 @@ pub fn some_cut(lines: Lines, old: Table) -> bool
     }
     let mut uprights = [0u8; 17161];
     let mut levels = [0u8; 17161];
-    draw_lines(lines, 0, &mut uprights);
-    draw_lines(lines, 1, &mut levels);
+    draw_mesh(lines, &mut uprights, &mut levels);
     any_cut(&uprights, &levels, old)
 }

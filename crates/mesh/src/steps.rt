@@ -8,7 +8,7 @@ ghost use Prim.Native.Nat.{ℕ, _+_, _≤_, _<_, max};
 ghost use Rattle.axis.specs.Limits.{largestSide};
 ghost use Rattle.axis.specs.Range.{every};
 ghost use Rattle.mesh.specs.Lines.{Direction, number, other, side, start, end, draws, allowedSide, fits, inRange, allowed, freshMesh, meshOf};
-ghost use Rattle.mesh.specs.Bytes.{Square, stepOn, Drawn, empty};
+ghost use Rattle.mesh.specs.Bytes.{Square, stepOn, bytesMesh, Drawn, empty};
 
 // Whether the line at knot z is on at each of the n steps from knot b on.
 pub(crate) fn covers(steps: &[u8], z: u8, b: u8, n: u8) -> bool
@@ -170,7 +170,7 @@ fn side_of(direction: usize, w: usize, h: usize) -> usize
 }
 
 // Draws the lines of one direction: the fresh map's, and each split's with its run-out.
-pub(crate) fn draw_lines(lines: Lines, direction: usize, steps: &mut [u8])
+fn draw_lines(lines: Lines, direction: usize, steps: &mut [u8])
     requires { ⌜ (allowed lines ≡ true) × (direction < 2) × (now steps ≡ empty) ⌝ }
     ensures { λ _. ⌜ Square (now (steps .exit)) ×
         ((d : Direction) → number d ≡ direction → (z k : ℕ) → stepOn (now (steps .exit)) z k ≡ meshOf lines d z k) ⌝ }
@@ -187,4 +187,14 @@ pub(crate) fn draw_lines(lines: Lines, direction: usize, steps: &mut [u8])
         draw_split(split, direction, run, steps);
         i += 1;
     }
+}
+
+// Draws the mesh of lines, over bytes with no lines.
+pub(crate) fn draw_mesh(lines: Lines, uprights: &mut [u8], levels: &mut [u8])
+    requires { ⌜ (allowed lines ≡ true) × (now uprights ≡ empty) × (now levels ≡ empty) ⌝ }
+    ensures { λ _. ⌜ Square (now (uprights .exit)) × Square (now (levels .exit)) ×
+        (bytesMesh (now (uprights .exit)) (now (levels .exit)) ≡ meshOf lines) ⌝ }
+{
+    draw_lines(lines, 0, uprights);
+    draw_lines(lines, 1, levels);
 }
