@@ -20,7 +20,7 @@ use Rattle.axis.specs.Range.{Distinct}
 use Rattle.axis.proofs.Scale.{Multiple, common, Scaled, scaled-times, scaled-total, scaled-more, scaled-multiple, scaled-equal, scaled-one, total-positive, sum, sum-same, sum-zero, sum-multiple, sum-linear, sum-single}
 use Rattle.axis.proofs.Hats.{hat-den, hat-middle, hat-off, step-positive, scaledHat, scaled-hat, two-scale, scaled-middle, scaled-off, first-two}
 use Rattle.axis.proofs.Triples.{Inside, rise-of}
-use Rattle.mesh.proofs.Cuts.{RiseB, proper-facts, proper-of, proper-rises, halve-proper, halve-smaller, size-positive, cut-fact, same-blend}
+use Rattle.mesh.proofs.Cuts.{proper-facts, proper-of, proper-rises, halve-proper, halve-smaller, size-positive, cut-fact, same-blend}
 use Rattle.mesh.proofs.Order.{left-front, left-itself}
 use Rattle.mesh.proofs.Places.{unnested}
 use Rattle.mesh.proofs.Fresh.{first-proper}

@@ -11,7 +11,6 @@ use Rattle.axis.specs.Triple.{triple, RisesIn}
 use Rattle.mesh.specs.Lines.{Direction, upright, level, Mesh}
 use Rattle.mesh.specs.Blends.{blend, cuts, leavesOf}
 use Rattle.mesh.specs.Sound.{table}
-use Rattle.axis.specs.declared.Triple.{Triple}
 use Rattle.mesh.specs.declared.Blend.{Blend}
 use Rattle.mesh.specs.declared.Refined.{Refined}
 
