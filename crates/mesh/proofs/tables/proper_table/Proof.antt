@@ -28,7 +28,7 @@ turn : (c : tie.In-loop Inv-loop μ-loop) →
 turn c =
     let l = c .before .loop in
     let a = c .before .before .args in
-    sym (l .inv .1) ∙ ap (all (proper (a .w) (a .h))) 
+    sym (l .inv .1) ∙ ap (all (proper (a .w) (a .h)))
     (blends-turn (a .t1) (l .i) (omega arith) (omega (arith, table-full (a .t1) (c .before .before .good .0))))
 
 loop-holds : tie.Need-loop-holds Inv-loop μ-loop
