@@ -18,7 +18,7 @@ use Rattle.axis.specs.Range.{all, Distinct}
 use Rattle.mesh.specs.Sound.{none, proper, sound, table, blendsOf}
 use Rattle.mesh.specs.Bytes.{at, place}
 use Rattle.axis.proofs.Tests.{either, all-of, and-of, true-not-false, cond-true, cond-false}
-use Rattle.mesh.proofs.Tables.{anchored-at}
+use Rattle.mesh.proofs.TableOrder.{anchored-at}
 use Rattle.mesh.proofs.Places.{proper-facts, at-inj}
 use Rattle.mesh.proofs.Live.{AllProper}
 use Rattle.mesh.proofs.Ascending.{OwnAnchors}

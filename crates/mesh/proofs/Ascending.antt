@@ -8,7 +8,7 @@ use Rattle.mesh.specs.Blends.{anchored, inTableOrder}
 use Rattle.mesh.specs.Bytes.{place}
 use Rattle.mesh.specs.declared.Blend.{Blend}
 use Rattle.axis.proofs.Tests.{each-mem, only-mem}
-use Rattle.mesh.proofs.Tables.{anchored-at}
+use Rattle.mesh.proofs.TableOrder.{anchored-at}
 use Rattle.axis.proofs.Distinct.{only-distinct, Ascending, each-ascending, lone}
 
 -- no two of the blends have one anchor

@@ -1,30 +1,76 @@
--- "A sound map so has at most 32 × 32 = 1,024 live blends": their anchors lie on line positions.
-use Prim.Native.Nat.{ℕ, _+_, _≤_, _<_}
+-- "A sound map so has at most 32 × 32 = 1,024 live blends": their anchors differ and lie on line positions.
+use Prim.Native.Nat.{ℕ, _+_, _-_, _*_, _≤_, _<_}
 use native.Mathlib.Omega.{arith}
-use native.Mathlib.Nat.{le-trans}
-use mathlib.Core.Path.{_≡_, refl, sym, subst}
+use native.Mathlib.Nat.{mul-le-mul-left, le-trans}
+use mathlib.Core.Path.{_≡_, refl, sym, ap, subst, _∙_}
 use mathlib.Core.Logic.{inl, inr, ⊎-elim}
 use mathlib.Core.Bool.{true, false, _&&_, _||_, or-true}
 use mathlib.Core.List.{List, [], _∷_, map, List·Memᴰ}
 use mathlib.Core.List.List·Memᴰ.{List·Memᴰ·head, List·Memᴰ·tail}
 use lib.Dec.{leb, ltb, eqb}
-use lib.ListN.{length, length-map}
-use borrow.Author.Tests.{eqb-true, eq-eqb, ne-eqb, lt-ltb}
-use Rattle.axis.specs.Range.{any, only}
+use lib.ListN.{length, length-append, length-map}
+use borrow.Author.Tests.{eqb-true, eq-eqb, ne-eqb, lt-ltb, leb-true, leb-false}
+use Rattle.axis.specs.Limits.{largestSide, mostSplits, mostBlends}
+use Rattle.axis.specs.Range.{any, only, joined, Distinct}
 use Rattle.mesh.specs.Lines.{Direction, upright, level, mesh, freshMesh, draws, start, end, number, other, side}
 use Rattle.mesh.specs.Blends.{crossed, live}
+use Rattle.mesh.specs.Bytes.{at, place}
 use Rattle.mesh.specs.Sound.{sound}
 use Rattle.mesh.specs.declared.Split.{Split}
 use Rattle.axis.specs.declared.Triple.{Triple}
 use Rattle.mesh.specs.declared.Blend.{Blend}
-use Rattle.axis.proofs.Tests.{either, and-both, and-of, or-either, or-left, any-at, mem-only}
+use Rattle.axis.proofs.Tests.{either, and-both, and-of, or-either, or-left, any-at, mem-only, mem-joined}
+use Rattle.axis.proofs.Distinct.{distinct-length, map-distinct}
+use Rattle.axis.proofs.Members.{map-mem, mem-map}
 use Rattle.axis.proofs.Triples.{Knots, First, is-low, is-high, AtFresh}
 use Rattle.mesh.proofs.Order.{OnLine, comes-on-lines}
 use Rattle.mesh.proofs.Cuts.{proper-facts}
+use Rattle.mesh.proofs.Places.{at-inj}
+use Rattle.mesh.proofs.Ascending.{OwnAnchors}
 use Rattle.mesh.proofs.Fresh.{first-four, firstFour-rises, first-crossed, fresh-positions}
-use Rattle.mesh.proofs.Few.{few, square-of-sum}
-use Rattle.axis.proofs.Members.{mem-map}
 use Rattle.mesh.proofs.SoundMaps.{live-left, live-proper, live-distinct, own-anchors}
+
+-- the places of all pairs of positions
+places : List ℕ → List ℕ → List ℕ
+places P Q = joined (λ m. map (at m) Q) P
+
+places-length : (P Q : List ℕ) → length (places P Q) ≡ length P * length Q
+unfolding places
+places-length [] Q = omega arith
+places-length (m ∷ P) Q =
+    length-append (map (at m) Q) (places P Q) ∙
+    (let e = length-map Q (at m) in let r = places-length P Q in omega (arith, e, r))
+
+-- blends whose anchors differ and lie on the positions P across and Q up
+few : (P Q : List ℕ) (bs : List Blend) → Distinct bs → OwnAnchors bs →
+    ((B : Blend) → List·Memᴰ B bs → List·Memᴰ (B .across .m) P × List·Memᴰ (B .up .m) Q × (B .up .m < 131)) →
+    length bs ≤ length P * length Q
+unfolding places
+few P Q bs d apart on =
+    subst₂-le (length-map bs place) (places-length P Q)
+    (distinct-length (map place bs) (places P Q)
+    (map-distinct place bs d
+    (λ B C mB mC e. let i = at-inj (B .across .m) (B .up .m) (C .across .m) (C .up .m) (on B mB .2) (on C mC .2) e in apart B C mB mC (i .0) (i .1)))
+    (λ y m.
+    let r = map-mem place bs y m in
+    let o = on (r .0) (r .1) in
+    subst (λ (u : ℕ). List·Memᴰ u (places P Q)) (sym (r .2)) (mem-joined (λ i. map (at i) Q) P (r .0 .across .m) (place (r .0)) (o .0) (mem-map (at (r .0 .across .m)) Q (r .0 .up .m) (o .1)))))
+  where
+    subst₂-le : {a b c e : ℕ} → a ≡ b → c ≡ e → a ≤ c → b ≤ e
+    subst₂-le p q h = omega arith
+
+-- "at most 32 × 32"
+most : (e y x : ℕ) → x + e ≡ 32 → y ≤ 32 + e → x * y ≤ 1024
+most e y x p q = le-trans (mul-le-mul-left x q) (omega (arith, ap (λ (u : ℕ). u * e) p, ap (λ (u : ℕ). u * 32) p))
+
+square-of-sum : (a b : ℕ) → a + b ≤ 60 → (2 + a) * (2 + b) ≤ 1024
+square-of-sum a b s =
+    ⊎-elim (λ t. let l = leb-true a 30 t in most (30 - a) (2 + b) (2 + a) (omega arith) (omega arith))
+    (λ t.
+    let l = leb-false a 30 t in
+    let c : (2 + a) * (2 + b) ≡ (2 + b) * (2 + a) = omega arith in
+    subst (λ (n : ℕ). n ≤ 1024) (sym c) (most (30 - b) (2 + a) (2 + b) (omega arith) (omega arith)))
+    (either (leb a 30))
 
 -- the fresh map's lines are lines of every map of its sides
 on-fresh : (w h : ℕ) (splits : List Split) (d : Direction) (z : ℕ) → AtFresh (side d w h) z → OnLine (mesh w h splits) d z
@@ -95,8 +141,8 @@ live-knots w h hw hh splits d B m =
     comes-on-lines d (firstFour-rises w h hw hh (l .0) (l .1))
     (first-on-lines w h splits d (crossed d (l .0)) (first-crossed w h d (l .0) (first-four w h (l .0) (l .1)))) (l .2 .comes)
 
-pub at-most : (w h : ℕ) → 1 ≤ w → 1 ≤ h → h ≤ 128 → (splits : List Split) → length splits ≤ 60 →
-    sound w h (live w h (mesh w h splits)) ≡ true → length (live w h (mesh w h splits)) ≤ 1024
+pub at-most : (w h : ℕ) → 1 ≤ w → 1 ≤ h → h ≤ largestSide → (splits : List Split) → length splits ≤ mostSplits →
+    sound w h (live w h (mesh w h splits)) ≡ true → length (live w h (mesh w h splits)) ≤ mostBlends
 unfolding positions
 at-most w h hw hh h128 splits sixty s =
     let L = live w h (mesh w h splits) in

@@ -1,6 +1,7 @@
 -- One blend: when it is proper, its cuts as facts, its halves, and the line that cuts first.
 use Prim.Native.Nat.{ℕ, _-_, _≤_, _<_}
 use native.Mathlib.Omega.{arith}
+use native.Mathlib.Nat.{mul-pos, mul-lt-mul-of-pos-left, mul-lt-mul-of-pos-right}
 use mathlib.Core.Path.{_≡_, refl, sym, ap, subst, _∙_}
 use mathlib.Core.Logic.{_⊎_, inl, inr, ⊎-elim}
 use mathlib.Core.Bool.{true, false, _&&_, not}
@@ -62,7 +63,7 @@ nested-facts B C e =
 
 -- a rising blend's support is not empty
 pub size-positive : (B : Blend) → RiseB B → 0 < size B
-size-positive B h = omega arith
+size-positive B h = mul-pos (omega arith) (omega arith)
 
 -- the support of C lies within that of B
 pub record WithinB (B C : Blend) : Type 0 where
@@ -125,8 +126,8 @@ halve-proper d s z B p i = proper-within p (halve-rises d s z B (riseB-of p) i) 
 
 pub halve-smaller : (d : Direction) (s : Side) (z : ℕ) (B : Blend) → RiseB B → Inside z (crossed d B) → size (halve d s z B) < size B
 unfolding halve
-halve-smaller upright s z B h i = omega (arith, half-narrower s z (B .across) (h .across) i)
-halve-smaller level s z B h i = omega (arith, half-narrower s z (B .up) (h .up) i)
+halve-smaller upright s z B h i = mul-lt-mul-of-pos-right (half-narrower s z (B .across) (h .across) i) (omega arith)
+halve-smaller level s z B h i = mul-lt-mul-of-pos-left (half-narrower s z (B .up) (h .up) i) (omega arith)
 
 -- Coverage passes to a half.
 pub halve-covered : (M : Mesh) (d e : Direction) (s : Side) (y z : ℕ) (B : Blend) → RiseB B → Inside z (crossed d B) → Covered M e y (along e B) →

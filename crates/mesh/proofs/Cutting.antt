@@ -6,6 +6,10 @@ use mathlib.Core.Path.{_≡_, refl, sym, ap, _∙_}
 use mathlib.Core.Bool.{Bool, true, false, cond}
 use mathlib.Core.List.{List, [], _∷_, _++_}
 use lib.ListN.{length, getD, set, drop}
+use mir.Val.{Val}
+use denote.Shadow.{shadow}
+use denote.Struct.Declared.{row}
+use Rattle.axis.specs.Limits.{largestSide, mostBlends}
 use Rattle.axis.specs.Range.{every, all}
 use Rattle.axis.specs.Triple.{Side, lower, upper, half}
 use Rattle.mesh.specs.Lines.{Direction, upright, level, other, Mesh}
@@ -15,8 +19,10 @@ use Rattle.mesh.specs.Sound.{proper, none, blendsOf}
 use Rattle.mesh.specs.declared.Table.{Table}
 use Rattle.axis.specs.declared.Triple.{Triple}
 use Rattle.mesh.specs.declared.Blend.{Blend}
-use Rattle.axis.proofs.Tests.{all-at, all-of}
+use Rattle.axis.proofs.Tests.{true-not-false, all-at, all-of}
 use Rattle.axis.proofs.Entries.{none-left, left-turn, left-mem}
+use Rattle.mesh.proofs.Table.{the-type}
+use Rattle.mesh.proofs.Arrays.{table-full}
 use Rattle.mesh.proofs.Cuts.{put, halve-own, cut-fact, cutter-cuts, riseB-of, halve-proper, halve-smaller, proper-facts, proper-wider, proper-of as proper-test}
 
 -- whether the line at a knot covers the n steps from knot b on
@@ -51,18 +57,47 @@ put-half : (d : Direction) (s : Side) (z : ℕ) (x : Blend) (t : Triple) → t �
 put-half d s z x t e = ap (put d x) e ∙ halve-own d x s z
 
 -- a proper blend, smaller than another
-pub record Smaller (x y : Blend) : Type 0 where
-  pub proper : Proper y
-  pub less : size y < size x
+record Smaller (x y : Blend) : Type 0 where
+  proper : Proper y
+  less : size y < size x
 
--- cutting both halves by the line that was found, one after the other, cuts the blend
-module _ (M : Mesh) (d : Direction) (x : Blend) (ok : Proper x) (z : ℕ) (found : z ≡ cutter M d x) (some : z ≡ 0 → ⊥) where
-  pub put-smaller : (s : Side) (t : Triple) → t ≡ half s z (crossed d x) → Smaller x (put d x t)
+-- What the recursion counts down: a half is smaller, and a blend is handed on as it is once at most.
+abbrev pub ahead : Blend → Bool → ℕ
+ahead x tried = size x + size x + cond tried 0 1
+
+half-ahead : {x y : Blend} (tried : Bool) (t : ℕ) → Smaller x y → ahead x tried ≡ t → ahead y false < t
+half-ahead {x} {y} tried t h e = fall (size x) (size y) (cond tried 0 1) e (h .less)
+  where
+    fall : (a b k : ℕ) → a + a + k ≡ t → b < a → b + b + 1 < t
+    fall a b k e h = omega arith
+
+pub handed-ahead : (x : Blend) (tried : Bool) (t : ℕ) → ahead x tried ≡ t → tried ≡ false → ahead x true < t
+handed-ahead x tried t e h = fall (size x) (rw h at e)
+  where
+    fall : (a : ℕ) → a + a + 1 ≡ t → a + a + 0 < t
+    fall a e = omega arith
+
+-- a line that cuts a proper blend, as the code finds it
+pub record Found (M : Mesh) (d : Direction) (x : Blend) (z : ℕ) : Type 0 where
+  pub ok : Proper x
+  pub is : z ≡ cutter M d x
+  pub some : z ≡ 0 → ⊥
+
+-- Cutting both halves, one after the other, cuts the blend; and a half may be handed on.
+module _ {M : Mesh} {d : Direction} {x : Blend} {z : ℕ} (F : Found M d x z) where
+  put-smaller : (s : Side) (t : Triple) → t ≡ half s z (crossed d x) → Smaller x (put d x t)
   put-smaller s t e =
       let y = cutter M d x in
-      let i = cut-fact M d y x (cutter-cuts M d x (riseB-of ok) (λ q. some (found ∙ q))) .inside in
-      rw (put-half d s z x t e, found)
-      (record { proper = halve-proper d s y x ok i; less = halve-smaller d s y x (riseB-of ok) i })
+      let rises = riseB-of (F .ok) in
+      let i = cut-fact M d y x (cutter-cuts M d x rises (λ q. F .some (F .is ∙ q))) .inside in
+      rw (put-half d s z x t e, F .is)
+      (record { proper = halve-proper d s y x (F .ok) i; less = halve-smaller d s y x rises i })
+
+  pub half-asks : (tried : Bool) (n : ℕ) → ahead x tried ≡ n → (s : Side) (t : Triple) → t ≡ half s z (crossed d x) →
+      (ahead (put d x t) false < n) × Proper (put d x t) × (false ≡ true → cutter M d (put d x t) ≡ 0)
+  half-asks tried n e s t h =
+      let less = put-smaller s t h in
+      (half-ahead tried n less e, less .proper, λ q. absurd (true-not-false _ q refl))
 
   pub cut-halves : (tried : Bool) (t u : Triple) (p q r : List ℕ) → (tried ≡ true → cutter M (other d) x ≡ 0) →
       t ≡ half lower z (crossed d x) → u ≡ half upper z (crossed d x) →
@@ -71,7 +106,7 @@ module _ (M : Mesh) (d : Direction) (x : Blend) (ok : Proper x) (z : ℕ) (found
   cut-halves tried t u p q r none e e' first second (suc f) le =
       second f (omega (arith, put-smaller upper u e' .less))
       ∙ ap (λ (l : List ℕ). keepAll l (leaves f M (other d) (put d x u))) (first f (omega (arith, put-smaller lower t e .less)))
-      ∙ rw (leaves-cut f M d x tried (λ q. some (found ∙ q)) none, keepAll-append, put-half d lower z x t e, put-half d upper z x u e', found)
+      ∙ rw (leaves-cut f M d x tried (λ q. F .some (F .is ∙ q)) none, keepAll-append, put-half d lower z x t e, put-half d upper z x u e', F .is)
 
 -- a blend that no line cuts is kept as it is
 pub cut-kept : (M : Mesh) (d : Direction) (x : Blend) (p q : List ℕ) → cutter M d x ≡ 0 → cutter M (other d) x ≡ 0 → q ≡ keep p x → Cut M d x p q
@@ -84,22 +119,6 @@ pub cut-first : (M : Mesh) (x : Blend) (xs : List Blend) (p q : List ℕ) → Cu
 unfolding leavesOf
 cut-first M x xs p q h =
     ap (λ (l : List ℕ). keepAll l (leavesOf M xs)) (h (size x) (omega arith)) ∙ sym (keepAll-append p (leaves (size x) M upright x) (leavesOf M xs))
-
--- What the recursion counts down: a half is smaller, and a blend is handed on as it is once at most.
-abbrev pub ahead : Blend → Bool → ℕ
-ahead x tried = size x + size x + cond tried 0 1
-
-pub half-ahead : {x y : Blend} (tried : Bool) (t : ℕ) → Smaller x y → ahead x tried ≡ t → ahead y false < t
-half-ahead {x} {y} tried t h e = fall (size x) (size y) (cond tried 0 1) e (h .less)
-  where
-    fall : (a b k : ℕ) → a + a + k ≡ t → b < a → b + b + 1 < t
-    fall a b k e h = omega arith
-
-pub handed-ahead : (x : Blend) (tried : Bool) (t : ℕ) → ahead x tried ≡ t → tried ≡ false → ahead x true < t
-handed-ahead x tried t e h = fall (size x) (rw h at e)
-  where
-    fall : (a : ℕ) → a + a + 1 ≡ t → a + a + 0 < t
-    fall a e = omega arith
 
 -- a blend that is proper for sides of at most 128 is so for sides of 128
 pub proper-of : (w h : ℕ) (B : Blend) → w ≤ 128 → h ≤ 128 → proper w h B ≡ true → Proper B
@@ -132,8 +151,16 @@ module _ (t : Table) (i : ℕ) where
   pub blends-end : t .count ≤ i → drop i (blendsOf t) ≡ []
   blends-end = none-left (t .blends) (t .count) i
 
-  -- the next one is proper if all are
-  pub blends-proper : all (proper 128 128) (blendsOf t) ≡ true → i < t .count → t .count ≤ length (t .blends) →
-      Proper (getD (t .blends) i none)
-  blends-proper e lt le =
-      proper-facts 128 128 _ (all-at (proper 128 128) (blendsOf t) e _ (left-mem (t .blends) (t .count) i le none lt))
+  -- the next one with those behind it, and that it is proper, as all of them are
+  pub record Next : Type 0 where
+    pub turn : drop i (blendsOf t) ≡ getD (t .blends) i none ∷ drop (i + 1) (blendsOf t)
+    pub proper : Proper (getD (t .blends) i none)
+
+  pub next-blend : {vs : List Val} → shadow (row the-type .own t vs) → t .count ≤ mostBlends → all (proper largestSide largestSide) (blendsOf t) ≡ true →
+      i < t .count → Next
+  next-blend own few e lt =
+      let le : t .count ≤ length (t .blends) = omega (arith, table-full t own) in
+      record {
+        turn = blends-turn lt le;
+        proper = proper-facts _ _ _ (all-at (proper largestSide largestSide) (blendsOf t) e _ (left-mem (t .blends) (t .count) i le none lt));
+      }

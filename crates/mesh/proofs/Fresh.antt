@@ -20,7 +20,7 @@ use Rattle.axis.proofs.Tests.{true-not-false, and-both, and-of, or-either, fals
 use Rattle.axis.proofs.Triples.{between-fact, First, is-low, is-high, AtFresh, first-rises, first-spans, first-uncut, first-apart}
 use Rattle.mesh.proofs.Cuts.{cut-fact, proper-of, proper-rises, blend-same, nested-facts}
 use Rattle.mesh.proofs.Order.{left-uncut, left-itself, Rising}
-use Rattle.mesh.proofs.Tables.{once-mem, once-distinct}
+use Rattle.mesh.proofs.TableOrder.{once-mem, once-distinct}
 use Rattle.axis.proofs.Distinct.{Ascending, ascending-unique}
 use Rattle.mesh.proofs.Ascending.{OwnAnchors, order-ascending}
 use Rattle.mesh.proofs.Live.{AllProper, refine-left, left-refine, refine-leaves}

@@ -1,12 +1,12 @@
 pub mod Bytes
+pub mod Arrays
 pub mod Cuts
 pub mod Order
-pub mod Tables
+pub mod TableOrder
 pub mod Places
 pub mod Ascending
 pub mod Live
 pub mod Fresh
-pub mod Few
 pub mod Weights
 pub mod SoundMaps
 pub mod AtMost

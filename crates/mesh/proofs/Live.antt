@@ -15,7 +15,7 @@ use Rattle.axis.specs.Range.{Distinct}
 pub use Rattle.mesh.proofs.Cuts.{proper-rises}
 use Rattle.mesh.proofs.Cuts.{proper-facts, proper-of, proper-within}
 use Rattle.mesh.proofs.Order.{comes-rises, comes-within, Rising, LeftOf, SameMembers, leavesOf-left, left-leavesOf, finer-leaves}
-use Rattle.mesh.proofs.Tables.{once-mem, mem-once, once-distinct, order-mem, mem-order, order-distinct}
+use Rattle.mesh.proofs.TableOrder.{once-mem, mem-once, once-distinct, order-mem, mem-order, order-distinct}
 use Rattle.mesh.proofs.Places.{proper-anchored, sound-own, own-says}
 use Rattle.mesh.proofs.Ascending.{OwnAnchors, order-ascending}
 use Rattle.axis.proofs.Distinct.{ascending-unique}

@@ -21,7 +21,7 @@ use Rattle.axis.proofs.Tests.{either, true-not-false, and-both, and-of, false-o
 use Rattle.mesh.proofs.Bytes.{zeros}
 pub use Rattle.mesh.proofs.Cuts.{proper-facts, proper-of}
 use Rattle.mesh.proofs.Cuts.{same-blend, blend-same}
-use Rattle.mesh.proofs.Tables.{Anchored, anchored-at, once-mem, mem-once, once-distinct, order-mem, mem-order}
+use Rattle.mesh.proofs.TableOrder.{Anchored, anchored-at, once-mem, mem-once, once-distinct, order-mem, mem-order}
 use Rattle.axis.proofs.Distinct.{only-distinct, singleton, nothing}
 use Rattle.mesh.proofs.Ascending.{OwnAnchors}
 use Rattle.mesh.proofs.Order.{SameMembers}

@@ -20,7 +20,7 @@ use Rattle.axis.specs.Range.{Distinct}
 use Rattle.axis.proofs.Scale.{Multiple, common, Scaled, scaled-times, scaled-total, scaled-more, scaled-multiple, scaled-equal, scaled-one, total-positive, sum, sum-same, sum-zero, sum-multiple, sum-linear, sum-single}
 use Rattle.axis.proofs.Hats.{hat-den, hat-middle, hat-off, step-positive, scaledHat, scaled-hat, two-scale, scaled-middle, scaled-off, first-two}
 use Rattle.axis.proofs.Triples.{Inside, rise-of}
-use Rattle.mesh.proofs.Cuts.{RiseB, proper-facts, proper-of, proper-rises, halve-proper, halve-smaller, cut-fact, same-blend}
+use Rattle.mesh.proofs.Cuts.{proper-facts, proper-of, proper-rises, halve-proper, halve-smaller, size-positive, cut-fact, same-blend}
 use Rattle.mesh.proofs.Order.{left-front, left-itself}
 use Rattle.mesh.proofs.Places.{unnested}
 use Rattle.mesh.proofs.Fresh.{first-proper}
@@ -224,7 +224,7 @@ module _ (M : Mesh) (w h : ℕ) (L : List Blend)
   module _ {n : ℕ} (K : Multiple n) (wide : w + 2 ≤ n) (tall : h + 2 ≤ n) where
     -- A covered blend is in L, or is cut, and then its halves are covered too: by induction on its size it is reproduced.
     covered-within : (f : ℕ) (B : Blend) → size B ≤ f → proper w h B ≡ true → Covered M L B → Reproduced K L (scaledWeight K B)
-    covered-within zero B le ok cov = absurd (omega (arith, proper-rises w h B ok .across))
+    covered-within zero B le ok cov = absurd (omega (arith, size-positive B (proper-rises w h B ok)))
     covered-within (suc f) B le ok cov =
         ⊎-elim (λ u. member-reproduced w h L distinct apart rise K wide tall B (cov B (left-itself u)))
         (λ c. let i = cut-fact M (c .0) (c .1) B (c .2) .inside in

@@ -1,6 +1,6 @@
 -- Document 01, "Blends": cutting, and the live blends.
-use Prim.Native.Nat.{ℕ, zero, suc, _+_, _-_}
-use mathlib.Core.Bool.{Bool, true, false, cond, _&&_, _||_, not}
+use Prim.Native.Nat.{ℕ, zero, suc, _+_, _-_, _*_}
+use mathlib.Core.Bool.{Bool, cond, _&&_, _||_, not}
 use mathlib.Core.List.{List, [], _∷_, _++_}
 use lib.Dec.{eqb}
 use Rattle.axis.specs.Range.{each, any, only, joined}
@@ -54,9 +54,9 @@ leaves (suc f) M d B =
     let rest = cond (eqb y 0) (B ∷ []) back in
     cond (eqb z 0) rest handed
 
--- the support's width and height together
+-- the support's area in steps
 abbrev pub size : Blend → ℕ
-size B = (B .across .r - B .across .l) + (B .up .r - B .up .l)
+size B = (B .across .r - B .across .l) * (B .up .r - B .up .l)
 
 -- what is left of each of some blends, joined
 unfoldable pub leavesOf : Mesh → List Blend → List Blend

@@ -5,12 +5,12 @@ use mathlib.Core.Bool.{Bool, true, false, cond, _&&_, _||_, not}
 use mathlib.Core.List.{List, [], _∷_, List·Memᴰ}
 use lib.Dec.{ltb, leb, eqb}
 use lib.ListN.{length, getD, set, replicate}
+use Rattle.axis.specs.Limits.{largestSide, mostBlends}
 use Rattle.axis.specs.Range.{each, only}
 use Rattle.axis.specs.Triple.{triple, RisesIn}
 use Rattle.mesh.specs.Lines.{Direction, upright, level, Mesh}
 use Rattle.mesh.specs.Blends.{blend, cuts, leavesOf}
 use Rattle.mesh.specs.Sound.{table}
-use Rattle.axis.specs.declared.Triple.{Triple}
 use Rattle.mesh.specs.declared.Blend.{Blend}
 use Rattle.mesh.specs.declared.Refined.{Refined}
 
@@ -36,7 +36,7 @@ pub record ProperIn (w h : ℕ) (B : Blend) : Type 0 where
 
 -- within the knots of the longest side; and those of all of some blends
 abbrev pub Proper : Blend → Type 0
-Proper B = ProperIn 128 128 B
+Proper B = ProperIn largestSide largestSide B
 
 abbrev pub AllProper : List Blend → Type 0
 AllProper bs = (B : Blend) → List·Memᴰ B bs → Proper B
@@ -97,4 +97,4 @@ abbrev pub refused : Refined
 refused = record { fits = false; table = table [] }
 
 unfoldable pub listed : List Blend → Refined
-listed bs = cond (leb (length bs) 1024) (record { fits = true; table = table bs }) refused
+listed bs = cond (leb (length bs) mostBlends) (record { fits = true; table = table bs }) refused

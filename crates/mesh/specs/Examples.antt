@@ -5,13 +5,12 @@ use mathlib.Core.Bool.{Bool, true, false}
 use mathlib.Core.List.{List, [], _∷_}
 use lib.ListN.{length}
 use Rattle.axis.specs.Range.{only}
-use Rattle.axis.specs.Triple.{triple, half}
-use Rattle.mesh.specs.Lines.{mesh, start, end, inRange, draws, freshMesh, onLine}
-use Rattle.mesh.specs.Blends.{blend, live, refine, leavesOf, leaves, once, inTableOrder, halve}
+use Rattle.axis.specs.Triple.{half}
+use Rattle.mesh.specs.Lines.{mesh, draws, freshMesh}
+use Rattle.mesh.specs.Blends.{live, refine, leavesOf, leaves, once, inTableOrder, halve}
 use Rattle.axis.specs.Nearest.{nearest, below, above}
 use Rattle.mesh.specs.Sound.{sound, fourEverywhere, noneNested, overSquare}
 use Rattle.mesh.specs.declared.Split.{Split}
-use Rattle.mesh.specs.declared.Blend.{Blend}
 
 upright : ℕ → ℕ → ℕ → Split
 upright p f t = record { direction = 0; position = p; from = f; to = t }

@@ -4,6 +4,7 @@ use mathlib.Core.Bool.{Bool, true, false, cond, _&&_, _||_}
 use mathlib.Core.List.{List}
 use lib.Dec.{ltb, leb, eqb}
 use lib.ListN.{take}
+use Rattle.axis.specs.Limits.{largestSide, mostSplits}
 use Rattle.axis.specs.Range.{every, some, all, any}
 use Rattle.mesh.specs.declared.Split.{Split}
 use Rattle.mesh.specs.declared.Lines.{Lines}
@@ -31,7 +32,7 @@ Mesh = Direction → ℕ → ℕ → Bool
 
 -- "each 1 to 128 steps"
 abbrev pub allowedSide : ℕ → Bool
-allowedSide s = leb 1 s && leb s 128
+allowedSide s = leb 1 s && leb s largestSide
 
 -- "a position strictly between 0 and the side it crosses, and a from and a to with 0 ≤ from < to ≤ the side it runs along"
 abbrev pub fits : ℕ → ℕ → Split → Bool
@@ -104,4 +105,4 @@ meshOf P = mesh (P .w) (P .h) (P .splits)
 -- sides, count and splits in their ranges
 unfoldable pub allowed : Lines → Bool
 allowed L =
-    allowedSide (L .w) && allowedSide (L .h) && leb (L .count) 60 && all (inRange (L .w) (L .h)) (splitsOf L)
+    allowedSide (L .w) && allowedSide (L .h) && leb (L .count) mostSplits && all (inRange (L .w) (L .h)) (splitsOf L)

@@ -1,8 +1,8 @@
 -- Cutting in any order (document 01, "Blends"; 001, section 3), as relations: no function's order is in them.
 use mathlib.Core.Path.{_≡_}
 use Prim.Native.Nat.{ℕ}
-use mathlib.Core.Bool.{Bool, true, false}
-use mathlib.Core.List.{List, [], _∷_, _++_, List·Memᴰ}
+use mathlib.Core.Bool.{true, false}
+use mathlib.Core.List.{List, _∷_, _++_, List·Memᴰ}
 use Rattle.axis.specs.Triple.{Side, lower, upper}
 use Rattle.mesh.specs.Lines.{Direction, Mesh}
 use Rattle.mesh.specs.Blends.{cuts, halve}

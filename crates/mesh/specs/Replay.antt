@@ -2,6 +2,7 @@
 use mathlib.Core.Bool.{Bool, true, false, cond, _&&_}
 use mathlib.Core.List.{[]}
 use lib.Dec.{leb}
+use Rattle.axis.specs.Limits.{mostSplits}
 use Rattle.mesh.specs.Lines.{allowedSide, layout, splitsOf, layoutOf}
 use Rattle.mesh.specs.Sound.{table}
 use Rattle.mesh.specs.Splits.{accepted, liveOf}
@@ -10,7 +11,7 @@ use Rattle.mesh.specs.declared.Replayed.{Replayed}
 
 -- whether sides and count are in their ranges and the splits are all accepted
 unfoldable pub replays : Lines → Bool
-replays L = allowedSide (L .w) && allowedSide (L .h) && leb (L .count) 60 && accepted (layout (L .w) (L .h) []) (splitsOf L)
+replays L = allowedSide (L .w) && allowedSide (L .h) && leb (L .count) mostSplits && accepted (layout (L .w) (L .h) []) (splitsOf L)
 
 -- the live blends of such lines; nothing where one is refused
 unfoldable pub replayed : Lines → Replayed

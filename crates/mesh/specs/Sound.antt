@@ -4,6 +4,7 @@ use mathlib.Core.Bool.{Bool, true, false, cond, _&&_, not}
 use mathlib.Core.List.{List, [], _∷_, _++_}
 use lib.Dec.{leb, eqb}
 use lib.ListN.{length, take, replicate}
+use Rattle.axis.specs.Limits.{largestSide, mostBlends}
 use Rattle.axis.specs.Range.{every, all, any, only}
 use Rattle.axis.specs.Triple.{triple, rising, spans, stepsIn, between}
 use Rattle.mesh.specs.Lines.{allowedSide, layoutOf, meshOf, allowed}
@@ -51,19 +52,19 @@ abbrev pub none : Blend
 none = blend (triple 0 0 0) (triple 0 0 0)
 
 unfoldable pub table : List Blend → Table
-table bs = record { count = length bs; blends = bs ++ replicate (1024 - length bs) none }
+table bs = record { count = length bs; blends = bs ++ replicate (mostBlends - length bs) none }
 
 abbrev pub blendsOf : Table → List Blend
 blendsOf t = take (t .count) (t .blends)
 
 -- whether a table may hold the blends of a map of these sides: no more of them than it has places, none out of range
 unfoldable pub withinSides : ℕ → ℕ → Table → Bool
-withinSides w h t = allowedSide w && allowedSide h && leb (t .count) 1024 && all (proper w h) (blendsOf t)
+withinSides w h t = allowedSide w && allowedSide h && leb (t .count) mostBlends && all (proper w h) (blendsOf t)
 
 -- Whether the areas of a table's blends add up to four times the domain; no where sides or count are out of range.
 -- Of the live blends of a map this says that it is sound: `by-area`.
 unfoldable pub full : ℕ → ℕ → Table → Bool
-full w h t = leb w 128 && leb h 128 && leb (t .count) 1024 && eqb (areas w h (blendsOf t)) (4 * (w * h))
+full w h t = leb w largestSide && leb h largestSide && leb (t .count) mostBlends && eqb (areas w h (blendsOf t)) (4 * (w * h))
 
 -- two different blends have one anchor; no two of a list do
 abbrev pub clash : Blend → Blend → Bool
@@ -75,7 +76,7 @@ ownAnchors bs = all (λ B. all (λ C. not (clash B C)) bs) bs
 -- some blends in a table, where it holds them: each has an anchor of its own, and they are no more than its places
 unfoldable pub fitted : List Blend → Refined
 fitted bs =
-    cond (ownAnchors bs && leb (length bs) 1024)
+    cond (ownAnchors bs && leb (length bs) mostBlends)
     (record { fits = true; table = table bs })
     (record { fits = false; table = table [] })
 
@@ -83,18 +84,18 @@ fitted bs =
 unfoldable pub refined : Lines → Table → Refined
 refined L t =
     let found = fitted (refine (L .w) (L .h) (meshOf (layoutOf L)) (blendsOf t)) in
-    cond (allowed L && leb (t .count) 1024 && all (proper (L .w) (L .h)) (blendsOf t)) found
+    cond (allowed L && leb (t .count) mostBlends && all (proper (L .w) (L .h)) (blendsOf t)) found
     (record { fits = false; table = table [] })
 
 -- whether the lines cut some blend of a table; no where the lines or the blends are out of range
 unfoldable pub someCut : Lines → Table → Bool
 someCut L t =
-    allowed L && leb (t .count) 1024 && all (proper (L .w) (L .h)) (blendsOf t) && any (isCut (meshOf (layoutOf L))) (blendsOf t)
+    allowed L && leb (t .count) mostBlends && all (proper (L .w) (L .h)) (blendsOf t) && any (isCut (meshOf (layoutOf L))) (blendsOf t)
 
 -- the answer on a list of blends in table order: their table, where they make a sound map and a table holds them
 unfoldable pub answer : ℕ → ℕ → List Blend → Judged
 answer w h bs =
-    cond (sound w h bs && leb (length bs) 1024)
+    cond (sound w h bs && leb (length bs) mostBlends)
     (record { sound = true; table = table bs })
     (record { sound = false; table = table [] })
 

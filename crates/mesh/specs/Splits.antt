@@ -4,6 +4,7 @@ use mathlib.Core.Bool.{Bool, true, cond, _&&_, not}
 use mathlib.Core.List.{List, [], _∷_, _++_}
 use lib.Dec.{leb, eqb}
 use lib.ListN.{length, take}
+use Rattle.axis.specs.Limits.{mostSplits}
 use Rattle.axis.specs.Range.{each, any, only}
 use Rattle.mesh.specs.Lines.{Layout, meshOf, side, other, direction, inRange, shares, ended}
 use Rattle.mesh.specs.Blends.{isCut, live}
@@ -26,7 +27,7 @@ soundWith P s = sound (P .w) (P .h) (liveOf (withLine P s))
 unfoldable pub given : Layout → Split → ℕ
 given P s =
     cond (not (inRange (P .w) (P .h) s)) 3
-    (cond (leb 60 (length (P .splits))) 4
+    (cond (leb mostSplits (length (P .splits))) 4
     (cond (shares (meshOf P) s) 5
     (cond (not (ended (meshOf P) s)) 6
     (cond (not (any (isCut (meshOf (withLine P s))) (liveOf P))) 7

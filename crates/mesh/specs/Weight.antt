@@ -1,7 +1,6 @@
 -- Document 01, "Blends": weights at a point with fractional coordinates, and their sums, in whole numbers.
-use Prim.Native.Nat.{ℕ, _+_, _*_}
-use mathlib.Core.Path.{_≡_}
-use mathlib.Core.List.{List, [], _∷_, map}
+use Prim.Native.Nat.{ℕ}
+use mathlib.Core.List.{List, map}
 use Rattle.axis.specs.Fraction.{Fraction, times, whole, total}
 use Rattle.axis.specs.Triple.{hat}
 use Rattle.mesh.specs.declared.Blend.{Blend}

@@ -6,11 +6,11 @@ use crate::knots::place;
 use crate::steps::covers;
 use axis::Triple;
 use axis::supports::lower_half;
-use axis::supports::rises;
 use axis::supports::upper_half;
 ghost use mathlib.Core.Path.{_≡_};
 ghost use mathlib.Core.Bool.{true, cond};
 ghost use Prim.Native.Nat.{ℕ, _+_, _-_, _≤_};
+ghost use Rattle.axis.specs.Limits.{largestSide, mostBlends};
 ghost use Rattle.axis.specs.Range.{all, any, every};
 ghost use Rattle.axis.specs.Triple.{Rises};
 ghost use Rattle.mesh.specs.Lines.{upright, level};
@@ -158,30 +158,10 @@ fn cut_up(uprights: &[u8], levels: &[u8], x: Blend, tried: bool, places: &mut [u
     cut_across(uprights, levels, x, true, places);
 }
 
-// Whether the table's blends all rise within the sides.
-pub(crate) fn proper_table(table: Table, w: usize, h: usize) -> bool
-    requires { ⌜ (table .count ≤ 1024) × (w ≤ 128) × (h ≤ 128) ⌝ }
-    ensures { λ r. ⌜ r ≡ all (proper w h) (blendsOf table) ⌝ }
-{
-    let count = table.count;
-    let mut i = 0;
-    while i < count {
-        let x = table.blends[i];
-        if !rises(x.across, w) {
-            return false;
-        }
-        if !rises(x.up, h) {
-            return false;
-        }
-        i += 1;
-    }
-    true
-}
-
 // Cuts every blend of a table to the end and keeps what is left.
 pub(crate) fn cut_all(uprights: &[u8], levels: &[u8], table: Table, places: &mut [u32])
-    requires { ⌜ Square (now uprights) × Square (now levels) × Square (now places) × (table .count ≤ 1024) ×
-        (all (proper 128 128) (blendsOf table) ≡ true) ⌝ }
+    requires { ⌜ Square (now uprights) × Square (now levels) × Square (now places) × (table .count ≤ mostBlends) ×
+        (all (proper largestSide largestSide) (blendsOf table) ≡ true) ⌝ }
     ensures { λ _. ⌜ now (places .exit) ≡
         keepAll (now (places .entry)) (leavesOf (bytesMesh (now (uprights .entry)) (now (levels .entry))) (blendsOf table)) ⌝ }
 {
@@ -196,7 +176,7 @@ pub(crate) fn cut_all(uprights: &[u8], levels: &[u8], table: Table, places: &mut
 
 // Whether some line cuts some blend of a table.
 pub(crate) fn any_cut(uprights: &[u8], levels: &[u8], table: Table) -> bool
-    requires { ⌜ Square (now uprights) × Square (now levels) × (table .count ≤ 1024) × (all (proper 128 128) (blendsOf table) ≡ true) ⌝ }
+    requires { ⌜ Square (now uprights) × Square (now levels) × (table .count ≤ mostBlends) × (all (proper largestSide largestSide) (blendsOf table) ≡ true) ⌝ }
     ensures { λ r. ⌜ r ≡ any (isCut (bytesMesh (now (uprights .entry)) (now (levels .entry)))) (blendsOf table) ⌝ }
 {
     let count = table.count;

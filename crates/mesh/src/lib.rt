@@ -2,13 +2,12 @@
 
 pub mod blends;
 mod cut;
-pub mod judge;
 pub mod knots;
 pub mod points;
-pub mod ranges;
 mod read;
 pub mod replay;
 mod steps;
+pub mod tables;
 
 use axis::Triple;
 
@@ -31,13 +30,23 @@ pub struct Lines {
     pub w: usize,
     pub h: usize,
     pub count: usize,
-    pub splits: [Split; 60],
+    pub splits: [Split; Lines::MOST_SPLITS],
+}
+
+impl Lines {
+    pub const LARGEST_SIDE: usize = 128;
+
+    pub const MOST_SPLITS: usize = 60;
 }
 
 // Blends in table order; places from `count` on are zero.
 pub struct Table {
     pub count: usize,
-    pub blends: [Blend; 1024],
+    pub blends: [Blend; Table::MOST_BLENDS],
+}
+
+impl Table {
+    pub const MOST_BLENDS: usize = 1024;
 }
 
 // Whether a table holds the blends, each at an anchor of its own, and if so that table; else an empty one.

@@ -7,12 +7,13 @@ ghost use mathlib.Core.Path.{_≡_};
 ghost use mathlib.Core.Bool.{true, _&&_, _||_};
 ghost use Prim.Native.Nat.{_+_, _≤_, _<_};
 ghost use lib.Dec.{eqb, ltb, leb};
+ghost use Rattle.axis.specs.Limits.{largestSide};
 ghost use Rattle.axis.specs.Range.{any};
 ghost use Rattle.mesh.specs.Lines.{start, end, direction, allowed, inRange, splitsOf, layoutOf, meshOf, onLine, shares, ended};
 
 // Whether a fresh map has the step: the line crosses one side and runs along the other.
 fn fresh_step(crossed: usize, run: usize, z: usize, k: usize) -> bool
-    requires { ⌜ (crossed ≤ 128) × (run ≤ 128) ⌝ }
+    requires { ⌜ (crossed ≤ largestSide) × (run ≤ largestSide) ⌝ }
     ensures { λ r. ⌜ r ≡ ((eqb z 0 || eqb z 1 || eqb z (crossed + 1) || eqb z (crossed + 2)) && ltb k (run + 2)) ⌝ }
 {
     if run + 2 <= k {
@@ -32,7 +33,7 @@ fn fresh_step(crossed: usize, run: usize, z: usize, k: usize) -> bool
 
 // Whether a split, run out, reaches past knot k.
 fn before_end(s: Split, run: usize, k: usize) -> bool
-    requires { ⌜ (s .to ≤ 128) × (run ≤ 128) ⌝ }
+    requires { ⌜ (s .to ≤ largestSide) × (run ≤ largestSide) ⌝ }
     ensures { λ r. ⌜ r ≡ ltb k (end run s) ⌝ }
 {
     if s.to == run {
@@ -43,7 +44,7 @@ fn before_end(s: Split, run: usize, k: usize) -> bool
 
 // Whether a split, run out, has the step.
 fn split_step(s: Split, number: usize, run: usize, z: usize, k: usize) -> bool
-    requires { ⌜ (s .position ≤ 128) × (s .to ≤ 128) × (run ≤ 128) ⌝ }
+    requires { ⌜ (s .position ≤ largestSide) × (s .to ≤ largestSide) × (run ≤ largestSide) ⌝ }
     ensures { λ r. ⌜ r ≡ (eqb (s .direction) number && eqb z (s .position + 1) && leb (start s) k && ltb k (end run s)) ⌝ }
 {
     if s.direction != number {
@@ -63,7 +64,7 @@ fn split_step(s: Split, number: usize, run: usize, z: usize, k: usize) -> bool
 
 // Whether one of the splits has the step.
 fn some_split_step(lines: Lines, number: usize, run: usize, z: usize, k: usize) -> bool
-    requires { ⌜ (allowed lines ≡ true) × (run ≤ 128) ⌝ }
+    requires { ⌜ (allowed lines ≡ true) × (run ≤ largestSide) ⌝ }
     ensures { λ r. ⌜ r ≡ any (λ s. eqb (s .direction) number && eqb z (s .position + 1) && leb (start s) k && ltb k (end run s)) (splitsOf lines) ⌝ }
 {
     let count = lines.count;

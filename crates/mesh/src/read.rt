@@ -1,58 +1,20 @@
 // Reading the kept blends out in table order.
-use crate::Blend;
 use crate::Refined;
 use crate::Table;
-use axis::Triple;
+use crate::knots::unpack;
+use crate::tables::nothing;
+use crate::tables::refusal;
 ghost use mathlib.Core.Path.{_≡_};
 ghost use mathlib.Core.Bool.{cond};
 ghost use Prim.Native.Nat.{_+_, _≤_, _<_};
 ghost use lib.Dec.{eqb};
 ghost use lib.ListN.{length, getD};
-ghost use Rattle.mesh.specs.Sound.{none};
-ghost use Rattle.mesh.specs.Bytes.{Square, Idle, unpacked, walk, listed, refused};
-
-// The blend that a place holds, taken apart.
-fn unpack(m: usize, n: usize, c: u32) -> Blend
-    requires { ⌜ (m ≤ 130) × (n ≤ 130) ⌝ }
-    ensures { λ r. ⌜ r ≡ unpacked m n c ⌝ }
-{
-    Blend {
-        across: Triple {
-            l: (c / 16777216) as u8,
-            m: m as u8,
-            r: (c / 65536 % 256) as u8,
-        },
-        up: Triple {
-            l: (c / 256 % 256) as u8,
-            m: n as u8,
-            r: (c % 256) as u8,
-        },
-    }
-}
-
-// An unused place of a table.
-fn nothing() -> Blend
-    ensures { λ r. ⌜ r ≡ none ⌝ }
-{
-    unpack(0, 0, 0)
-}
-
-// The answer where a table does not hold the blends.
-pub(crate) fn refusal() -> Refined
-    ensures { λ r. ⌜ r ≡ refused ⌝ }
-{
-    Refined {
-        fits: false,
-        table: Table {
-            count: 0,
-            blends: [nothing(); 1024],
-        },
-    }
-}
+ghost use Rattle.axis.specs.Limits.{largestSide};
+ghost use Rattle.mesh.specs.Bytes.{Square, Idle, walk, listed};
 
 // The knot from which a column of places is read: a column without a mark has none.
 fn first_row(marks: &[u8], m: usize, h: usize) -> usize
-    requires { ⌜ (length (now marks) ≡ 131) × (m < 131) × (h ≤ 128) ⌝ }
+    requires { ⌜ (length (now marks) ≡ 131) × (m < 131) × (h ≤ largestSide) ⌝ }
     ensures { λ r. ⌜ r ≡ cond (eqb (getD (now (marks .entry)) m 0) 0) (h + 2) 1 ⌝ }
 {
     if marks[m] == 0 {
@@ -63,10 +25,10 @@ fn first_row(marks: &[u8], m: usize, h: usize) -> usize
 
 // The table of the kept blends; a refusal where they are more than it holds. Columns without a mark hold none.
 pub(crate) fn read_out(places: &[u32], marks: &[u8], w: usize, h: usize) -> Refined
-    requires { ⌜ Square (now places) × (length (now marks) ≡ 131) × (w ≤ 128) × (h ≤ 128) × Idle (now marks) (now places) ⌝ }
+    requires { ⌜ Square (now places) × (length (now marks) ≡ 131) × (w ≤ largestSide) × (h ≤ largestSide) × Idle (now marks) (now places) ⌝ }
     ensures { λ r. ⌜ r ≡ listed (walk w h (now (places .entry))) ⌝ }
 {
-    let mut blends = [nothing(); 1024];
+    let mut blends = [nothing(); Table::MOST_BLENDS];
     let mut count = 0;
     let mut m = 1;
     while m <= w + 1 {
@@ -74,7 +36,7 @@ pub(crate) fn read_out(places: &[u32], marks: &[u8], w: usize, h: usize) -> Refi
         while n <= h + 1 {
             let c = places[m * 131 + n];
             if c != 0 {
-                if count == 1024 {
+                if count == Table::MOST_BLENDS {
                     return refusal();
                 }
                 blends[count] = unpack(m, n, c);

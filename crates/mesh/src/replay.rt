@@ -6,24 +6,25 @@ use crate::Refined;
 use crate::Replayed;
 use crate::Split;
 use crate::Table;
-use axis::Triple;
-use crate::blends::first_four;
 use crate::cut::cut_across;
 use crate::cut::cut_all;
-use crate::judge::full;
 use crate::knots::place;
 use crate::read::read_out;
-use crate::read::refusal;
 use crate::steps::allowed_side;
 use crate::steps::covers;
 use crate::steps::draw_fresh;
 use crate::steps::draw_split;
 use crate::steps::in_range;
+use crate::tables::first_four;
+use crate::tables::full;
+use crate::tables::refusal;
+use axis::Triple;
 ghost use mathlib.Core.Path.{_≡_};
 ghost use mathlib.Core.Bool.{true, cond, _&&_, _||_, not};
 ghost use Prim.Native.Nat.{ℕ, _+_, _-_, _≤_, _<_};
 ghost use lib.Dec.{eqb};
 ghost use lib.ListN.{length, getD};
+ghost use Rattle.axis.specs.Limits.{largestSide, mostBlends};
 ghost use Rattle.axis.specs.Range.{all, any, some, every, only};
 ghost use Rattle.axis.specs.Triple.{inside, Rises};
 ghost use Rattle.mesh.specs.Lines.{Direction, direction, draws, inRange, shares, ended};
@@ -53,7 +54,7 @@ fn some_on(steps: &[u8], z: usize, from: usize, n: usize) -> bool
 
 // Whether none of a split's steps is on, and both its ends lie on lines that cross it: on a step up to the split's position, or from there on.
 fn stands(steps: &[u8], cross: &[u8], s: Split) -> bool
-    requires { ⌜ Square (now steps) × Square (now cross) × (s .position < 128) × (s .from < s .to) × (s .to ≤ 128) ⌝ }
+    requires { ⌜ Square (now steps) × Square (now cross) × (s .position < largestSide) × (s .from < s .to) × (s .to ≤ largestSide) ⌝ }
     ensures { λ r. ⌜ r ≡ (not (some (s .from + 1) (s .to - s .from) (stepOn (now (steps .entry)) (s .position + 1))) &&
         (some (s .position) 2 (stepOn (now (cross .entry)) (s .from + 1)) && some (s .position) 2 (stepOn (now (cross .entry)) (s .to + 1)))) ⌝ }
 {
@@ -68,7 +69,7 @@ fn stands(steps: &[u8], cross: &[u8], s: Split) -> bool
 
 // Whether a split shares no stretch with a line at its position, and both its ends lie on crossing lines.
 fn may_be_drawn(uprights: &[u8], levels: &[u8], s: Split) -> bool
-    requires { ⌜ Square (now uprights) × Square (now levels) × (s .position < 128) × (s .from < s .to) × (s .to ≤ 128) ⌝ }
+    requires { ⌜ Square (now uprights) × Square (now levels) × (s .position < largestSide) × (s .from < s .to) × (s .to ≤ largestSide) ⌝ }
     ensures { λ r. ⌜ r ≡ (not (shares (bytesMesh (now (uprights .entry)) (now (levels .entry))) s) &&
         ended (bytesMesh (now (uprights .entry)) (now (levels .entry))) s) ⌝ }
 {
@@ -80,7 +81,7 @@ fn may_be_drawn(uprights: &[u8], levels: &[u8], s: Split) -> bool
 
 // Draws a split, unless its range, a line at its position or one of its ends refuses it.
 fn draw_exact(s: Split, w: usize, h: usize, uprights: &mut [u8], levels: &mut [u8]) -> bool
-    requires { ⌜ Square (now uprights) × Square (now levels) × (w ≤ 128) × (h ≤ 128) ⌝ }
+    requires { ⌜ Square (now uprights) × Square (now levels) × (w ≤ largestSide) × (h ≤ largestSide) ⌝ }
     ensures { λ r. ⌜ (r ≡ (inRange w h s && (not (shares (bytesMesh (now (uprights .entry)) (now (levels .entry))) s) &&
         ended (bytesMesh (now (uprights .entry)) (now (levels .entry))) s))) ×
         Square (now (uprights .exit)) × Square (now (levels .exit)) ×
@@ -137,8 +138,8 @@ fn clear_cut(
     table: Table,
     places: &mut [u32],
 ) -> bool
-    requires { ⌜ Square (now uprights) × Square (now levels) × Square (now places) × (z < 131) × (table .count ≤ 1024) ×
-        (all (proper 128 128) (blendsOf table) ≡ true) ⌝ }
+    requires { ⌜ Square (now uprights) × Square (now levels) × Square (now places) × (z < 131) × (table .count ≤ mostBlends) ×
+        (all (proper largestSide largestSide) (blendsOf table) ≡ true) ⌝ }
     ensures { λ r. ⌜ (r ≡ any (cuts (bytesMesh (now (uprights .entry)) (now (levels .entry))) (direction number) z) (blendsOf table)) ×
         (now (places .exit) ≡ clearAll (now (places .entry))
         (only (cuts (bytesMesh (now (uprights .entry)) (now (levels .entry))) (direction number) z) (blendsOf table))) ⌝ }
@@ -160,8 +161,8 @@ fn clear_cut(
 
 // Cuts the blends that a line cuts to the end, by all lines, and keeps what is left.
 fn cut_those(uprights: &[u8], levels: &[u8], number: usize, z: u8, table: Table, places: &mut [u32])
-    requires { ⌜ Square (now uprights) × Square (now levels) × Square (now places) × (z < 131) × (table .count ≤ 1024) ×
-        (all (proper 128 128) (blendsOf table) ≡ true) ⌝ }
+    requires { ⌜ Square (now uprights) × Square (now levels) × Square (now places) × (z < 131) × (table .count ≤ mostBlends) ×
+        (all (proper largestSide largestSide) (blendsOf table) ≡ true) ⌝ }
     ensures { λ _. ⌜ now (places .exit) ≡ keepAll (now (places .entry)) (leavesOf (bytesMesh (now (uprights .entry)) (now (levels .entry)))
         (only (cuts (bytesMesh (now (uprights .entry)) (now (levels .entry))) (direction number) z) (blendsOf table))) ⌝ }
 {
@@ -189,8 +190,8 @@ fn recut(
     h: usize,
     places: &mut [u32],
 ) -> Refined
-    requires { ⌜ Square (now uprights) × Square (now levels) × Square (now places) × (z < 131) × (table .count ≤ 1024) ×
-        (all (proper 128 128) (blendsOf table) ≡ true) × (w ≤ 128) × (h ≤ 128) × (length (now marks) ≡ 131) ×
+    requires { ⌜ Square (now uprights) × Square (now levels) × Square (now places) × (z < 131) × (table .count ≤ mostBlends) ×
+        (all (proper largestSide largestSide) (blendsOf table) ≡ true) × (w ≤ largestSide) × (h ≤ largestSide) × (length (now marks) ≡ 131) ×
         (let P = bytes.recut (bytesMesh (now uprights) (now levels)) (direction number) z (blendsOf table) (now places) in
         getD P 0 0 ≡ 0 → Idle (now marks) P) ⌝ }
     ensures { λ r. ⌜ (let M = bytesMesh (now (uprights .entry)) (now (levels .entry)) in
@@ -210,7 +211,7 @@ fn recut(
 
 // Marks the knots of a fresh map's uprights.
 fn mark_fresh(w: usize, marks: &mut [u8])
-    requires { ⌜ (length (now marks) ≡ 131) × (w ≤ 128) ⌝ }
+    requires { ⌜ (length (now marks) ≡ 131) × (w ≤ largestSide) ⌝ }
     ensures { λ _. ⌜ (length (now (marks .exit)) ≡ 131) × ((z : ℕ) → getD (now (marks .exit)) z 0 ≡ 0 →
         (z ≡ 0 → ⊥) × (z ≡ 1 → ⊥) × (z ≡ w + 1 → ⊥) × (z ≡ w + 2 → ⊥)) ⌝ }
 {
@@ -224,7 +225,7 @@ fn mark_fresh(w: usize, marks: &mut [u8])
 
 // Marks the knot of a split that is upright.
 fn mark(s: Split, marks: &mut [u8])
-    requires { ⌜ (length (now marks) ≡ 131) × (s .position < 128) ⌝ }
+    requires { ⌜ (length (now marks) ≡ 131) × (s .position < largestSide) ⌝ }
     ensures { λ _. ⌜ (length (now (marks .exit)) ≡ 131) × ((z : ℕ) → getD (now (marks .exit)) z 0 ≡ 0 →
         (getD (now (marks .entry)) z 0 ≡ 0) × (s .direction ≡ 0 → z ≡ s .position + 1 → ⊥)) ⌝ }
 {
@@ -252,7 +253,7 @@ pub fn replay(lines: Lines) -> Replayed
     if !allowed_side(h) {
         return stopped;
     }
-    if 60 < count {
+    if Lines::MOST_SPLITS < count {
         return stopped;
     }
     let mut uprights = [0u8; 17161];

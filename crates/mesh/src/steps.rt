@@ -5,9 +5,10 @@ use axis::knots::wide;
 ghost use mathlib.Core.Path.{_≡_};
 ghost use mathlib.Core.Bool.{true, _||_};
 ghost use Prim.Native.Nat.{ℕ, _+_, _≤_, _<_, max};
+ghost use Rattle.axis.specs.Limits.{largestSide};
 ghost use Rattle.axis.specs.Range.{every};
 ghost use Rattle.mesh.specs.Lines.{Direction, number, other, side, start, end, draws, allowedSide, fits, inRange, allowed, freshMesh, layoutOf, meshOf};
-ghost use Rattle.mesh.specs.Bytes.{Square, stepOn, Drawn, empty};
+ghost use Rattle.mesh.specs.Bytes.{Square, stepOn, bytesMesh, Drawn, empty};
 
 // Whether the line at knot z is on at each of the n steps from knot b on.
 pub(crate) fn covers(steps: &[u8], z: u8, b: u8, n: u8) -> bool
@@ -75,7 +76,7 @@ pub(crate) fn allowed_side(side: usize) -> bool
     if side < 1 {
         return false;
     }
-    side <= 128
+    side <= Lines::LARGEST_SIDE
 }
 
 // Whether sides, count and splits keep to their ranges.
@@ -91,7 +92,7 @@ pub(crate) fn allowed_lines(lines: Lines) -> bool
     if !allowed_side(h) {
         return false;
     }
-    if 60 < count {
+    if Lines::MOST_SPLITS < count {
         return false;
     }
     let mut i = 0;
@@ -107,7 +108,7 @@ pub(crate) fn allowed_lines(lines: Lines) -> bool
 
 // The first and the last knot of a split: a drawn end at a side runs out.
 fn first_knot(s: Split) -> usize
-    requires { ⌜ s .from < 128 ⌝ }
+    requires { ⌜ s .from < largestSide ⌝ }
     ensures { λ r. ⌜ r ≡ start s ⌝ }
 {
     if s.from == 0 {
@@ -117,7 +118,7 @@ fn first_knot(s: Split) -> usize
 }
 
 fn last_knot(run: usize, s: Split) -> usize
-    requires { ⌜ (s .to ≤ run) × (run ≤ 128) ⌝ }
+    requires { ⌜ (s .to ≤ run) × (run ≤ largestSide) ⌝ }
     ensures { λ r. ⌜ (r ≡ end run s) × (r ≤ 130) ⌝ }
 {
     if s.to == run {
@@ -128,8 +129,8 @@ fn last_knot(run: usize, s: Split) -> usize
 
 // Draws a split, with its run-out, if it has the direction.
 pub(crate) fn draw_split(s: Split, direction: usize, run: usize, steps: &mut [u8])
-    requires { ⌜ Square (now steps) × (run ≤ 128) ×
-        (s .direction ≡ direction → (s .position < 128) × (s .from < s .to) × (s .to ≤ run)) ⌝ }
+    requires { ⌜ Square (now steps) × (run ≤ largestSide) ×
+        (s .direction ≡ direction → (s .position < largestSide) × (s .from < s .to) × (s .to ≤ run)) ⌝ }
     ensures { λ _. ⌜ Square (now (steps .exit)) ×
         ((d : Direction) (w h : ℕ) → number d ≡ direction → side (other d) w h ≡ run → (z k : ℕ) →
         stepOn (now (steps .exit)) z k ≡ (stepOn (now (steps .entry)) z k || draws w h d z k s)) ⌝ }
@@ -144,7 +145,7 @@ pub(crate) fn draw_split(s: Split, direction: usize, run: usize, steps: &mut [u8
 
 // Draws the fresh map's lines of one direction, over a mesh with none.
 pub(crate) fn draw_fresh(crossed: usize, run: usize, steps: &mut [u8])
-    requires { ⌜ (now steps ≡ empty) × (crossed ≤ 128) × (run ≤ 128) ⌝ }
+    requires { ⌜ (now steps ≡ empty) × (crossed ≤ largestSide) × (run ≤ largestSide) ⌝ }
     ensures { λ _. ⌜ Square (now (steps .exit)) ×
         ((d : Direction) (w h : ℕ) → side d w h ≡ crossed → side (other d) w h ≡ run → (z k : ℕ) →
         stepOn (now (steps .exit)) z k ≡ freshMesh w h d z k) ⌝ }
@@ -169,7 +170,7 @@ fn side_of(direction: usize, w: usize, h: usize) -> usize
 }
 
 // Draws the lines of one direction: the fresh map's, and each split's with its run-out.
-pub(crate) fn draw_lines(lines: Lines, direction: usize, steps: &mut [u8])
+fn draw_lines(lines: Lines, direction: usize, steps: &mut [u8])
     requires { ⌜ (allowed lines ≡ true) × (direction < 2) × (now steps ≡ empty) ⌝ }
     ensures { λ _. ⌜ Square (now (steps .exit)) ×
         ((d : Direction) → number d ≡ direction → (z k : ℕ) → stepOn (now (steps .exit)) z k ≡ meshOf (layoutOf lines) d z k) ⌝ }
@@ -186,4 +187,14 @@ pub(crate) fn draw_lines(lines: Lines, direction: usize, steps: &mut [u8])
         draw_split(split, direction, run, steps);
         i += 1;
     }
+}
+
+// Draws the mesh of lines, over bytes with no lines.
+pub(crate) fn draw_mesh(lines: Lines, uprights: &mut [u8], levels: &mut [u8])
+    requires { ⌜ (allowed lines ≡ true) × (now uprights ≡ empty) × (now levels ≡ empty) ⌝ }
+    ensures { λ _. ⌜ Square (now (uprights .exit)) × Square (now (levels .exit)) ×
+        (bytesMesh (now (uprights .exit)) (now (levels .exit)) ≡ meshOf (layoutOf lines)) ⌝ }
+{
+    draw_lines(lines, 0, uprights);
+    draw_lines(lines, 1, levels);
 }

@@ -1,16 +1,15 @@
 -- `mesh::blends::refine` meets its contract: out of range, and where two blends met, it refuses; else the places that are left are read out.
 use Prim.Native.Nat.{ℕ}
-use native.Mathlib.Omega.{arith}
 use borrow.Author.Needs.{needs}
-use mathlib.Core.Path.{_≡_, refl, ap, _∙_}
+use mathlib.Core.Path.{refl, ap, _∙_}
 use lib.ListN.{length-replicate}
-use Rattle.mesh.specs.Lines.{Mesh, layoutOf, meshOf}
+use Rattle.mesh.specs.Lines.{Mesh}
 use Rattle.mesh.specs.Blends.{leavesOf}
 use Rattle.mesh.specs.Sound.{blendsOf}
-use Rattle.mesh.specs.Bytes.{bytesMesh, keepAll, empty}
+use Rattle.mesh.specs.Bytes.{keepAll, empty}
 use Rattle.axis.proofs.Tests.{failed, passed}
 use Rattle.mesh.proofs.Bytes.{all-marked}
-use Rattle.mesh.proofs.Refining.{Ranged, ranged-says, ranged-most, out-refused, sides, drawn-mesh, Cut, places-square, met-refused, read-refined}
+use Rattle.mesh.proofs.Refining.{Ranged, ranged-says, ranged-most, out-refused, sides, Cut, places-square, met-refused, read-refined}
 use Rattle.mesh.proofs.blends.refine.Statement.{statement}
 use Rattle.mesh.proofs.blends.refine.Tie as tie
 
@@ -27,25 +26,14 @@ returns c = c .refusal .ensures ∙ out-refused _ _ (failed (c .before .before .
 ranged-ok : (c : tie.Else1) → Ranged (c .before .before .args .lines) (c .before .before .args .old)
 ranged-ok c = ranged-says _ _ (passed (c .before .in-ranges .ensures) (c .if1 .left))
 
-slice-aggregate-draw-lines : tie.Need-slice-aggregate-draw-lines
-slice-aggregate-draw-lines c = search needs
+slice-aggregate-draw-mesh : tie.Need-slice-aggregate-draw-mesh
+slice-aggregate-draw-mesh c = search needs
 
-draw-lines-requires : tie.Need-draw-lines-requires
-draw-lines-requires c κs = (ranged-ok (c .before) .ok, omega arith, refl)
+slice-aggregate-draw-mesh-2 : tie.Need-slice-aggregate-draw-mesh-2
+slice-aggregate-draw-mesh-2 c = search needs
 
-slice-aggregate-draw-lines-2 : tie.Need-slice-aggregate-draw-lines-2
-slice-aggregate-draw-lines-2 c = search needs
-
-draw-lines-requires-2 : tie.Need-draw-lines-requires-2
-draw-lines-requires-2 c κs = (ranged-ok (c .before .before .before .before) .ok, omega arith, refl)
-
--- the bytes are the lines' mesh
-drawn : (c : tie.After-draw-lines2) →
-    let one = c .before .before .before in
-    bytesMesh (one .draw-lines .last .1 .1 .0) (c .draw-lines2 .last .1 .1 .0) ≡ meshOf (layoutOf (one .before .before .before .before .args .lines))
-drawn c =
-    let one = c .before .before .before in
-    drawn-mesh (one .before .before .before .before .args .lines) _ _ (one .draw-lines .ensures .1) (c .draw-lines2 .ensures .1)
+draw-mesh-requires : tie.Need-draw-mesh-requires
+draw-mesh-requires c κs = (ranged-ok (c .before .before) .ok, refl, refl)
 
 slice-aggregate-cut-all : tie.Need-slice-aggregate-cut-all
 slice-aggregate-cut-all c = search needs
@@ -58,24 +46,23 @@ slice-aggregate-cut-all-3 c = search needs
 
 cut-all-requires : tie.Need-cut-all-requires
 cut-all-requires c κs =
-    let two = c .before .before .before .before in
-    let one = two .before .before .before in
-    let r = ranged-ok (one .before .before) in
-    (one .draw-lines .ensures .0, two .draw-lines2 .ensures .0, length-replicate {A = ℕ} 17161 0, r .few, ranged-most r)
+    let drawn = c .before .before .before .before .before in
+    let r = ranged-ok (drawn .before .before .before) in
+    (drawn .draw-mesh .ensures .0, drawn .draw-mesh .ensures .1, length-replicate {A = ℕ} 17161 0, r .few, ranged-most r)
 
 -- the places hold what is left of the table's blends
 cut : (c : tie.After-cut-all) →
-    let a = c .before .before .before .before .before .before .before .before .before .before .before .before .args in
+    let a = c .before .before .before .before .before .before .before .before .before .before .before .args in
     Cut (a .lines) (a .old) (c .cut-all .last .1 .1 .1 .0)
 cut c =
-    let two = c .before .before .before .before .before in
-    let in-range = two .before .before .before .before .before in
+    let drawn = c .before .before .before .before .before .before in
+    let in-range = drawn .before .before .before in
     let bs = blendsOf (in-range .before .before .args .old) in
     record {
       ranges = ranged-ok in-range;
       before = empty;
       blank = refl;
-      all-kept = c .cut-all .ensures ∙ ap (λ (M : Mesh). keepAll empty (leavesOf M bs)) (drawn two);
+      all-kept = c .cut-all .ensures ∙ ap (λ (M : Mesh). keepAll empty (leavesOf M bs)) (drawn .draw-mesh .ensures .2);
     }
 
 array-read-if2 : tie.Need-array-read-if2
@@ -109,10 +96,9 @@ refine-spec =
     in-ranges-requires
     refusal-requires
     returns
-    slice-aggregate-draw-lines
-    draw-lines-requires
-    slice-aggregate-draw-lines-2
-    draw-lines-requires-2
+    slice-aggregate-draw-mesh
+    slice-aggregate-draw-mesh-2
+    draw-mesh-requires
     slice-aggregate-cut-all
     slice-aggregate-cut-all-2
     slice-aggregate-cut-all-3

@@ -1,14 +1,12 @@
 -- `mesh::blends::some_cut` meets its contract: out of range no line cuts; else the lines' mesh is asked.
-use native.Mathlib.Omega.{arith}
 use borrow.Author.Needs.{needs}
-use mathlib.Core.Path.{_≡_, refl, ap, _∙_}
+use mathlib.Core.Path.{refl, ap, _∙_}
 use Rattle.axis.specs.Range.{any}
-use Rattle.mesh.specs.Lines.{Mesh, layoutOf, meshOf}
+use Rattle.mesh.specs.Lines.{Mesh}
 use Rattle.mesh.specs.Blends.{isCut}
 use Rattle.mesh.specs.Sound.{blendsOf}
-use Rattle.mesh.specs.Bytes.{bytesMesh}
 use Rattle.axis.proofs.Tests.{failed, passed}
-use Rattle.mesh.proofs.Refining.{Ranged, ranged-says, ranged-most, out-uncut, is-cut, drawn-mesh}
+use Rattle.mesh.proofs.Refining.{Ranged, ranged-says, ranged-most, out-uncut, is-cut}
 use Rattle.mesh.proofs.blends.some_cut.Statement.{statement}
 use Rattle.mesh.proofs.blends.some_cut.Tie as tie
 
@@ -22,25 +20,14 @@ returns c = out-uncut _ _ (failed (c .before .in-ranges .ensures) (c .if1 .taken
 ranged-ok : (c : tie.Else1) → Ranged (c .before .before .args .lines) (c .before .before .args .old)
 ranged-ok c = ranged-says _ _ (passed (c .before .in-ranges .ensures) (c .if1 .left))
 
-slice-aggregate-draw-lines : tie.Need-slice-aggregate-draw-lines
-slice-aggregate-draw-lines c = search needs
+slice-aggregate-draw-mesh : tie.Need-slice-aggregate-draw-mesh
+slice-aggregate-draw-mesh c = search needs
 
-draw-lines-requires : tie.Need-draw-lines-requires
-draw-lines-requires c κs = (ranged-ok (c .before) .ok, omega arith, refl)
+slice-aggregate-draw-mesh-2 : tie.Need-slice-aggregate-draw-mesh-2
+slice-aggregate-draw-mesh-2 c = search needs
 
-slice-aggregate-draw-lines-2 : tie.Need-slice-aggregate-draw-lines-2
-slice-aggregate-draw-lines-2 c = search needs
-
-draw-lines-requires-2 : tie.Need-draw-lines-requires-2
-draw-lines-requires-2 c κs = (ranged-ok (c .before .before .before .before) .ok, omega arith, refl)
-
--- the bytes are the lines' mesh
-drawn : (c : tie.After-draw-lines2) →
-    let one = c .before .before .before in
-    bytesMesh (one .draw-lines .last .1 .1 .0) (c .draw-lines2 .last .1 .1 .0) ≡ meshOf (layoutOf (one .before .before .before .before .args .lines))
-drawn c =
-    let one = c .before .before .before in
-    drawn-mesh (one .before .before .before .before .args .lines) _ _ (one .draw-lines .ensures .1) (c .draw-lines2 .ensures .1)
+draw-mesh-requires : tie.Need-draw-mesh-requires
+draw-mesh-requires c κs = (ranged-ok (c .before .before) .ok, refl, refl)
 
 slice-aggregate-any-cut : tie.Need-slice-aggregate-any-cut
 slice-aggregate-any-cut c = search needs
@@ -50,17 +37,16 @@ slice-aggregate-any-cut-2 c = search needs
 
 any-cut-requires : tie.Need-any-cut-requires
 any-cut-requires c κs =
-    let two = c .before .before .before in
-    let one = two .before .before .before in
-    let r = ranged-ok (one .before .before) in
-    (one .draw-lines .ensures .0, two .draw-lines2 .ensures .0, r .few, ranged-most r)
+    let drawn = c .before .before .before .before in
+    let r = ranged-ok (drawn .before .before .before) in
+    (drawn .draw-mesh .ensures .0, drawn .draw-mesh .ensures .1, r .few, ranged-most r)
 
 returns-2 : tie.Need-returns-2
 returns-2 c =
-    let two = c .before .before .before .before in
-    let in-range = two .before .before .before .before .before in
+    let drawn = c .before .before .before .before .before in
+    let in-range = drawn .before .before .before in
     let bs = blendsOf (in-range .before .before .args .old) in
-    c .any-cut .ensures ∙ ap (λ (M : Mesh). any (isCut M) bs) (drawn two) ∙ is-cut (ranged-ok in-range)
+    c .any-cut .ensures ∙ ap (λ (M : Mesh). any (isCut M) bs) (drawn .draw-mesh .ensures .2) ∙ is-cut (ranged-ok in-range)
 
 pub some-cut-spec : {M : Type 1} → statement M
 some-cut-spec =
@@ -68,10 +54,9 @@ some-cut-spec =
     (tie.spec
     in-ranges-requires
     returns
-    slice-aggregate-draw-lines
-    draw-lines-requires
-    slice-aggregate-draw-lines-2
-    draw-lines-requires-2
+    slice-aggregate-draw-mesh
+    slice-aggregate-draw-mesh-2
+    draw-mesh-requires
     slice-aggregate-any-cut
     slice-aggregate-any-cut-2
     any-cut-requires

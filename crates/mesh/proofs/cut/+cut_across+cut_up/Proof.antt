@@ -4,12 +4,11 @@ use Prim.Native.Nat.{ℕ, _<_}
 use borrow.Author.Needs.{needs}
 use borrow.Fn.Kinds.{In}
 use borrow.Fn.PlainCycle.{Measures, is, falls, and}
-use mathlib.Core.Path.{refl, sym, _∙_}
+use mathlib.Core.Path.{sym, _∙_}
 use Rattle.axis.specs.Triple.{lower, upper}
 use Rattle.mesh.specs.Lines.{upright, level}
 use Rattle.mesh.specs.Bytes.{bytesMesh}
-use Rattle.axis.proofs.Tests.{true-not-false}
-use Rattle.mesh.proofs.Cutting.{put-smaller, ahead, half-ahead, handed-ahead, cut-halves, cut-kept}
+use Rattle.mesh.proofs.Cutting.{ahead, handed-ahead, Found, half-asks, cut-halves, cut-kept}
 use Rattle.mesh.proofs.cut.cut_across.Reads as cut-across
 use Rattle.mesh.proofs.cut.cut_across.Kinds as cut-across-kinds
 use Rattle.mesh.proofs.cut.+cut_across+cut_up.Lts-cut_across as cut-across-lts
@@ -80,51 +79,41 @@ cut-across-first-line-requires t c κs = search needs
 cut-across-lower-half-requires : (t : ℕ) → cut-across-lts.Need-lower-half-requires (cut-across-claims t) (cut-across-at t) cut-across.Post
 cut-across-lower-half-requires t c κs = search needs
 
-cut-across-cut-up-requires : (t : ℕ) → cut-across-lts.Need-cut-up-requires (cut-across-claims t) (cut-across-at t) cut-across.Post
+cut-across-found : (t : ℕ) (c : cut-across-lts.Then1 (cut-across-claims t) (cut-across-at t) cut-across.Post) →
+    let a = c .before .before .before .before .before .before .before .before .args in
+    Found (bytesMesh (a .uprights .now) (a .levels .now)) upright (a .x) (c .before .first-line .result)
 unfolding bytesMesh
+cut-across-found t c = record { ok = c .before .before .before .before .before .before .before .before .pre .1 .3; is = c .before .first-line .ensures; some = c .if1 .taken }
+
+cut-across-cut-up-requires : (t : ℕ) → cut-across-lts.Need-cut-up-requires (cut-across-claims t) (cut-across-at t) cut-across.Post
 cut-across-cut-up-requires t c κs =
-    let lo = c .before in
-    let cut = lo .before in
-    let line = cut .before in
-    let b = line .before .before .before .before .before .before .before in
-    let less =
-    put-smaller (bytesMesh (b .args .uprights .now) (b .args .levels .now)) upright (b .args .x) (b .pre .1 .3) _ (line .first-line .ensures) (cut .if1 .taken)
-    lower _ (lo .lower-half .ensures) in
-    (half-ahead (b .args .tried) t less (b .pre .0), (b .pre .1 .0, b .pre .1 .1, b .pre .1 .2, less .proper, λ e. absurd (true-not-false _ e refl)))
+    let cut = c .before .before in
+    let b = cut .before .before .before .before .before .before .before .before in
+    let h = half-asks (cut-across-found t cut) (b .args .tried) t (b .pre .0) lower _ (c .before .lower-half .ensures) in
+    (h .0, (b .pre .1 .0, b .pre .1 .1, b .pre .1 .2, h .1, h .2))
 
 cut-across-upper-half-requires : (t : ℕ) → cut-across-lts.Need-upper-half-requires (cut-across-claims t) (cut-across-at t) cut-across.Post
 cut-across-upper-half-requires t c κs = search needs
 
 cut-across-cut-up-requires-2 : (t : ℕ) → cut-across-lts.Need-cut-up-requires-2 (cut-across-claims t) (cut-across-at t) cut-across.Post
-unfolding bytesMesh
 cut-across-cut-up-requires-2 t c κs =
-    let hi = c .before in
-    let one = hi .before .before .before in
+    let one = c .before .before .before .before in
     let cut = one .before .before .before in
-    let line = cut .before in
-    let b = line .before .before .before .before .before .before .before in
-    let less =
-    put-smaller (bytesMesh (b .args .uprights .now) (b .args .levels .now)) upright (b .args .x) (b .pre .1 .3) _ (line .first-line .ensures) (cut .if1 .taken)
-    upper _ (hi .upper-half .ensures) in
-    let square = one .cut-up .kept .1 .1 .1 .1 .0 ∙ b .pre .1 .2 in
-    (half-ahead (b .args .tried) t less (b .pre .0), (b .pre .1 .0, b .pre .1 .1, square, less .proper, λ e. absurd (true-not-false _ e refl)))
+    let b = cut .before .before .before .before .before .before .before .before in
+    let h = half-asks (cut-across-found t cut) (b .args .tried) t (b .pre .0) upper _ (c .before .upper-half .ensures) in
+    (h .0, (b .pre .1 .0, b .pre .1 .1, one .cut-up .kept .1 .1 .1 .1 .0 ∙ b .pre .1 .2, h .1, h .2))
 
 cut-across-same-length : (t : ℕ) → cut-across-lts.Need-same-length (cut-across-claims t) (cut-across-at t) cut-across.Post
 cut-across-same-length t c = c .before .before .cut-up2 .kept .1 .1 .1 .1 .0 ∙ c .before .before .before .before .before .before .before .cut-up .kept .1 .1 .1 .1 .0
 
 cut-across-returns : (t : ℕ) → cut-across-lts.Need-returns (cut-across-claims t) (cut-across-at t) cut-across.Post
-unfolding bytesMesh
 cut-across-returns t c =
     let two = c .before .before in
     let hi = two .before .before in
     let one = hi .before .before .before in
     let lo = one .before .before in
-    let cut = lo .before in
-    let line = cut .before in
-    let b = line .before .before .before .before .before .before .before in
-    let a = b .args in
-    cut-halves (bytesMesh (a .uprights .now) (a .levels .now)) upright (a .x) (b .pre .1 .3) _ (line .first-line .ensures) (cut .if1 .taken)
-    (a .tried) _ _ (a .places .now) (one .cut-up .last .1 .1 .1 .1 .0) (two .cut-up2 .last .1 .1 .1 .1 .0)
+    let b = lo .before .before .before .before .before .before .before .before .before in
+    cut-halves (cut-across-found t (lo .before)) (b .args .tried) _ _ (b .args .places .now) (one .cut-up .last .1 .1 .1 .1 .0) (two .cut-up2 .last .1 .1 .1 .1 .0)
     (b .pre .1 .4) (lo .lower-half .ensures) (hi .upper-half .ensures) (one .cut-up .ensures) (two .cut-up2 .ensures)
 
 cut-across-keep-blend-requires : (t : ℕ) → cut-across-lts.Need-keep-blend-requires (cut-across-claims t) (cut-across-at t) cut-across.Post
@@ -174,51 +163,41 @@ cut-up-first-line-requires t c κs = search needs
 cut-up-lower-half-requires : (t : ℕ) → cut-up-lts.Need-lower-half-requires (cut-up-claims t) (cut-up-at t) cut-up.Post
 cut-up-lower-half-requires t c κs = search needs
 
-cut-up-cut-across-requires : (t : ℕ) → cut-up-lts.Need-cut-across-requires (cut-up-claims t) (cut-up-at t) cut-up.Post
+cut-up-found : (t : ℕ) (c : cut-up-lts.Then1 (cut-up-claims t) (cut-up-at t) cut-up.Post) →
+    let a = c .before .before .before .before .before .before .before .before .args in
+    Found (bytesMesh (a .uprights .now) (a .levels .now)) level (a .x) (c .before .first-line .result)
 unfolding bytesMesh
+cut-up-found t c = record { ok = c .before .before .before .before .before .before .before .before .pre .1 .3; is = c .before .first-line .ensures; some = c .if1 .taken }
+
+cut-up-cut-across-requires : (t : ℕ) → cut-up-lts.Need-cut-across-requires (cut-up-claims t) (cut-up-at t) cut-up.Post
 cut-up-cut-across-requires t c κs =
-    let lo = c .before in
-    let cut = lo .before in
-    let line = cut .before in
-    let b = line .before .before .before .before .before .before .before in
-    let less =
-    put-smaller (bytesMesh (b .args .uprights .now) (b .args .levels .now)) level (b .args .x) (b .pre .1 .3) _ (line .first-line .ensures) (cut .if1 .taken)
-    lower _ (lo .lower-half .ensures) in
-    (half-ahead (b .args .tried) t less (b .pre .0), (b .pre .1 .0, b .pre .1 .1, b .pre .1 .2, less .proper, λ e. absurd (true-not-false _ e refl)))
+    let cut = c .before .before in
+    let b = cut .before .before .before .before .before .before .before .before in
+    let h = half-asks (cut-up-found t cut) (b .args .tried) t (b .pre .0) lower _ (c .before .lower-half .ensures) in
+    (h .0, (b .pre .1 .0, b .pre .1 .1, b .pre .1 .2, h .1, h .2))
 
 cut-up-upper-half-requires : (t : ℕ) → cut-up-lts.Need-upper-half-requires (cut-up-claims t) (cut-up-at t) cut-up.Post
 cut-up-upper-half-requires t c κs = search needs
 
 cut-up-cut-across-requires-2 : (t : ℕ) → cut-up-lts.Need-cut-across-requires-2 (cut-up-claims t) (cut-up-at t) cut-up.Post
-unfolding bytesMesh
 cut-up-cut-across-requires-2 t c κs =
-    let hi = c .before in
-    let one = hi .before .before .before in
+    let one = c .before .before .before .before in
     let cut = one .before .before .before in
-    let line = cut .before in
-    let b = line .before .before .before .before .before .before .before in
-    let less =
-    put-smaller (bytesMesh (b .args .uprights .now) (b .args .levels .now)) level (b .args .x) (b .pre .1 .3) _ (line .first-line .ensures) (cut .if1 .taken)
-    upper _ (hi .upper-half .ensures) in
-    let square = one .cut-across .kept .1 .1 .1 .1 .0 ∙ b .pre .1 .2 in
-    (half-ahead (b .args .tried) t less (b .pre .0), (b .pre .1 .0, b .pre .1 .1, square, less .proper, λ e. absurd (true-not-false _ e refl)))
+    let b = cut .before .before .before .before .before .before .before .before in
+    let h = half-asks (cut-up-found t cut) (b .args .tried) t (b .pre .0) upper _ (c .before .upper-half .ensures) in
+    (h .0, (b .pre .1 .0, b .pre .1 .1, one .cut-across .kept .1 .1 .1 .1 .0 ∙ b .pre .1 .2, h .1, h .2))
 
 cut-up-same-length : (t : ℕ) → cut-up-lts.Need-same-length (cut-up-claims t) (cut-up-at t) cut-up.Post
 cut-up-same-length t c = c .before .before .cut-across2 .kept .1 .1 .1 .1 .0 ∙ c .before .before .before .before .before .before .before .cut-across .kept .1 .1 .1 .1 .0
 
 cut-up-returns : (t : ℕ) → cut-up-lts.Need-returns (cut-up-claims t) (cut-up-at t) cut-up.Post
-unfolding bytesMesh
 cut-up-returns t c =
     let two = c .before .before in
     let hi = two .before .before in
     let one = hi .before .before .before in
     let lo = one .before .before in
-    let cut = lo .before in
-    let line = cut .before in
-    let b = line .before .before .before .before .before .before .before in
-    let a = b .args in
-    cut-halves (bytesMesh (a .uprights .now) (a .levels .now)) level (a .x) (b .pre .1 .3) _ (line .first-line .ensures) (cut .if1 .taken)
-    (a .tried) _ _ (a .places .now) (one .cut-across .last .1 .1 .1 .1 .0) (two .cut-across2 .last .1 .1 .1 .1 .0)
+    let b = lo .before .before .before .before .before .before .before .before .before in
+    cut-halves (cut-up-found t (lo .before)) (b .args .tried) _ _ (b .args .places .now) (one .cut-across .last .1 .1 .1 .1 .0) (two .cut-across2 .last .1 .1 .1 .1 .0)
     (b .pre .1 .4) (lo .lower-half .ensures) (hi .upper-half .ensures) (one .cut-across .ensures) (two .cut-across2 .ensures)
 
 cut-up-keep-blend-requires : (t : ℕ) → cut-up-lts.Need-keep-blend-requires (cut-up-claims t) (cut-up-at t) cut-up.Post

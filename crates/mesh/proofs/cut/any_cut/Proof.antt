@@ -2,15 +2,14 @@
 use Prim.Native.Nat.{_+_, _-_, _≤_}
 use native.Mathlib.Omega.{arith}
 use mathlib.Core.Path.{_≡_, refl, sym, ap, _∙_}
-use mathlib.Core.Bool.{true, false, _||_}
-use mathlib.Core.List.{_∷_}
-use lib.ListN.{drop, getD, length, length-map}
+use mathlib.Core.Bool.{Bool, true, false, _||_}
+use lib.ListN.{drop, getD}
 use Rattle.axis.specs.Range.{any}
 use Rattle.mesh.specs.Lines.{upright, level}
 use Rattle.mesh.specs.Blends.{isCut}
 use Rattle.mesh.specs.Sound.{none, blendsOf}
-use Rattle.mesh.specs.Bytes.{bytesMesh, Proper}
-use Rattle.mesh.proofs.Cutting.{blends-turn, blends-end, blends-proper}
+use Rattle.mesh.specs.Bytes.{bytesMesh}
+use Rattle.mesh.proofs.Cutting.{blends-end, Next, next-blend}
 use Rattle.mesh.proofs.Refining.{some-line, no-line}
 use Rattle.mesh.proofs.cut.any_cut.Statement.{statement}
 use Rattle.mesh.proofs.cut.any_cut.Tie as tie
@@ -26,50 +25,18 @@ abbrev μ-loop : tie.MeasureT-loop
 loop-holds : tie.Need-loop-holds Inv-loop μ-loop
 loop-holds c = (omega arith, refl)
 
-full : (c : tie.In-loop Inv-loop μ-loop) → length (c .before .before .before .before .args .t3 .blends) ≡ 1024
-full c = simp length-map at (c .before .before .before .before .good .1 .1 .0 .1 .1 .1 .0 .1 .0 .1)
-
--- the next blend, and those behind it
-turn : (c : tie.In-loop Inv-loop μ-loop) →
-    let l = c .before .loop in
-    let a = c .before .before .before .before .args in
-    drop (l .i) (blendsOf (a .t3)) ≡ getD (a .t3 .blends) (l .i) none ∷ drop (l .i + 1) (blendsOf (a .t3))
-turn c =
-    let n = full c in
-    blends-turn (c .before .before .before .before .args .t3) (c .before .loop .i) (omega arith) (omega arith)
-
--- it rises, as the searches for a line ask
-next-proper : (c : tie.In-loop Inv-loop μ-loop) →
-    Proper (getD (c .before .before .before .before .args .t3 .blends) (c .before .loop .i) none)
-next-proper c =
+next : (c : tie.In-loop Inv-loop μ-loop) → Next (c .before .before .before .before .args .t3) (c .before .loop .i)
+next c =
     let s = c .before .before .before .before in
-    let n = full c in
-    blends-proper (s .args .t3) (c .before .loop .i) (s .pre .3) (omega arith) (omega arith)
-
--- the whole answer, by whether it is cut
-answer-turn : (c : tie.In-loop Inv-loop μ-loop) →
-    let l = c .before .loop in
-    let a = c .before .before .before .before .args in
-    let M = bytesMesh (a .uprights .now) (a .levels .now) in
-    any (isCut M) (blendsOf (a .t3)) ≡ (isCut M (getD (a .t3 .blends) (l .i) none) || any (isCut M) (drop (l .i + 1) (blendsOf (a .t3))))
-answer-turn c =
-    let a = c .before .before .before .before .args in
-    sym (c .before .loop .inv .1) ∙ ap (any (isCut (bytesMesh (a .uprights .now) (a .levels .now)))) (turn c)
+    next-blend (s .args .t3) _ (s .good .1 .1 .0) (s .pre .2) (s .pre .3) (omega arith)
 
 -- a line that cuts the next blend answers; where none does, those behind it decide
-found : (c : tie.In-loop Inv-loop μ-loop) →
+by-next : (c : tie.In-loop Inv-loop μ-loop) (b : Bool) →
     let l = c .before .loop in
     let a = c .before .before .before .before .args in
     let M = bytesMesh (a .uprights .now) (a .levels .now) in
-    isCut M (getD (a .t3 .blends) (l .i) none) ≡ true → true ≡ any (isCut M) (blendsOf (a .t3))
-found c e = sym (answer-turn c ∙ rw e)
-
-passed : (c : tie.In-loop Inv-loop μ-loop) →
-    let l = c .before .loop in
-    let a = c .before .before .before .before .args in
-    let M = bytesMesh (a .uprights .now) (a .levels .now) in
-    isCut M (getD (a .t3 .blends) (l .i) none) ≡ false → any (isCut M) (drop (l .i + 1) (blendsOf (a .t3))) ≡ any (isCut M) (blendsOf (a .t3))
-passed c e = sym (answer-turn c ∙ rw e)
+    isCut M (getD (a .t3 .blends) (l .i) none) ≡ b → (b || any (isCut M) (drop (l .i + 1) (blendsOf (a .t3)))) ≡ any (isCut M) (blendsOf (a .t3))
+by-next c b e = rw (← e) (rw (next c .turn) at (c .before .loop .inv .1))
 
 mul-x : tie.Need-mul-x Inv-loop μ-loop
 mul-x c = omega arith
@@ -78,33 +45,33 @@ element-copy-out-x : tie.Need-element-copy-out-x Inv-loop μ-loop
 element-copy-out-x c = omega arith
 
 sub-first-line : tie.Need-sub-first-line Inv-loop μ-loop
-sub-first-line c = let p = next-proper (c .before .before .before .before) in omega arith
+sub-first-line c = let p = next (c .before .before .before .before) .proper in omega arith
 
 first-line-requires : tie.Need-first-line-requires Inv-loop μ-loop
 first-line-requires c κs =
-    let p = next-proper (c .before .before .before .before) in
+    let p = next (c .before .before .before .before) .proper in
     (c .before .before .before .before .before .before .before .before .pre .0, p .across, omega arith)
 
 returns : tie.Need-returns Inv-loop μ-loop
 unfolding bytesMesh
 returns c =
     let t = c .before .before .before .before .before .before in
-    found t (some-line _ _ upright (λ e. c .if1 .taken (c .before .first-line .ensures ∙ e)))
+    by-next t true (some-line _ _ upright (λ e. c .if1 .taken (c .before .first-line .ensures ∙ e)))
 
 sub-first-line-2 : tie.Need-sub-first-line-2 Inv-loop μ-loop
-sub-first-line-2 c = let p = next-proper (c .before .before .before .before .before .before .before) in omega arith
+sub-first-line-2 c = let p = next (c .before .before .before .before .before .before .before) .proper in omega arith
 
 first-line-requires-2 : tie.Need-first-line-requires-2 Inv-loop μ-loop
 first-line-requires-2 c κs =
     let t = c .before .before .before .before .before .before .before in
-    let p = next-proper t in
+    let p = next t .proper in
     (t .before .before .before .before .pre .1, p .up, omega arith)
 
 returns-2 : tie.Need-returns-2 Inv-loop μ-loop
 unfolding bytesMesh
 returns-2 c =
     let t = c .before .before .before .before .before .before .before .before .before in
-    found t (some-line _ _ level (λ e. c .if2 .taken (c .before .first-line2 .ensures ∙ e)))
+    by-next t true (some-line _ _ level (λ e. c .if2 .taken (c .before .first-line2 .ensures ∙ e)))
 
 add-i : tie.Need-add-i Inv-loop μ-loop
 add-i c = omega arith
@@ -118,7 +85,7 @@ loop-again c =
     let one = c .before .before .before in
     let t = one .before .before .before .before .before .before in (
       omega arith,
-      passed t (no-line _ _ (sym (one .before .first-line .ensures) ∙ one .if1 .left) (sym (c .before .first-line2 .ensures) ∙ c .if2 .left)),
+      by-next t false (no-line _ _ (sym (one .before .first-line .ensures) ∙ one .if1 .left) (sym (c .before .first-line2 .ensures) ∙ c .if2 .left)),
     )
 
 returns-3 : tie.Need-returns-3 Inv-loop μ-loop

@@ -1,39 +1,30 @@
 -- `mesh::cut::cut_all` meets its contract. The invariant: the blends that remain, cut into the places as they are, give the whole answer.
-use Prim.Native.Nat.{_+_, _-_, _≤_}
+use Prim.Native.Nat.{_-_, _≤_}
 use native.Mathlib.Omega.{arith}
 use mathlib.Core.Path.{_≡_, refl, _∙_}
-use mathlib.Core.List.{_∷_}
-use lib.ListN.{drop, getD, length, length-map}
-use Rattle.mesh.specs.Blends.{leavesOf}
-use Rattle.mesh.specs.Sound.{none, blendsOf}
-use Rattle.mesh.specs.Bytes.{bytesMesh, keepAll}
-use Rattle.axis.proofs.Tests.{true-not-false}
-use Rattle.mesh.proofs.Cutting.{blends-turn, blends-end, blends-proper, cut-first}
+use mathlib.Core.Bool.{true}
+use Rattle.mesh.specs.Sound.{blendsOf}
+use Rattle.mesh.specs.Bytes.{bytesMesh}
+use Rattle.axis.proofs.Tests.{true-not-false, only-all}
+use Rattle.mesh.proofs.Cutting.{blends-end, Next, next-blend}
+use Rattle.mesh.proofs.Recutting.{Keeping, keeping-none, keeping-cut, keeping-done}
 use Rattle.mesh.proofs.cut.cut_all.Statement.{statement}
 use Rattle.mesh.proofs.cut.cut_all.Tie as tie
 
 abbrev Inv-loop : tie.InvT-loop
 Inv-loop uprights levels places₀ table count i₀ places i =
-    (i ≤ count) × (length places ≡ length places₀) ×
-    (keepAll places (leavesOf (bytesMesh uprights levels) (drop i (blendsOf table))) ≡ keepAll places₀ (leavesOf (bytesMesh uprights levels) (blendsOf table)))
+    (i ≤ count) × Keeping (bytesMesh uprights levels) (λ B. true) (blendsOf table) places₀ i places
 
 abbrev μ-loop : tie.MeasureT-loop
 μ-loop uprights levels places₀ table count i₀ places i = count - i
 
 loop-holds : tie.Need-loop-holds Inv-loop μ-loop
-loop-holds c = (omega arith, refl, refl)
+loop-holds c = (omega arith, keeping-none _ _ _ _)
 
-full : (c : tie.In-loop Inv-loop μ-loop) → length (c .before .before .before .before .before .args .t3 .blends) ≡ 1024
-full c = simp length-map at (c .before .before .before .before .before .good .1 .1 .0 .1 .1 .1 .0 .1 .0 .1)
-
--- the next blend, and those behind it
-turn : (c : tie.In-loop Inv-loop μ-loop) →
-    let l = c .before .loop in
-    let a = c .before .before .before .before .before .args in
-    drop (l .i) (blendsOf (a .t3)) ≡ getD (a .t3 .blends) (l .i) none ∷ drop (l .i + 1) (blendsOf (a .t3))
-turn c =
-    let n = full c in
-    blends-turn (c .before .before .before .before .before .args .t3) (c .before .loop .i) (omega arith) (omega arith)
+next : (c : tie.In-loop Inv-loop μ-loop) → Next (c .before .before .before .before .before .args .t3) (c .before .loop .i)
+next c =
+    let s = c .before .before .before .before .before in
+    next-blend (s .args .t3) _ (s .good .1 .1 .0) (s .pre .3) (s .pre .4) (omega arith)
 
 mul-x : tie.Need-mul-x Inv-loop μ-loop
 mul-x c = omega arith
@@ -44,12 +35,11 @@ element-copy-out-x c = omega arith
 cut-across-requires : tie.Need-cut-across-requires Inv-loop μ-loop
 cut-across-requires c κs =
     let l = c .before .before .before .loop in
-    let b = c .before .before .before .before .before .before .before in
-    let n = full (c .before .before) in (
+    let b = c .before .before .before .before .before .before .before in (
       b .pre .0,
       b .pre .1,
-      l .inv .1 ∙ b .pre .2,
-      blends-proper (b .args .t3) (l .i) (b .pre .4) (omega arith) (omega arith),
+      l .inv .1 .same ∙ b .pre .2,
+      next (c .before .before) .proper,
       λ e. absurd (true-not-false _ e refl),
     )
 
@@ -61,26 +51,18 @@ loop-less c = omega arith
 
 loop-again : tie.Need-loop-again Inv-loop μ-loop
 loop-again c =
-    let l = c .before .before .before .before .before .before .loop in
-    let a = c .before .before .before .before .before .before .before .before .before .before .args in
+    let in-loop = c .before .before .before .before .before in
     let call = c .before .before .cut-across in
-    let first =
-    cut-first (bytesMesh (a .uprights .now) (a .levels .now)) _ (drop (l .i + 1) (blendsOf (a .t3))) (l .places) (call .last .1 .1 .1 .1 .0)
-    (call .ensures) in (
-      omega arith,
-      call .kept .1 .1 .1 .1 .0 ∙ l .inv .1,
-      first ∙ (rw (turn (c .before .before .before .before .before)) at (l .inv .2)),
-    )
+    (omega arith, keeping-cut _ _ _ (in-loop .before .loop .inv .1) _ _ (next in-loop .turn) refl (call .kept .1 .1 .1 .1 .0) (call .ensures))
 
 same-length : tie.Need-same-length Inv-loop μ-loop
-same-length c = c .before .loop .inv .1
+same-length c = c .before .loop .inv .1 .same
 
 returns : tie.Need-returns Inv-loop μ-loop
-unfolding leavesOf keepAll
 returns c =
     let l = c .before .loop in
-    let a = c .before .before .before .before .before .args in
-    rw (blends-end (a .t3) (l .i) (omega arith)) at (l .inv .2)
+    let t = c .before .before .before .before .before .args .t3 in
+    keeping-done _ _ _ (l .inv .1) (blends-end t (l .i) (omega arith)) ∙ rw (only-all (λ B. true) (blendsOf t) (λ B m. refl))
 
 pub cut-all-spec : {M : Type 1} → statement M
 cut-all-spec =

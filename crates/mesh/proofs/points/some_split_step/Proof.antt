@@ -3,10 +3,11 @@ use Prim.Native.Nat.{_+_, _-_, _≤_}
 use native.Mathlib.Omega.{arith}
 use mathlib.Core.Path.{_≡_, refl, sym, _∙_}
 use mathlib.Core.Bool.{_||_}
-use lib.ListN.{drop, length, length-map}
+use lib.ListN.{drop}
 use Rattle.axis.specs.Range.{any}
 use Rattle.mesh.specs.Lines.{splitsOf}
-use Rattle.axis.proofs.Entries.{left-turn, left-none}
+use Rattle.axis.proofs.Entries.{left-turn, none-left}
+use Rattle.mesh.proofs.Arrays.{lines-full}
 use Rattle.mesh.proofs.Drawing.{allowed-says, blank}
 use Rattle.mesh.proofs.SingleSteps.{has, split-small}
 use Rattle.mesh.proofs.points.some_split_step.Statement.{statement}
@@ -23,9 +24,6 @@ abbrev μ-loop : tie.MeasureT-loop
 loop-holds : tie.Need-loop-holds Inv-loop μ-loop
 loop-holds c = let a = allowed-says (c .args .t1) (c .pre .0) in (omega arith, a .held, refl)
 
-sixty : (c : tie.Start Inv-loop μ-loop) → length (c .args .t1 .splits) ≡ 60
-sixty c = simp length-map at (c .good .0 .1 .1 .1 .1 .1 .0 .1 .0 .1)
-
 mul-s : tie.Need-mul-s Inv-loop μ-loop
 mul-s c = omega arith
 
@@ -35,7 +33,7 @@ element-copy-out-s c = omega arith
 split-step-requires : tie.Need-split-step-requires Inv-loop μ-loop
 split-step-requires c κs =
     let s = c .before .before .before in
-    let small = split-small (s .args .t1) (s .pre .0) (sixty s) (c .before .before .loop .i) (omega arith) in
+    let small = split-small (s .args .t1) (s .pre .0) (lines-full (s .args .t1) (s .good .0)) (c .before .before .loop .i) (omega arith) in
     (omega arith, omega arith, omega arith)
 
 -- the answer for one split, and for those that are left after it
@@ -48,7 +46,7 @@ turn c =
     let s = c .before .before .before .before in
     let a = s .args in
     let l = c .before .before .before .loop in
-    let n = sixty s in
+    let n = lines-full (a .t1) (s .good .0) in
     l .inv .2 ∙ rw (left-turn (a .t1 .splits) (a .t1 .count) (l .i) (omega arith) blank (omega arith), c .split-step .ensures)
 
 returns : tie.Need-returns Inv-loop μ-loop
@@ -65,11 +63,9 @@ loop-again c = (omega arith, omega arith, turn (c .before) ∙ rw (c .if1 .left)
 
 returns-2 : tie.Need-returns-2 Inv-loop μ-loop
 returns-2 c =
-    let s = c .before .before in
-    let a = s .args in
+    let lines = c .before .before .args .t1 in
     let l = c .before .loop in
-    let n = sixty s in
-    sym (l .inv .2 ∙ rw (left-none (a .t1 .splits) (a .t1 .count) (l .i) (omega arith) (omega arith)))
+    sym (l .inv .2 ∙ rw (none-left (lines .splits) (lines .count) (l .i) (omega arith)))
 
 pub some-split-step-spec : {M : Type 1} → statement M
 some-split-step-spec =

@@ -1,15 +1,13 @@
 -- `mesh::replay::clear_cut` meets its contract. The invariant: the blends that remain, cleared from the places as they are, give the whole answer.
-use Prim.Native.Nat.{_+_, _-_, _≤_, _<_}
+use Prim.Native.Nat.{_-_, _≤_, _<_}
 use native.Mathlib.Omega.{arith}
-use mathlib.Core.Path.{_≡_, sym, _∙_}
+use mathlib.Core.Path.{sym, _∙_}
 use mathlib.Core.Logic.{⊎-elim}
-use mathlib.Core.List.{_∷_}
-use lib.ListN.{drop, getD, length, length-map}
 use Rattle.mesh.specs.Lines.{direction}
 use Rattle.mesh.specs.Blends.{cuts}
-use Rattle.mesh.specs.Sound.{none, blendsOf}
-use Rattle.mesh.specs.Bytes.{bytesMesh, Proper}
-use Rattle.mesh.proofs.Cutting.{blends-turn, blends-end, blends-proper}
+use Rattle.mesh.specs.Sound.{blendsOf}
+use Rattle.mesh.specs.Bytes.{bytesMesh}
+use Rattle.mesh.proofs.Cutting.{blends-end, Next, next-blend}
 use Rattle.mesh.proofs.Recutting.{Clearing, clearing-none, clearing-cut, clearing-pass, clearing-done}
 use Rattle.mesh.proofs.replay.clear_cut.Statement.{statement}
 use Rattle.mesh.proofs.replay.clear_cut.Tie as tie
@@ -24,23 +22,10 @@ abbrev μ-loop : tie.MeasureT-loop
 loop-holds : tie.Need-loop-holds Inv-loop μ-loop
 loop-holds c = (omega arith, clearing-none _ _ _)
 
-full : (c : tie.In-loop Inv-loop μ-loop) → length (c .before .before .before .before .before .args .t5 .blends) ≡ 1024
-full c = simp length-map at (c .before .before .before .before .before .good .1 .1 .1 .1 .0 .1 .1 .1 .0 .1 .0 .1)
-
--- the next blend, and those behind it
-turn : (c : tie.In-loop Inv-loop μ-loop) →
-    let l = c .before .loop in
-    let a = c .before .before .before .before .before .args in
-    drop (l .i) (blendsOf (a .t5)) ≡ getD (a .t5 .blends) (l .i) none ∷ drop (l .i + 1) (blendsOf (a .t5))
-turn c =
-    let n = full c in
-    blends-turn (c .before .before .before .before .before .args .t5) (c .before .loop .i) (omega arith) (omega arith)
-
-next-proper : (c : tie.In-loop Inv-loop μ-loop) → Proper (getD (c .before .before .before .before .before .args .t5 .blends) (c .before .loop .i) none)
-next-proper c =
+next : (c : tie.In-loop Inv-loop μ-loop) → Next (c .before .before .before .before .before .args .t5) (c .before .loop .i)
+next c =
     let s = c .before .before .before .before .before in
-    let n = full c in
-    blends-proper (s .args .t5) (c .before .loop .i) (s .pre .5) (omega arith) (omega arith)
+    next-blend (s .args .t5) _ (s .good .1 .1 .1 .1 .0) (s .pre .4) (s .pre .5) (omega arith)
 
 mul-x : tie.Need-mul-x Inv-loop μ-loop
 mul-x c = omega arith
@@ -51,7 +36,7 @@ element-copy-out-x c = omega arith
 cuts-blend-requires : tie.Need-cuts-blend-requires Inv-loop μ-loop
 cuts-blend-requires c κs =
     let p = c .before .before .before .before .before .before .pre in
-    (p .0, p .1, p .3, next-proper (c .before))
+    (p .0, p .1, p .3, next (c .before) .proper)
 
 place-requires : tie.Need-place-requires Inv-loop μ-loop
 place-requires c κs = tt
@@ -59,7 +44,7 @@ place-requires c κs = tt
 -- its anchor has a place
 in-square : (c : tie.After-place Inv-loop μ-loop) → c .place .result < 17161
 in-square c =
-    let p = next-proper (c .before .before .before .before) in
+    let p = next (c .before .before .before .before) .proper in
     let a = p .across in
     let u = p .up in
     rw (c .place .ensures) (omega arith)
@@ -88,9 +73,9 @@ loop-again c =
       omega arith,
       ⊎-elim
           (λ t. rw (t .2, t .3, t .1 .ensures)
-          (clearing-cut _ _ (l .inv .1) _ (turn in-loop) (sym (c .before .cuts-blend .ensures) ∙ t .0 .taken)))
+          (clearing-cut _ _ (l .inv .1) _ (next in-loop .turn) (sym (c .before .cuts-blend .ensures) ∙ t .0 .taken)))
           (λ t. rw (t .1, t .2)
-          (clearing-pass _ _ (l .inv .1) _ (turn in-loop) (sym (c .before .cuts-blend .ensures) ∙ t .0 .left)))
+          (clearing-pass _ _ (l .inv .1) _ (next in-loop .turn) (sym (c .before .cuts-blend .ensures) ∙ t .0 .left)))
           (c .if1 .came),
     )
 

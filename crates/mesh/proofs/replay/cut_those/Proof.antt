@@ -1,16 +1,14 @@
 -- `mesh::replay::cut_those` meets its contract. The invariant: the blends that remain, cut into the places as they are, give the whole answer.
-use Prim.Native.Nat.{_+_, _-_, _≤_}
+use Prim.Native.Nat.{_-_, _≤_}
 use native.Mathlib.Omega.{arith}
-use mathlib.Core.Path.{_≡_, refl, sym, _∙_}
+use mathlib.Core.Path.{refl, sym, _∙_}
 use mathlib.Core.Logic.{⊎-elim}
-use mathlib.Core.List.{_∷_}
-use lib.ListN.{drop, getD, length, length-map}
 use Rattle.mesh.specs.Lines.{direction}
 use Rattle.mesh.specs.Blends.{cuts}
-use Rattle.mesh.specs.Sound.{none, blendsOf}
-use Rattle.mesh.specs.Bytes.{bytesMesh, Proper}
+use Rattle.mesh.specs.Sound.{blendsOf}
+use Rattle.mesh.specs.Bytes.{bytesMesh}
 use Rattle.axis.proofs.Tests.{true-not-false}
-use Rattle.mesh.proofs.Cutting.{blends-turn, blends-end, blends-proper}
+use Rattle.mesh.proofs.Cutting.{blends-end, Next, next-blend}
 use Rattle.mesh.proofs.Recutting.{Keeping, keeping-none, keeping-cut, keeping-pass, keeping-done}
 use Rattle.mesh.proofs.replay.cut_those.Statement.{statement}
 use Rattle.mesh.proofs.replay.cut_those.Tie as tie
@@ -26,23 +24,10 @@ abbrev μ-loop : tie.MeasureT-loop
 loop-holds : tie.Need-loop-holds Inv-loop μ-loop
 loop-holds c = (omega arith, keeping-none _ _ _ _)
 
-full : (c : tie.In-loop Inv-loop μ-loop) → length (c .before .before .before .before .before .args .t5 .blends) ≡ 1024
-full c = simp length-map at (c .before .before .before .before .before .good .1 .1 .1 .1 .0 .1 .1 .1 .0 .1 .0 .1)
-
--- the next blend, and those behind it
-turn : (c : tie.In-loop Inv-loop μ-loop) →
-    let l = c .before .loop in
-    let a = c .before .before .before .before .before .args in
-    drop (l .i) (blendsOf (a .t5)) ≡ getD (a .t5 .blends) (l .i) none ∷ drop (l .i + 1) (blendsOf (a .t5))
-turn c =
-    let n = full c in
-    blends-turn (c .before .before .before .before .before .args .t5) (c .before .loop .i) (omega arith) (omega arith)
-
-next-proper : (c : tie.In-loop Inv-loop μ-loop) → Proper (getD (c .before .before .before .before .before .args .t5 .blends) (c .before .loop .i) none)
-next-proper c =
+next : (c : tie.In-loop Inv-loop μ-loop) → Next (c .before .before .before .before .before .args .t5) (c .before .loop .i)
+next c =
     let s = c .before .before .before .before .before in
-    let n = full c in
-    blends-proper (s .args .t5) (c .before .loop .i) (s .pre .5) (omega arith) (omega arith)
+    next-blend (s .args .t5) _ (s .good .1 .1 .1 .1 .0) (s .pre .4) (s .pre .5) (omega arith)
 
 mul-x : tie.Need-mul-x Inv-loop μ-loop
 mul-x c = omega arith
@@ -53,7 +38,7 @@ element-copy-out-x c = omega arith
 cuts-blend-requires : tie.Need-cuts-blend-requires Inv-loop μ-loop
 cuts-blend-requires c κs =
     let p = c .before .before .before .before .before .before .pre in
-    (p .0, p .1, p .3, next-proper (c .before))
+    (p .0, p .1, p .3, next (c .before) .proper)
 
 cut-across-requires : tie.Need-cut-across-requires Inv-loop μ-loop
 cut-across-requires c κs =
@@ -62,7 +47,7 @@ cut-across-requires c κs =
       p .0,
       p .1,
       in-loop .before .loop .inv .1 .same ∙ p .2,
-      next-proper in-loop,
+      next in-loop .proper,
       λ e. absurd (true-not-false _ e refl),
     )
 
@@ -79,9 +64,9 @@ loop-again c =
       omega arith,
       ⊎-elim
           (λ t. rw (t .5)
-          (keeping-cut _ _ _ (l .inv .1) _ _ (turn in-loop) (sym (c .before .cuts-blend .ensures) ∙ t .0 .taken) (t .2 .kept .1 .1 .1 .1 .0) (t .2 .ensures)))
+          (keeping-cut _ _ _ (l .inv .1) _ _ (next in-loop .turn) (sym (c .before .cuts-blend .ensures) ∙ t .0 .taken) (t .2 .kept .1 .1 .1 .1 .0) (t .2 .ensures)))
           (λ t. rw (t .1)
-          (keeping-pass _ _ _ (l .inv .1) _ (turn in-loop) (sym (c .before .cuts-blend .ensures) ∙ t .0 .left)))
+          (keeping-pass _ _ _ (l .inv .1) _ (next in-loop .turn) (sym (c .before .cuts-blend .ensures) ∙ t .0 .left)))
           (c .if1 .came),
     )
 

@@ -5,11 +5,12 @@ use borrow.Author.Needs.{needs}
 use borrow.Author.Tests.{not-true, not-false, le-leb, lt-leb}
 use mathlib.Core.Path.{_≡_, sym, _∙_}
 use mathlib.Core.Bool.{true, _&&_}
-use lib.ListN.{drop, length, length-map}
+use lib.ListN.{drop}
 use Rattle.axis.specs.Range.{all}
 use Rattle.mesh.specs.Lines.{allowed, allowedSide, inRange, splitsOf}
 use Rattle.axis.proofs.Tests.{failed, passed}
-use Rattle.axis.proofs.Entries.{left-turn, left-none}
+use Rattle.axis.proofs.Entries.{left-turn, none-left}
+use Rattle.mesh.proofs.Arrays.{lines-full}
 use Rattle.mesh.proofs.Drawing.{blank}
 use Rattle.mesh.proofs.steps.allowed_lines.Statement.{statement}
 use Rattle.mesh.proofs.steps.allowed_lines.Tie as tie
@@ -62,9 +63,6 @@ element-copy-out-s c = omega arith
 in-range-requires : tie.Need-in-range-requires Inv-loop μ-loop
 in-range-requires c κs = search needs
 
-sixty : (c : tie.Start Inv-loop μ-loop) → length (c .args .t1 .splits) ≡ 60
-sixty c = simp length-map at (c .good .0 .1 .1 .1 .1 .1 .0 .1 .0 .1)
-
 -- the answer for one split, and for those that are left after it
 turn : (c : tie.After-in-range Inv-loop μ-loop) →
     let lines = c .before .before .before .before .before .before .before .before .before .args .t1 in
@@ -73,7 +71,7 @@ turn : (c : tie.After-in-range Inv-loop μ-loop) →
 turn c =
     let s = c .before .before .before .before .before .before .before .before .before in
     let l = c .before .before .before .loop in
-    let n = sixty s in
+    let n = lines-full (s .args .t1) (s .good .0) in
     l .inv .1 ∙ rw
     (left-turn (s .args .t1 .splits) (s .args .t1 .count) (l .i) (omega arith) blank (omega arith), c .in-range .ensures)
 
@@ -91,10 +89,9 @@ loop-again c = (omega arith, turn (c .before) ∙ rw (not-false (c .before .in-r
 
 returns-5 : tie.Need-returns-5 Inv-loop μ-loop
 returns-5 c =
-    let s = c .before .before .before .before .before .before .before in
+    let lines = c .before .before .before .before .before .before .before .args .t1 in
     let l = c .before .loop in
-    let n = sixty s in
-    sym (l .inv .1 ∙ rw (left-none (s .args .t1 .splits) (s .args .t1 .count) (l .i) (omega arith) (omega arith)))
+    sym (l .inv .1 ∙ rw (none-left (lines .splits) (lines .count) (l .i) (omega arith)))
 
 pub allowed-lines-spec : {M : Type 1} → statement M
 allowed-lines-spec =

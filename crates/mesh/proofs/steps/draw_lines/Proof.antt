@@ -3,8 +3,8 @@ use Prim.Native.Nat.{_-_}
 use native.Mathlib.Omega.{arith}
 use borrow.Author.Needs.{needs}
 use mathlib.Core.Path.{_≡_, sym, _∙_}
-use lib.ListN.{length, length-map}
 use Rattle.mesh.specs.Lines.{Direction, number, other, side}
+use Rattle.mesh.proofs.Arrays.{lines-full}
 use Rattle.mesh.proofs.Drawing.{empty-square, allowed-says, in-range-says, direction-of, side-along, Drawing, drawing-none, drawing-ranges, drawing-more, drawing-done}
 use Rattle.mesh.proofs.steps.draw_lines.Statement.{statement}
 use Rattle.mesh.proofs.steps.draw_lines.Tie as tie
@@ -27,9 +27,6 @@ draw-fresh-requires c κs =
     let a = allowed-says (start .args .t1) (start .pre .0) in
     (start .pre .2, omega arith, omega arith)
 
-sixty : (c : tie.Start Inv-loop μ-loop) → length (c .args .t1 .splits) ≡ 60
-sixty c = simp length-map at (c .good .0 .1 .1 .1 .1 .1 .0 .1 .0 .1)
-
 -- the side that the lines run along
 along : (c : tie.After-side-of2 Inv-loop μ-loop) (d : Direction) →
     let a = c .before .before .before .args in
@@ -45,7 +42,7 @@ loop-holds c =
     let crossed = run .before in
     let start = crossed .before .before in
     let L = start .args .t1 in
-    drawing-none L (start .args .direction) _ (start .pre .0) (sixty start) (fresh .draw-fresh .ensures .0)
+    drawing-none L (start .args .direction) _ (start .pre .0) (lines-full L (start .good .0)) (fresh .draw-fresh .ensures .0)
     (λ d same. fresh .draw-fresh .ensures .1 d (L .w) (L .h)
     (crossed .side-of .ensures .1 d same) (along run d same))
 

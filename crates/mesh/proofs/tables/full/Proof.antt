@@ -1,4 +1,4 @@
--- `mesh::judge::full` meets its contract. The invariant: the sum so far, with the areas of the blends that are left, is the whole sum.
+-- `mesh::tables::full` meets its contract. The invariant: the sum so far, with the areas of the blends that are left, is the whole sum.
 use borrow.Author.Needs.{needs}
 use borrow.Author.Tests.{le-leb, lt-leb}
 use native.Mathlib.Omega.{arith}
@@ -7,13 +7,14 @@ use Prim.Native.Nat.{ℕ, _+_, _-_, _*_, _≤_}
 use mathlib.Core.Path.{_≡_}
 use mathlib.Core.Bool.{_&&_, and-false}
 use lib.Dec.{leb}
-use lib.ListN.{drop, getD, length, length-map}
+use lib.ListN.{drop, getD}
 use Rattle.axis.specs.Triple.{stepsIn}
 use Rattle.mesh.specs.Sound.{none, blendsOf, area, areas, full}
 use Rattle.mesh.specs.declared.Blend.{Blend}
-use Rattle.axis.proofs.Entries.{left-turn, left-none}
-use Rattle.mesh.proofs.judge.full.Statement.{statement}
-use Rattle.mesh.proofs.judge.full.Tie as tie
+use Rattle.mesh.proofs.Arrays.{table-full}
+use Rattle.mesh.proofs.Cutting.{blends-turn, blends-end}
+use Rattle.mesh.proofs.tables.full.Statement.{statement}
+use Rattle.mesh.proofs.tables.full.Tie as tie
 
 product-most : (a b : ℕ) → a ≤ 128 → b ≤ 128 → a * b ≤ 16384
 product-most a b p q = le-trans (mul-le-mul-right b p) (mul-le-mul-left 128 q)
@@ -28,9 +29,6 @@ Inv-loop w h table count sum₀ k₀ sum k =
 
 abbrev μ-loop : tie.MeasureT-loop
 μ-loop w h table count sum₀ k₀ sum k = count - k
-
-long : (c : tie.Start Inv-loop μ-loop) → length (c .args .t1 .blends) ≡ 1024
-long c = simp length-map at (c .good .0 .1 .1 .1 .0 .1 .0 .1)
 
 returns : tie.Need-returns Inv-loop μ-loop
 unfolding full
@@ -81,8 +79,7 @@ turn : (c : tie.After-steps-in2 Inv-loop μ-loop) →
     areas (a .w) (a .h) (drop k (blendsOf (a .t1))) ≡ c .before .steps-in .result * c .steps-in2 .result + areas (a .w) (a .h) (drop (k + 1) (blendsOf (a .t1)))
 turn c =
     let s = c .before .before .before .before .before .before .before .before in
-    let n = long s in
-    rw (left-turn (s .args .t1 .blends) (s .args .t1 .count) (c .before .before .before .before .loop .k) (omega arith) none (omega arith), added c)
+    rw (blends-turn (s .args .t1) (c .before .before .before .before .loop .k) (omega arith) (omega (arith, table-full (s .args .t1) (s .good .0))), added c)
 
 mul-sum : tie.Need-mul-sum Inv-loop μ-loop
 mul-sum c = record { fits = omega (arith, added-most c) }
@@ -113,11 +110,9 @@ mul-result-2 c = record { fits = omega (arith, domain c) }
 returns-4 : tie.Need-returns-4 Inv-loop μ-loop
 unfolding full
 returns-4 c =
-    let s = c .before .before .before .before .before in
-    let a = s .args in
-    let n = long s in
+    let a = c .before .before .before .before .before .args in
     let l = c .before .loop in
-    let none-left = left-none (a .t1 .blends) (a .t1 .count) (l .k) (omega arith) (omega arith) in
+    let none-left = blends-end (a .t1) (l .k) (omega arith) in
     let whole : l .sum ≡ areas (a .w) (a .h) (blendsOf (a .t1)) = omega (arith, rw none-left at (l .inv .1)) in
     rw (le-leb (a .w) 128 (omega arith), le-leb (a .h) 128 (omega arith), le-leb (a .t1 .count) 1024 (omega arith), whole)
 

@@ -1,8 +1,8 @@
--- `mesh::read::refusal` meets its contract.
+-- `mesh::tables::refusal` meets its contract.
 use borrow.Author.Needs.{needs}
 use Rattle.mesh.specs.Sound.{table}
-use Rattle.mesh.proofs.read.refusal.Statement.{statement}
-use Rattle.mesh.proofs.read.refusal.Tie as tie
+use Rattle.mesh.proofs.tables.refusal.Statement.{statement}
+use Rattle.mesh.proofs.tables.refusal.Tie as tie
 
 nothing-requires : tie.Need-nothing-requires
 nothing-requires c κs = search needs

@@ -4,8 +4,8 @@ use borrow.Author.Tests.{leb-true, le-leb, lt-leb}
 use lib.Dec.{leb}
 use Rattle.axis.proofs.Tests.{failed, passed, and-both}
 use Rattle.mesh.specs.Sound.{withinSides}
-use Rattle.mesh.proofs.ranges.within_sides.Statement.{statement}
-use Rattle.mesh.proofs.ranges.within_sides.Tie as tie
+use Rattle.mesh.proofs.tables.within_sides.Statement.{statement}
+use Rattle.mesh.proofs.tables.within_sides.Tie as tie
 
 allowed-side-requires : tie.Need-allowed-side-requires
 allowed-side-requires c κs = search needs

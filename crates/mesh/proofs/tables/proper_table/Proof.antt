@@ -1,15 +1,16 @@
--- `mesh::cut::proper_table` meets its contract. The invariant: the blends that remain decide the whole answer.
+-- `mesh::tables::proper_table` meets its contract. The invariant: the blends that remain decide the whole answer.
 use Prim.Native.Nat.{_≤_, _+_, _-_}
 use native.Mathlib.Omega.{arith}
 use mathlib.Core.Path.{_≡_, refl, sym, ap, _∙_}
 use mathlib.Core.Bool.{_&&_}
-use lib.ListN.{drop, getD, length, length-map}
+use lib.ListN.{drop, getD}
 use Rattle.axis.specs.Range.{all}
 use Rattle.mesh.specs.Sound.{proper, blendsOf, none}
 use Rattle.axis.proofs.Tests.{failed, passed}
+use Rattle.mesh.proofs.Arrays.{table-full}
 use Rattle.mesh.proofs.Cutting.{blends-turn, blends-end}
-use Rattle.mesh.proofs.cut.proper_table.Statement.{statement}
-use Rattle.mesh.proofs.cut.proper_table.Tie as tie
+use Rattle.mesh.proofs.tables.proper_table.Statement.{statement}
+use Rattle.mesh.proofs.tables.proper_table.Tie as tie
 
 abbrev Inv-loop : tie.InvT-loop
 Inv-loop w h table count i₀ i =
@@ -27,8 +28,8 @@ turn : (c : tie.In-loop Inv-loop μ-loop) →
 turn c =
     let l = c .before .loop in
     let a = c .before .before .args in
-    let full : length (a .t1 .blends) ≡ 1024 = simp length-map at (c .before .before .good .0 .1 .1 .1 .0 .1 .0 .1) in
-    sym (l .inv .1) ∙ ap (all (proper (a .w) (a .h))) (blends-turn (a .t1) (l .i) (omega arith) (omega arith))
+    sym (l .inv .1) ∙ ap (all (proper (a .w) (a .h)))
+    (blends-turn (a .t1) (l .i) (omega arith) (omega (arith, table-full (a .t1) (c .before .before .good .0))))
 
 loop-holds : tie.Need-loop-holds Inv-loop μ-loop
 loop-holds c = (omega arith, refl)

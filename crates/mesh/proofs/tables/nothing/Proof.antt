@@ -1,8 +1,8 @@
--- `mesh::read::nothing` meets its contract: 0 taken apart is zeros.
+-- `mesh::tables::nothing` meets its contract: 0 taken apart is zeros.
 use borrow.Author.Needs.{needs}
 use Rattle.mesh.specs.Bytes.{unpacked}
-use Rattle.mesh.proofs.read.nothing.Statement.{statement}
-use Rattle.mesh.proofs.read.nothing.Tie as tie
+use Rattle.mesh.proofs.tables.nothing.Statement.{statement}
+use Rattle.mesh.proofs.tables.nothing.Tie as tie
 
 unpack-requires : tie.Need-unpack-requires
 unpack-requires c κs = search needs

@@ -1,10 +1,10 @@
--- `mesh::blends::first_four` meets its contract: the four blends stand at the front of an empty table.
+-- `mesh::tables::first_four` meets its contract: the four blends stand at the front of an empty table.
 use borrow.Author.Needs.{needs}
 use mathlib.Core.Path.{ap, _∙_}
 use Rattle.mesh.specs.declared.Refined.{Refined}
 use Rattle.mesh.proofs.Refining.{four-set}
-use Rattle.mesh.proofs.blends.first_four.Statement.{statement}
-use Rattle.mesh.proofs.blends.first_four.Tie as tie
+use Rattle.mesh.proofs.tables.first_four.Statement.{statement}
+use Rattle.mesh.proofs.tables.first_four.Tie as tie
 
 refusal-requires : tie.Need-refusal-requires
 refusal-requires c κs = search needs

@@ -1,9 +1,9 @@
--- `mesh::read::unpack` meets its contract.
+-- `mesh::knots::unpack` meets its contract.
 use borrow.Author.Needs.{needs}
 use mathlib.Core.Path.{refl}
 use Rattle.mesh.specs.Bytes.{unpacked}
-use Rattle.mesh.proofs.read.unpack.Statement.{statement}
-use Rattle.mesh.proofs.read.unpack.Tie as tie
+use Rattle.mesh.proofs.knots.unpack.Statement.{statement}
+use Rattle.mesh.proofs.knots.unpack.Tie as tie
 
 cast-t5 : tie.Need-cast-t5
 cast-t5 c = search needs
