@@ -13,7 +13,7 @@ use lib.Seq.{take-suc-set, length-take-le}
 use Rattle.mesh.specs.declared.Split.{Split}
 use Rattle.mesh.specs.declared.Lines.{Lines}
 use Rattle.mesh.specs.declared.Table.{Table}
-use Rattle.mesh.specs.declared.Refined.{Refined}
+use Rattle.mesh.specs.declared.Found.{Found}
 use Rattle.axis.specs.Range.{all, any}
 use Rattle.mesh.specs.Lines.{Layout, layout, layoutOf, mesh, splitsOf, allowed, allowedSide, inRange, shares, ended, meshOf}
 use Rattle.mesh.specs.Blends.{isCut, live, firstFour}
@@ -136,20 +136,20 @@ module _ {L : Lines} {t : Table} (hand : InHand L t) (s : Split) (fits : inRange
       (firstFour (L .w) (L .h)) (first-proper (L .w) (L .h) (a .across .0) (a .up .0)))
 
   -- and that it fits and is full says that the map is sound.
-  module _ {next : Lines} {r : Refined} (more : next ≡ withSplit L s) (e : r ≡ refined next t) where
+  module _ {next : Lines} {r : Found} (more : next ≡ withSplit L s) (e : r ≡ refined next t) where
     is-next : r ≡ fitted (liveOf (withLine (layoutOf L) s))
     is-next = e ∙ ap (λ (N : Lines). refined N t) more ∙ hand-refined
 
     sixty : length (splitsOf L ++ s ∷ []) ≤ 60
     sixty = rw (length-append, hand-length hand) (omega arith)
 
-    pub unfit-next : r .fits ≡ false → soundWith (layoutOf L) s ≡ false
+    pub unfit-next : r .ok ≡ false → soundWith (layoutOf L) s ≡ false
     unfit-next = unfit-unsound (hand-sides hand) (splitsOf L ++ s ∷ []) sixty is-next
 
-    pub full-next : r .fits ≡ true → full (L .w) (L .h) (r .table) ≡ soundWith (layoutOf L) s
+    pub full-next : r .ok ≡ true → full (L .w) (L .h) (r .table) ≡ soundWith (layoutOf L) s
     full-next = full-sound (hand-sides hand) (splitsOf L ++ s ∷ []) sixty is-next
 
-    pub next-table : r .fits ≡ true → r .table ≡ table (liveOf (withLine (layoutOf L) s))
+    pub next-table : r .ok ≡ true → r .table ≡ table (liveOf (withLine (layoutOf L) s))
     next-table f = fits-held _ r is-next f .is-table
 
 -- The live blends of a fresh map are in hand.

@@ -7,7 +7,7 @@ use lib.ListN.{length, drop}
 use Rattle.axis.specs.Range.{all}
 use Rattle.mesh.specs.declared.Lines.{Lines}
 use Rattle.mesh.specs.declared.Table.{Table}
-use Rattle.mesh.specs.declared.Replayed.{Replayed}
+use Rattle.mesh.specs.declared.Found.{Found}
 use Rattle.mesh.specs.Lines.{layoutOf}
 use Rattle.mesh.specs.Sound.{table}
 use Rattle.mesh.specs.Splits.{liveOf}
@@ -50,11 +50,11 @@ module _ (m : Map) where
   good-table e = cond-true _ _ _ e
 
 -- what it says that lines were replayed
-module _ (L : Lines) {r : Replayed} (e : r ≡ replayed L) where
-  pub replay-says : r .good ≡ replays L
+module _ (L : Lines) {r : Found} (e : r ≡ replayed L) where
+  pub replay-says : r .ok ≡ replays L
   unfolding replayed
-  replay-says = ap (λ (x : Replayed). x .good) e ∙ ⊎-elim (λ q. rw q) (λ q. rw q) (either (replays L))
+  replay-says = ap (λ (x : Found). x .ok) e ∙ ⊎-elim (λ q. rw q) (λ q. rw q) (either (replays L))
 
-  pub replay-table : r .good ≡ true → r .table ≡ table (liveOf (layoutOf L))
+  pub replay-table : r .ok ≡ true → r .table ≡ table (liveOf (layoutOf L))
   unfolding replayed
-  replay-table f = ap (λ (x : Replayed). x .table) (e ∙ cond-true _ _ _ (sym replay-says ∙ f))
+  replay-table f = ap (λ (x : Found). x .table) (e ∙ cond-true _ _ _ (sym replay-says ∙ f))

@@ -118,7 +118,7 @@ pub fn open(map: Map) -> Opened
     };
     let lines = map.lines;
     let found = replay(lines);
-    if !found.good {
+    if !found.ok {
         return refused;
     }
     let splits = lines.splits;

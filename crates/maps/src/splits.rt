@@ -64,7 +64,7 @@ fn sound_step(lines: Lines, live: Table, s: Split) -> Step
 {
     let next = refine(with_split(lines, s), live);
     let t = next.table;
-    if next.fits {
+    if next.ok {
         if full(t, lines.w, lines.h) {
             return Step {
                 number: 0,

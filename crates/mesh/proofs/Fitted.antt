@@ -13,7 +13,7 @@ use Rattle.mesh.specs.Sound.{sound, table, full, ownAnchors, fitted}
 use Rattle.mesh.specs.declared.Split.{Split}
 use Rattle.mesh.specs.declared.Lines.{Lines}
 use Rattle.mesh.specs.declared.Blend.{Blend}
-use Rattle.mesh.specs.declared.Refined.{Refined}
+use Rattle.mesh.specs.declared.Found.{Found}
 use Rattle.axis.proofs.Tests.{either, true-not-false, and-both, and-of, false-of, cond-true}
 use Rattle.mesh.proofs.Drawing.{Allowed}
 use Rattle.mesh.proofs.Places.{own-of}
@@ -23,23 +23,23 @@ use Rattle.mesh.proofs.Area.{by-area}
 use Rattle.mesh.proofs.Refining.{table-blends, table-count}
 
 -- what it says that a table holds some blends, or does not
-pub record Held (bs : List Blend) (r : Refined) : Type 0 where
+pub record Held (bs : List Blend) (r : Found) : Type 0 where
   pub few : length bs ≤ 1024
   pub is-table : r .table ≡ table bs
 
-fits-test : (bs : List Blend) (r : Refined) → r ≡ fitted bs → r .fits ≡ (ownAnchors bs && leb (length bs) 1024)
+fits-test : (bs : List Blend) (r : Found) → r ≡ fitted bs → r .ok ≡ (ownAnchors bs && leb (length bs) 1024)
 unfolding fitted
 fits-test bs r e =
-    ap (λ (x : Refined). x .fits) e ∙
+    ap (λ (x : Found). x .ok) e ∙
     ⊎-elim (λ q. rw q) (λ q. rw q) (either (ownAnchors bs && leb (length bs) 1024))
 
-pub fits-held : (bs : List Blend) (r : Refined) → r ≡ fitted bs → r .fits ≡ true → Held bs r
+pub fits-held : (bs : List Blend) (r : Found) → r ≡ fitted bs → r .ok ≡ true → Held bs r
 unfolding fitted
 fits-held bs r e f =
     let t = sym (fits-test bs r e) ∙ f in
     record {
       few = leb-true _ _ (and-both (ownAnchors bs) _ t .1);
-      is-table = ap (λ (x : Refined). x .table) (e ∙ cond-true _ _ _ t);
+      is-table = ap (λ (x : Found). x .table) (e ∙ cond-true _ _ _ t);
     }
 
 -- On lines within range, and any splits of their sides, no more than sixty:
@@ -47,9 +47,9 @@ module _ {L : Lines} (sides : Allowed L) (splits : List Split) (sixty : length s
   abbrev lives : List Blend
   lives = live (L .w) (L .h) (mesh (L .w) (L .h) splits)
 
-  module _ {r : Refined} (e : r ≡ fitted lives) where
+  module _ {r : Found} (e : r ≡ fitted lives) where
     -- where a table does not hold the live blends, they make no sound map;
-    pub unfit-unsound : r .fits ≡ false → sound (L .w) (L .h) lives ≡ false
+    pub unfit-unsound : r .ok ≡ false → sound (L .w) (L .h) lives ≡ false
     unfit-unsound f =
         false-of _ (λ s.
         let own = own-of lives (own-anchors (L .w) (L .h) (sides .across .0) (sides .up .0) (mesh (L .w) (L .h) splits) s) in
@@ -57,7 +57,7 @@ module _ {L : Lines} (sides : Allowed L) (splits : List Split) (sixty : length s
         true-not-false _ (and-of _ _ own (le-leb (length lives) 1024 few)) (sym (fits-test lives r e) ∙ f))
 
     -- else their areas decide.
-    pub full-sound : r .fits ≡ true → full (L .w) (L .h) (r .table) ≡ sound (L .w) (L .h) lives
+    pub full-sound : r .ok ≡ true → full (L .w) (L .h) (r .table) ≡ sound (L .w) (L .h) lives
     unfolding full
     full-sound f =
         let held = fits-held lives r e f in

@@ -72,7 +72,7 @@ module _ (w h : ℕ) (hh : h ≤ 128) (xs ys : List Blend) (dx : Distinct xs) (d
       own : OwnAnchors xs
       own B C mB mC = owned B C (there B mB) (there C mC)
 
-pub clash-unfit : (bs : List Blend) → ownAnchors bs ≡ false → fitted bs ≡ record { fits = false; table = table [] }
+pub clash-unfit : (bs : List Blend) → ownAnchors bs ≡ false → fitted bs ≡ record { ok = false; table = table [] }
 unfolding fitted
 clash-unfit bs e = rw e
 

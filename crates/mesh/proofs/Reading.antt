@@ -101,10 +101,10 @@ read-full {whole} {left} {blends} {count} {B} h r =
     let more : 1024 < length whole = let l = r .long in omega arith in
     rw (lt-leb (length whole) 1024 more)
 
-pub read-all : {whole blends : List Blend} {count : ℕ} → Reading whole [] count blends → listed whole ≡ record { fits = true; table = record { count = count; blends = blends } }
+pub read-all : {whole blends : List Blend} {count : ℕ} → Reading whole [] count blends → listed whole ≡ record { ok = true; table = record { count = count; blends = blends } }
 unfolding listed table
 read-all {whole} {blends} {count} r =
     let e : whole ≡ r .done = sym (r .split) ∙ append-nil (r .done) in
     let n : length whole ≡ count = ap length e ∙ r .long in
     let b : whole ++ replicate (1024 - length whole) none ≡ blends = rw (n, e) (sym (r .stored)) in
-    cond-true (leb (length whole) 1024) _ _ (rw n (le-leb count 1024 (r .fits))) ∙ (λ i. record { fits = true; table = record { count = n i; blends = b i } })
+    cond-true (leb (length whole) 1024) _ _ (rw n (le-leb count 1024 (r .fits))) ∙ (λ i. record { ok = true; table = record { count = n i; blends = b i } })

@@ -15,7 +15,7 @@ use Rattle.mesh.specs.Blends.{cuts, leavesOf}
 use Rattle.mesh.specs.Bytes.{at, stepOn, bytesMesh, place, keepAll, clearAll, recut, refused}
 use Rattle.mesh.specs.declared.Split.{Split}
 use Rattle.mesh.specs.declared.Blend.{Blend}
-use Rattle.mesh.specs.declared.Refined.{Refined}
+use Rattle.mesh.specs.declared.Found.{Found}
 use Rattle.axis.proofs.Tests.{either, true-not-false, and-last, cond-false, only-mem, mem-only}
 use Rattle.mesh.proofs.Ascending.{OwnAnchors}
 use Rattle.mesh.proofs.Cutting.{Cut, cut-first}
@@ -128,7 +128,7 @@ unfolding recut
 recut-done M d z bs before cleared after e f = f ∙ ap (λ (P : List ℕ). keepAll P (leavesOf M (only (cuts M d z) bs))) e
 
 -- two blends met
-pub met-none : (some : Bool) {b : Bool} {r : Refined} (x : Refined) → b ≡ false → r ≡ refused → r ≡ cond (some && b) x refused
+pub met-none : (some : Bool) {b : Bool} {r : Found} (x : Found) → b ≡ false → r ≡ refused → r ≡ cond (some && b) x refused
 met-none some x e q = q ∙ sym (cond-false _ _ _ (and-last some _ e))
 
 -- What clearing does to a place: one that is free stays so, that of a chosen blend becomes free, and any other stays as it is.

@@ -23,8 +23,7 @@ use Rattle.mesh.specs.declared.Split.{Split}
 use Rattle.mesh.specs.declared.Blend.{Blend}
 use Rattle.mesh.specs.declared.Lines.{Lines}
 use Rattle.mesh.specs.declared.Table.{Table}
-use Rattle.mesh.specs.declared.Refined.{Refined}
-use Rattle.mesh.specs.declared.Replayed.{Replayed}
+use Rattle.mesh.specs.declared.Found.{Found}
 use Rattle.axis.proofs.Tests.{either, true-not-false, false-of, and-both, and-of, and-first, and-last, or-either, or-left, cond-true, cond-false, all-of, any-same, any-append, only-mem, mem-only}
 use Rattle.mesh.proofs.Drawing.{Allowed, blank, left-turn, left-none}
 use Rattle.mesh.proofs.SingleSteps.{Small, in-range-small}
@@ -235,7 +234,7 @@ module _ {w h : ℕ} (sides : Sides w h) {ss : List Split} {ups lvs places : Lis
     finer =
         finer-fitted w h (sides .up .1) (mesh w h ss) M (coarser w h ss s) (firstFour w h) (first-proper w h (sides .across .0) (sides .up .0))
 
-    module _ {r : Refined} (e : r ≡ cond (any cutBy lives && eqb (getD recutPlaces 0 0) 0) (listed (walk w h recutPlaces)) refused) where
+    module _ {r : Found} (e : r ≡ cond (any cutBy lives && eqb (getD recutPlaces 0 0) 0) (listed (walk w h recutPlaces)) refused) where
       found : any cutBy lives ≡ true → r ≡ fitted next
       found some =
           ⊎-elim
@@ -247,11 +246,11 @@ module _ {w h : ℕ} (sides : Sides w h) {ss : List Split} {ups lvs places : Lis
           met-fitted w h (sides .across .1) (sides .up .1) M lives recut-kept (eqb-false _ _ z) ∙ finer)
           (either (eqb (getD recutPlaces 0 0) 0))
 
-      fits-some : r .fits ≡ true → (any cutBy lives ≡ true) × (getD recutPlaces 0 0 ≡ 0)
+      fits-some : r .ok ≡ true → (any cutBy lives ≡ true) × (getD recutPlaces 0 0 ≡ 0)
       fits-some f =
           ⊎-elim
           (λ q. let p = and-both (any cutBy lives) _ q in (p .0, eqb-true _ _ (p .1)))
-          (λ q. absurd (true-not-false _ f (ap (λ (x : Refined). x .fits) (e ∙ cond-false _ _ _ q))))
+          (λ q. absurd (true-not-false _ f (ap (λ (x : Found). x .ok) (e ∙ cond-false _ _ _ q))))
           (either (any cutBy lives && eqb (getD recutPlaces 0 0) 0))
 
     -- whether the split is accepted, by the tests in their order
@@ -284,17 +283,17 @@ module _ {w h : ℕ} (sides : Sides w h) {ss : List Split} {ups lvs places : Lis
         fun-ext (λ d. fun-ext (λ z. fun-ext (λ k. f d z k ∙ rw (now .drawn) (sym (more-steps w h ss s d z k)))))
 
     -- what one line more answers, on a mesh and some blends
-    abbrev pub Answer : Mesh → List Blend → Refined → List ℕ → Type 0
+    abbrev pub Answer : Mesh → List Blend → Found → List ℕ → Type 0
     Answer N bs r places' =
         let P = recut N (direction (s .direction)) (s .position + 1) bs places in
         (r ≡ cond (any (cuts N (direction (s .direction)) (s .position + 1)) bs && eqb (getD P 0 0) 0) (listed (walk w h P)) refused) ×
-        (r .fits ≡ true → places' ≡ P)
+        (r .ok ≡ true → places' ≡ P)
 
-    pub answer-on : (N : Mesh) (bs : List Blend) (r : Refined) (places' : List ℕ) → N ≡ M → bs ≡ lives → Answer N bs r places' → Answer M lives r places'
+    pub answer-on : (N : Mesh) (bs : List Blend) (r : Found) (places' : List ℕ) → N ≡ M → bs ≡ lives → Answer N bs r places' → Answer M lives r places'
     answer-on N bs r places' e f a =
         subst (λ (X : Mesh). Answer X lives r places') e (subst (λ (xs : List Blend). Answer N xs r places') f a)
 
-    module _ (room : length ss < 60) (fit : fine (bytesMesh ups lvs) ≡ true) {r : Refined} {places' : List ℕ} (a : Answer M lives r places') where
+    module _ (room : length ss < 60) (fit : fine (bytesMesh ups lvs) ≡ true) {r : Found} {places' : List ℕ} (a : Answer M lives r places') where
       fits-here : fine (mesh w h ss) ≡ true
       fits-here = sym (ap fine (now .drawn)) ∙ fit
 
@@ -302,7 +301,7 @@ module _ {w h : ℕ} (sides : Sides w h) {ss : List Split} {ups lvs places : Lis
       sixty = omega (arith, length-append ss (s ∷ []))
 
       -- refused where it cuts nothing, or a table does not hold what is left; else the areas decide
-      pub unfit-refused : r .fits ≡ false → accepts w h ss s ≡ false
+      pub unfit-refused : r .ok ≡ false → accepts w h ss s ≡ false
       unfit-refused f =
           accepts-by room ∙
           ⊎-elim
@@ -311,13 +310,13 @@ module _ {w h : ℕ} (sides : Sides w h) {ss : List Split} {ups lvs places : Lis
           (λ none. and-first _ _ (and-last (fine (mesh w h ss)) _ none))
           (either (any cutBy lives))
 
-      pub full-decides : r .fits ≡ true → accepts w h ss s ≡ full w h (r .table)
+      pub full-decides : r .ok ≡ true → accepts w h ss s ≡ full w h (r .table)
       full-decides f =
           let some = fits-some (a .0) f .0 in
           accepts-by room ∙ ap (λ (b : Bool). b && sound w h next) (and-of _ _ fits-here some) ∙
           sym (full-sound (allowed-bare sides) (ss ++ s ∷ []) sixty (found (a .0) some) f)
 
-      pub standing-next : (ups' lvs' : List ℕ) → Square ups' → Square lvs' → bytesMesh ups' lvs' ≡ M → r .fits ≡ true → full w h (r .table) ≡ true →
+      pub standing-next : (ups' lvs' : List ℕ) → Square ups' → Square lvs' → bytesMesh ups' lvs' ≡ M → r .ok ≡ true → full w h (r .table) ≡ true →
           Standing w h (ss ++ s ∷ []) ups' lvs' places' (r .table)
       standing-next ups' lvs' su sl drawn f whole =
           let is = fits-some (a .0) f in
@@ -438,8 +437,8 @@ pub record Replaying (L : Lines) (i : ℕ) (ups lvs marks : List ℕ) (t : Table
   pub decides : allAccepted (L .w) (L .h) [] (splitsOf L) ≡ allAccepted (L .w) (L .h) (take i (L .splits)) (drop i (splitsOf L))
 
 -- the answer where a split is refused, or sides or count are out of range
-abbrev pub stopped : Replayed
-stopped = record { good = false; table = table [] }
+abbrev pub stopped : Found
+stopped = record { ok = false; table = table [] }
 
 module _ (L : Lines) where
   fails : (allowedSide (L .w) && allowedSide (L .h) && leb (L .count) 60 && allAccepted (L .w) (L .h) [] (splitsOf L)) ≡ false → replayed L ≡ stopped
@@ -498,7 +497,7 @@ module _ {L : Lines} {i : ℕ} {ups lvs marks places : List ℕ} {t : Table} (r 
           decides = turn ∙ rw (e, longer);
         }
 
-  pub replay-done : L .count ≤ i → replayed L ≡ record { good = true; table = t }
+  pub replay-done : L .count ≤ i → replayed L ≡ record { ok = true; table = t }
   unfolding replayed replays accepted
   replay-done done =
       let n = r .room in
@@ -506,4 +505,4 @@ module _ {L : Lines} {i : ℕ} {ups lvs marks places : List ℕ} {t : Table} (r 
       let all-of-it : i ≡ L .count = omega (arith, r .within) in
       let all-taken : allAccepted (L .w) (L .h) [] (splitsOf L) ≡ true = r .decides ∙ rw (left-none (L .splits) (L .count) i (omega arith) done) in
       rw (sides-test L (r .sides) (r .few), all-taken)
-      (ap (λ (x : Table). record { good = true; table = x }) (sym (r .standing .is-table ∙ rw all-of-it)))
+      (ap (λ (x : Table). record { ok = true; table = x }) (sym (r .standing .is-table ∙ rw all-of-it)))

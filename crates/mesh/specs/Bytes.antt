@@ -12,7 +12,7 @@ use Rattle.mesh.specs.Lines.{Direction, upright, level, Mesh}
 use Rattle.mesh.specs.Blends.{blend, cuts, leavesOf}
 use Rattle.mesh.specs.Sound.{table}
 use Rattle.mesh.specs.declared.Blend.{Blend}
-use Rattle.mesh.specs.declared.Refined.{Refined}
+use Rattle.mesh.specs.declared.Found.{Found}
 
 -- Knots are 0 to 130, so a square table of 131 by 131 has a place for each pair of them.
 abbrev pub at : ℕ → ℕ → ℕ
@@ -93,8 +93,8 @@ pub record Drawn (before after : List ℕ) (z from to : ℕ) : Type 0 where
   pub on : (y k : ℕ) → stepOn after y k ≡ (stepOn before y k || (eqb y z && leb from k && ltb k to))
 
 -- the answer where a table does not hold the blends; and blends with an anchor each in a table, where there is room
-abbrev pub refused : Refined
-refused = record { fits = false; table = table [] }
+abbrev pub refused : Found
+refused = record { ok = false; table = table [] }
 
-unfoldable pub listed : List Blend → Refined
-listed bs = cond (leb (length bs) mostBlends) (record { fits = true; table = table bs }) refused
+unfoldable pub listed : List Blend → Found
+listed bs = cond (leb (length bs) mostBlends) (record { ok = true; table = table bs }) refused

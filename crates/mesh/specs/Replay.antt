@@ -7,13 +7,13 @@ use Rattle.mesh.specs.Lines.{allowedSide, layout, splitsOf, layoutOf}
 use Rattle.mesh.specs.Sound.{table}
 use Rattle.mesh.specs.Splits.{accepted, liveOf}
 use Rattle.mesh.specs.declared.Lines.{Lines}
-use Rattle.mesh.specs.declared.Replayed.{Replayed}
+use Rattle.mesh.specs.declared.Found.{Found}
 
 -- whether sides and count are in their ranges and the splits are all accepted
 unfoldable pub replays : Lines → Bool
 replays L = allowedSide (L .w) && allowedSide (L .h) && leb (L .count) mostSplits && accepted (layout (L .w) (L .h) []) (splitsOf L)
 
 -- the live blends of such lines; nothing where one is refused
-unfoldable pub replayed : Lines → Replayed
+unfoldable pub replayed : Lines → Found
 replayed L =
-    cond (replays L) (record { good = true; table = table (liveOf (layoutOf L)) }) (record { good = false; table = table [] })
+    cond (replays L) (record { ok = true; table = table (liveOf (layoutOf L)) }) (record { ok = false; table = table [] })

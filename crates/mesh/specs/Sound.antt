@@ -12,8 +12,7 @@ use Rattle.mesh.specs.Blends.{blend, same, anchored, isCut, refine, live
 use Rattle.mesh.specs.declared.Blend.{Blend}
 use Rattle.mesh.specs.declared.Lines.{Lines}
 use Rattle.mesh.specs.declared.Table.{Table}
-use Rattle.mesh.specs.declared.Refined.{Refined}
-use Rattle.mesh.specs.declared.Judged.{Judged}
+use Rattle.mesh.specs.declared.Found.{Found}
 
 -- the unit square whose low corner is at knots (x, y) lies in the blend's support
 abbrev pub overSquare : ℕ → ℕ → Blend → Bool
@@ -57,10 +56,6 @@ table bs = record { count = length bs; blends = bs ++ replicate (mostBlends - le
 abbrev pub blendsOf : Table → List Blend
 blendsOf t = take (t .count) (t .blends)
 
--- whether a table may hold the blends of a map of these sides: no more of them than it has places, none out of range
-unfoldable pub withinSides : ℕ → ℕ → Table → Bool
-withinSides w h t = allowedSide w && allowedSide h && leb (t .count) mostBlends && all (proper w h) (blendsOf t)
-
 -- Whether the areas of a table's blends add up to four times the domain; no where sides or count are out of range.
 -- Of the live blends of a map this says that it is sound: `by-area`.
 unfoldable pub full : ℕ → ℕ → Table → Bool
@@ -74,18 +69,18 @@ unfoldable pub ownAnchors : List Blend → Bool
 ownAnchors bs = all (λ B. all (λ C. not (clash B C)) bs) bs
 
 -- some blends in a table, where it holds them: each has an anchor of its own, and they are no more than its places
-unfoldable pub fitted : List Blend → Refined
+unfoldable pub fitted : List Blend → Found
 fitted bs =
     cond (ownAnchors bs && leb (length bs) mostBlends)
-    (record { fits = true; table = table bs })
-    (record { fits = false; table = table [] })
+    (record { ok = true; table = table bs })
+    (record { ok = false; table = table [] })
 
 -- What is left of the blends of a table when the lines cut them; nothing where the lines or the blends are out of range.
-unfoldable pub refined : Lines → Table → Refined
+unfoldable pub refined : Lines → Table → Found
 refined L t =
     let found = fitted (refine (L .w) (L .h) (meshOf (layoutOf L)) (blendsOf t)) in
     cond (allowed L && leb (t .count) mostBlends && all (proper (L .w) (L .h)) (blendsOf t)) found
-    (record { fits = false; table = table [] })
+    (record { ok = false; table = table [] })
 
 -- whether the lines cut some blend of a table; no where the lines or the blends are out of range
 unfoldable pub someCut : Lines → Table → Bool
@@ -93,14 +88,14 @@ someCut L t =
     allowed L && leb (t .count) mostBlends && all (proper (L .w) (L .h)) (blendsOf t) && any (isCut (meshOf (layoutOf L))) (blendsOf t)
 
 -- the answer on a list of blends in table order: their table, where they make a sound map and a table holds them
-unfoldable pub answer : ℕ → ℕ → List Blend → Judged
+unfoldable pub answer : ℕ → ℕ → List Blend → Found
 answer w h bs =
     cond (sound w h bs && leb (length bs) mostBlends)
-    (record { sound = true; table = table bs })
-    (record { sound = false; table = table [] })
+    (record { ok = true; table = table bs })
+    (record { ok = false; table = table [] })
 
 -- the live blends of a map, where it is sound; nothing where the lines are out of range
-unfoldable pub liveTable : Lines → Judged
+unfoldable pub liveTable : Lines → Found
 liveTable L =
     let found = answer (L .w) (L .h) (live (L .w) (L .h) (meshOf (layoutOf L))) in
-    cond (allowed L) found (record { sound = false; table = table [] })
+    cond (allowed L) found (record { ok = false; table = table [] })

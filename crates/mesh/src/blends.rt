@@ -1,7 +1,6 @@
 // Tables of live blends: cut anew, or refined by one line more.
-use crate::Judged;
+use crate::Found;
 use crate::Lines;
-use crate::Refined;
 use crate::Table;
 use crate::cut::any_cut;
 use crate::cut::cut_all;
@@ -36,7 +35,7 @@ fn in_ranges(lines: Lines, old: Table) -> bool
 
 // What is left of the table's blends when the lines cut them, in table order, if a table holds them.
 // From the live blends of a map with fewer lines, these are the live blends of the map.
-pub fn refine(lines: Lines, old: Table) -> Refined
+pub fn refine(lines: Lines, old: Table) -> Found
     ensures { λ r. ⌜ r ≡ refined lines old ⌝ }
 {
     if !in_ranges(lines, old) {
@@ -55,27 +54,27 @@ pub fn refine(lines: Lines, old: Table) -> Refined
 }
 
 // The live blends of a map, cut anew from the first four, if it is sound.
-pub fn live(lines: Lines) -> Judged
+pub fn live(lines: Lines) -> Found
     ensures { λ r. ⌜ r ≡ liveTable lines ⌝ }
 {
     let none = refusal().table;
-    let unsound = Judged {
-        sound: false,
+    let unsound = Found {
+        ok: false,
         table: none,
     };
     if !allowed_lines(lines) {
         return unsound;
     }
     let found = refine(lines, first_four(lines.w, lines.h));
-    if !found.fits {
+    if !found.ok {
         return unsound;
     }
     let t = found.table;
     if !full(t, lines.w, lines.h) {
         return unsound;
     }
-    Judged {
-        sound: true,
+    Found {
+        ok: true,
         table: t,
     }
 }

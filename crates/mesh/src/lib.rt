@@ -49,20 +49,8 @@ impl Table {
     pub const MOST_BLENDS: usize = 1024;
 }
 
-// Whether a table holds the blends, each at an anchor of its own, and if so that table; else an empty one.
-pub struct Refined {
-    pub fits: bool,
-    pub table: Table,
-}
-
-// Whether the blends are those of a sound map, and if so their table; else an empty one.
-pub struct Judged {
-    pub sound: bool,
-    pub table: Table,
-}
-
-// Whether the splits of lines are all accepted, and if so the table of the map's live blends; else an empty one.
-pub struct Replayed {
-    pub good: bool,
+// A yes with a table of blends, or a no with an empty one.
+pub struct Found {
+    pub ok: bool,
     pub table: Table,
 }

@@ -1,5 +1,5 @@
 // Reading the kept blends out in table order.
-use crate::Refined;
+use crate::Found;
 use crate::Table;
 use crate::knots::unpack;
 use crate::tables::nothing;
@@ -24,7 +24,7 @@ fn first_row(marks: &[u8], m: usize, h: usize) -> usize
 }
 
 // The table of the kept blends; a refusal where they are more than it holds. Columns without a mark hold none.
-pub(crate) fn read_out(places: &[u32], marks: &[u8], w: usize, h: usize) -> Refined
+pub(crate) fn read_out(places: &[u32], marks: &[u8], w: usize, h: usize) -> Found
     requires { ⌜ Square (now places) × (length (now marks) ≡ 131) × (w ≤ largestSide) × (h ≤ largestSide) × Idle (now marks) (now places) ⌝ }
     ensures { λ r. ⌜ r ≡ listed (walk w h (now (places .entry))) ⌝ }
 {
@@ -46,8 +46,8 @@ pub(crate) fn read_out(places: &[u32], marks: &[u8], w: usize, h: usize) -> Refi
         }
         m += 1;
     }
-    Refined {
-        fits: true,
+    Found {
+        ok: true,
         table: Table {
             count: count,
             blends: blends,

@@ -2,8 +2,7 @@
 // split to split, and a split touches only the blends that its own line cuts.
 use crate::Blend;
 use crate::Lines;
-use crate::Refined;
-use crate::Replayed;
+use crate::Found;
 use crate::Split;
 use crate::Table;
 use crate::cut::cut_across;
@@ -189,7 +188,7 @@ fn recut(
     w: usize,
     h: usize,
     places: &mut [u32],
-) -> Refined
+) -> Found
     requires { ⌜ Square (now uprights) × Square (now levels) × Square (now places) × (z < 131) × (table .count ≤ mostBlends) ×
         (all (proper largestSide largestSide) (blendsOf table) ≡ true) × (w ≤ largestSide) × (h ≤ largestSide) × (length (now marks) ≡ 131) ×
         (let P = bytes.recut (bytesMesh (now uprights) (now levels)) (direction number) z (blendsOf table) (now places) in
@@ -197,7 +196,7 @@ fn recut(
     ensures { λ r. ⌜ (let M = bytesMesh (now (uprights .entry)) (now (levels .entry)) in
         let P = bytes.recut M (direction number) z (blendsOf table) (now (places .entry)) in
         (r ≡ cond (any (cuts M (direction number) z) (blendsOf table) && eqb (getD P 0 0) 0) (listed (walk w h P)) refused) ×
-        (r .fits ≡ true → now (places .exit) ≡ P)) ⌝ }
+        (r .ok ≡ true → now (places .exit) ≡ P)) ⌝ }
 {
     if !clear_cut(uprights, levels, number, z, table, places) {
         return refusal();
@@ -236,12 +235,12 @@ fn mark(s: Split, marks: &mut [u8])
 }
 
 // Takes the splits of lines in order as exact splits.
-pub fn replay(lines: Lines) -> Replayed
+pub fn replay(lines: Lines) -> Found
     ensures { λ r. ⌜ r ≡ replayed lines ⌝ }
 {
     let none = refusal().table;
-    let stopped = Replayed {
-        good: false,
+    let stopped = Found {
+        ok: false,
         table: none,
     };
     let w = lines.w;
@@ -284,7 +283,7 @@ pub fn replay(lines: Lines) -> Replayed
             h,
             &mut places,
         );
-        if !next.fits {
+        if !next.ok {
             return stopped;
         }
         table = next.table;
@@ -293,8 +292,8 @@ pub fn replay(lines: Lines) -> Replayed
         }
         i += 1;
     }
-    Replayed {
-        good: true,
+    Found {
+        ok: true,
         table: table,
     }
 }

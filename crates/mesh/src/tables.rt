@@ -1,7 +1,7 @@
 // Tables of blends: the empty one, the first four, and tests of a whole table.
 use crate::Blend;
 use crate::Lines;
-use crate::Refined;
+use crate::Found;
 use crate::Table;
 use crate::knots::unpack;
 use crate::steps::allowed_side;
@@ -14,7 +14,7 @@ ghost use Rattle.axis.specs.Limits.{largestSide, mostBlends};
 ghost use Rattle.axis.specs.Range.{all};
 ghost use Rattle.axis.specs.Triple as triples;
 ghost use Rattle.mesh.specs.Blends.{firstFour};
-ghost use Rattle.mesh.specs.Sound.{none, proper, blendsOf, table, withinSides};
+ghost use Rattle.mesh.specs.Sound.{none, proper, blendsOf, table};
 ghost use Rattle.mesh.specs.Sound as sounds;
 ghost use Rattle.mesh.specs.Bytes.{refused};
 
@@ -26,11 +26,11 @@ pub(crate) fn nothing() -> Blend
 }
 
 // The answer where a table does not hold the blends.
-pub(crate) fn refusal() -> Refined
+pub(crate) fn refusal() -> Found
     ensures { λ r. ⌜ r ≡ refused ⌝ }
 {
-    Refined {
-        fits: false,
+    Found {
+        ok: false,
         table: Table {
             count: 0,
             blends: [nothing(); Table::MOST_BLENDS],
@@ -105,22 +105,6 @@ pub(crate) fn proper_table(table: Table, w: usize, h: usize) -> bool
         i += 1;
     }
     true
-}
-
-// Whether a table's blends may be those of a map of these sides.
-pub fn within_sides(table: Table, w: usize, h: usize) -> bool
-    ensures { λ r. ⌜ r ≡ withinSides w h table ⌝ }
-{
-    if !allowed_side(w) {
-        return false;
-    }
-    if !allowed_side(h) {
-        return false;
-    }
-    if Table::MOST_BLENDS < table.count {
-        return false;
-    }
-    proper_table(table, w, h)
 }
 
 // Whether the areas of the table's blends add up to four times the domain, as those of four blends over every unit square do.

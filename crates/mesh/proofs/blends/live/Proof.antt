@@ -13,8 +13,7 @@ use Rattle.mesh.specs.Sound.{sound, table, fitted, refined, answer, live
 use Rattle.mesh.specs.declared.Blend.{Blend}
 use Rattle.mesh.specs.declared.Table.{Table}
 use Rattle.mesh.specs.declared.Lines.{Lines}
-use Rattle.mesh.specs.declared.Refined.{Refined}
-use Rattle.mesh.specs.declared.Judged.{Judged}
+use Rattle.mesh.specs.declared.Found.{Found}
 use Rattle.axis.proofs.Tests.{failed, passed, and-of, cond-true, cond-false}
 use Rattle.mesh.proofs.Drawing.{allowed-says}
 use Rattle.mesh.proofs.Refining.{first-refined}
@@ -27,15 +26,15 @@ module _ (L : Lines) where
   abbrev lives : List Blend
   lives = live (L .w) (L .h) (meshOf (layoutOf L))
 
-  out-of-range : allowed L ≡ false → liveTable L ≡ record { sound = false; table = table [] }
+  out-of-range : allowed L ≡ false → liveTable L ≡ record { ok = false; table = table [] }
   unfolding liveTable
   out-of-range e = cond-false _ _ _ e
 
-  not-sound : allowed L ≡ true → sound (L .w) (L .h) lives ≡ false → liveTable L ≡ record { sound = false; table = table [] }
+  not-sound : allowed L ≡ true → sound (L .w) (L .h) lives ≡ false → liveTable L ≡ record { ok = false; table = table [] }
   unfolding liveTable answer
   not-sound e o = cond-true _ _ _ e ∙ rw o
 
-  is-sound : allowed L ≡ true → sound (L .w) (L .h) lives ≡ true → length lives ≤ 1024 → liveTable L ≡ record { sound = true; table = table lives }
+  is-sound : allowed L ≡ true → sound (L .w) (L .h) lives ≡ true → length lives ≤ 1024 → liveTable L ≡ record { ok = true; table = table lives }
   unfolding liveTable answer
   is-sound e o few = cond-true _ _ _ e ∙ cond-true _ _ _ (and-of _ _ o (le-leb _ 1024 few))
 
@@ -46,9 +45,9 @@ refusal-requires : tie.Need-refusal-requires
 refusal-requires c κs = search needs
 
 -- every refusal hands back the same
-unsound : (c : tie.After-refusal) (r : Judged) → r ≡ record { sound = false; table = table [] } →
-    record { sound = false; table = c .refusal .result .table } ≡ r
-unsound c r e = ap (λ (x : Refined). record { sound = false; table = x .table }) (c .refusal .ensures) ∙ sym e
+unsound : (c : tie.After-refusal) (r : Found) → r ≡ record { ok = false; table = table [] } →
+    record { ok = false; table = c .refusal .result .table } ≡ r
+unsound c r e = ap (λ (x : Found). record { ok = false; table = x .table }) (c .refusal .ensures) ∙ sym e
 
 allowed-lines-requires : tie.Need-allowed-lines-requires
 allowed-lines-requires c κs = search needs
@@ -107,7 +106,7 @@ returns-4 c =
     let r = fit .before .before in
     let L = r .before .before .before .before .before .before .args .lines in
     let held = fits-held (lives L) (r .refine .result) (found r) (not-false _ (fit .if2 .left)) in
-    ap (λ (t : Table). record { sound = true; table = t }) (held .is-table) ∙
+    ap (λ (t : Table). record { ok = true; table = t }) (held .is-table) ∙
     sym (is-sound L (in-range (r .before .before)) (passed (decided (c .before)) (c .if3 .left)) (held .few))
 
 pub live-spec : {M : Type 1} → statement M

@@ -11,7 +11,7 @@ use Rattle.mesh.specs.Lines.{direction}
 use Rattle.mesh.specs.Blends.{cuts}
 use Rattle.mesh.specs.Sound.{blendsOf}
 use Rattle.mesh.specs.Bytes.{Idle, bytesMesh, recut, walk, listed, refused}
-use Rattle.mesh.specs.declared.Refined.{Refined}
+use Rattle.mesh.specs.declared.Found.{Found}
 use Rattle.axis.proofs.Tests.{failed, passed, and-of, and-first, cond-true, cond-false, true-not-false}
 use Rattle.mesh.proofs.Recutting.{recut-done, met-none}
 use Rattle.mesh.proofs.replay.recut.Statement.{statement}
@@ -27,8 +27,8 @@ same-length : tie.Need-same-length
 same-length c = search needs
 
 -- a refusal holds nothing
-unfit : (r : Refined) → r ≡ refused → r .fits ≡ true → ⊥
-unfit r e f = true-not-false _ f (ap (λ (x : Refined). x .fits) e)
+unfit : (r : Found) → r ≡ refused → r .ok ≡ true → ⊥
+unfit r e f = true-not-false _ f (ap (λ (x : Found). x .ok) e)
 
 returns : tie.Need-returns
 returns c =

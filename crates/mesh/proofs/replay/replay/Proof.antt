@@ -11,8 +11,7 @@ use Rattle.mesh.specs.Lines.{upright, level, mesh, inRange, shares, ende
 use Rattle.mesh.specs.Blends.{live}
 use Rattle.mesh.specs.Bytes.{Marked, bytesMesh}
 use Rattle.mesh.specs.Replay.{replayed}
-use Rattle.mesh.specs.declared.Refined.{Refined}
-use Rattle.mesh.specs.declared.Replayed.{Replayed}
+use Rattle.mesh.specs.declared.Found.{Found}
 use Rattle.axis.proofs.Tests.{failed, passed}
 use Rattle.mesh.proofs.Drawing.{blank}
 use Rattle.mesh.proofs.SingleSteps.{Small}
@@ -32,8 +31,8 @@ refusal-requires c κs = tt
 
 -- every refusal hands back the same
 stop : (c : tie.After-refusal Inv-loop μ-loop) → replayed (c .before .args .t1) ≡ stopped →
-    _≡_ {A = Replayed} (record { good = false; table = c .refusal .result .table }) (replayed (c .before .args .t1))
-stop c e = ap (λ (x : Refined). record { good = false; table = x .table }) (c .refusal .ensures) ∙ sym e
+    _≡_ {A = Found} (record { ok = false; table = c .refusal .result .table }) (replayed (c .before .args .t1))
+stop c e = ap (λ (x : Found). record { ok = false; table = x .table }) (c .refusal .ensures) ∙ sym e
 
 allowed-side-requires : tie.Need-allowed-side-requires Inv-loop μ-loop
 allowed-side-requires c κs = tt
@@ -149,7 +148,7 @@ draw-exact-requires c κs =
 -- a split that is refused stops the replay
 refuse : (c : tie.In-loop Inv-loop μ-loop) → let L = c .before .before .before .before .before .before .before .before .before .before .before .before .before .before .before .before .before .before .before .before .before .before .before .before .args .t1 in
     replayed L ≡ stopped →
-    _≡_ {A = Replayed} (record { good = false; table = c .before .before .before .before .before .before .before .before .before .before .before .before .before .before .before .before .before .before .before .before .before .before .before .refusal .result .table }) (replayed L)
+    _≡_ {A = Found} (record { ok = false; table = c .before .before .before .before .before .before .before .before .before .before .before .before .before .before .before .before .before .before .before .before .before .before .before .refusal .result .table }) (replayed L)
 refuse c e = stop (c .before .before .before .before .before .before .before .before .before .before .before .before .before .before .before .before .before .before .before .before .before .before .before) e
 
 returns-4 : tie.Need-returns-4 Inv-loop μ-loop

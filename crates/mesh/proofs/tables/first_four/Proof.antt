@@ -1,7 +1,7 @@
 -- `mesh::tables::first_four` meets its contract: the four blends stand at the front of an empty table.
 use borrow.Author.Needs.{needs}
 use mathlib.Core.Path.{ap, _∙_}
-use Rattle.mesh.specs.declared.Refined.{Refined}
+use Rattle.mesh.specs.declared.Found.{Found}
 use Rattle.mesh.proofs.Refining.{four-set}
 use Rattle.mesh.proofs.tables.first_four.Statement.{statement}
 use Rattle.mesh.proofs.tables.first_four.Tie as tie
@@ -54,7 +54,7 @@ returns c =
     let l3 = h1 .before in
     let l2 = l3 .before in
     let l1 = l2 .before in
-    let fresh = ap (λ (r : Refined). r .table .blends) (l1 .before .before .refusal .ensures) in
+    let fresh = ap (λ (r : Found). r .table .blends) (l1 .before .before .refusal .ensures) in
     four-set _ _ _ _ _ fresh ∙
     rw (l1 .low .ensures, l2 .low2 .ensures, l3 .low3 .ensures, h1 .high .ensures, h2 .high2 .ensures, l4 .low4 .ensures, h3 .high3 .ensures, c .high4 .ensures)
 
