@@ -5,6 +5,7 @@ use mathlib.Core.Bool.{Bool, true, false, cond}
 use mathlib.Core.List.{List, [], _∷_, _++_, map}
 use lib.Dec.{eqb}
 use lib.ListN.{length, take, set, replicate}
+use Rattle.axis.specs.Limits.{largestSide, mostSplits, mostBlends}
 use Rattle.mesh.specs.declared.Split.{Split}
 use Rattle.mesh.specs.declared.Lines.{Lines}
 use Rattle.mesh.specs.declared.Table.{Table}
@@ -28,7 +29,7 @@ withSplit L s = record { w = L .w; h = L .h; count = L .count + 1; splits = set 
 -- a table in hand is that of the live blends of sound lines
 pub record InHand (L : Lines) (t : Table) : Type 0 where
   pub allowed? : allowed L ≡ true
-  pub places : length (L .splits) ≡ 60
+  pub places : length (L .splits) ≡ mostSplits
   pub is-sound : sound (L .w) (L .h) (liveOf (layoutOf L)) ≡ true
   pub is-table : t ≡ table (liveOf (layoutOf L))
 
@@ -58,7 +59,7 @@ lengthenedStep L t s =
 
 -- the values after a split, in an array
 unfoldable pub carriedArray : List Blend → List ℕ → List Blend → List ℕ
-carriedArray old vs new = map (carried old vs) new ++ replicate (1024 - length new) 0
+carriedArray old vs new = map (carried old vs) new ++ replicate (mostBlends - length new) 0
 
 -- the places of a table's blends, from 1, noted at their anchors
 unfoldable pub anchorIndex : List ℕ → ℕ → List Blend → List ℕ
@@ -70,10 +71,10 @@ pub record InTable (w h : ℕ) (t : Table) (values : List ℕ) : Type 0 where
   pub of : Plain
   pub across : of .lines .w ≡ w
   pub up : of .lines .h ≡ h
-  pub sides : (1 ≤ w) × (w ≤ 128) × (1 ≤ h) × (h ≤ 128)
+  pub sides : (1 ≤ w) × (w ≤ largestSide) × (1 ≤ h) × (h ≤ largestSide)
   pub is-sound : sound w h (blends of) ≡ true
   pub is-table : t ≡ table (blends of)
-  pub is-short : length (blends of) ≤ 1024
+  pub is-short : length (blends of) ≤ mostBlends
   pub are-values : of .values ≡ take (length (blends of)) values
 
 -- a step from an opened record: a line that is drawn is one that an exact split may draw, and the table is that of the map with it

@@ -4,6 +4,7 @@ use mathlib.Core.Bool.{Bool, _&&_}
 use mathlib.Core.List.{List, _++_}
 use lib.Dec.{eqb}
 use lib.ListN.{length, take, drop, replicate}
+use Rattle.axis.specs.Limits.{mostSplits, mostBlends}
 use Rattle.axis.specs.Range.{all}
 use Rattle.mesh.specs.declared.Split.{Split}
 use Rattle.mesh.specs.declared.Lines.{Lines}
@@ -29,11 +30,11 @@ linesOf P =
       w = P .w;
       h = P .h;
       count = length (P .splits);
-      splits = P .splits ++ replicate (60 - length (P .splits)) noSplit;
+      splits = P .splits ++ replicate (mostSplits - length (P .splits)) noSplit;
     }
 
 unfoldable pub recordOf : Plain → Map
-recordOf P = record { lines = linesOf (P .lines); values = P .values ++ replicate (1024 - length (P .values)) 0 }
+recordOf P = record { lines = linesOf (P .lines); values = P .values ++ replicate (mostBlends - length (P .values)) 0 }
 
 -- what the record holds: its values are as many as its blends
 unfoldable pub plain : Map → Plain

@@ -7,13 +7,14 @@ ghost use mathlib.Core.Path.{_≡_};
 ghost use mathlib.Core.Bool.{true};
 ghost use Prim.Native.Nat.{ℕ, _≤_, _<_};
 ghost use lib.ListN.{length, take, replicate};
+ghost use Rattle.axis.specs.Limits.{largestSide, mostBlends};
 ghost use Rattle.axis.specs.Range.{all};
 ghost use Rattle.mesh.specs.Sound.{sound, proper, blendsOf};
 ghost use Rattle.maps.specs.Inner.{anchorIndex, carriedArray, InTable};
 
 // Notes each blend's table place, from 1, at its anchor, so that an anchor is looked up and never searched for.
 fn index_anchors(table: Table, index: &mut [u16])
-    requires { ⌜ (length (now index) ≡ 17161) × (table .count ≤ 1024) × (all (proper 128 128) (blendsOf table) ≡ true) ⌝ }
+    requires { ⌜ (length (now index) ≡ 17161) × (table .count ≤ mostBlends) × (all (proper largestSide largestSide) (blendsOf table) ≡ true) ⌝ }
     ensures { λ _. ⌜ now (index .exit) ≡ anchorIndex (now (index .entry)) 0 (blendsOf table) ⌝ }
 {
     let count = table.count;
@@ -29,17 +30,17 @@ fn index_anchors(table: Table, index: &mut [u16])
 // The values of the new table's blends, from the old table and its values; unused places are zero.
 pub(crate) fn carried_values(
     old: Table,
-    values: [u16; 1024],
+    values: [u16; Table::MOST_BLENDS],
     new: Table,
     w: usize,
     h: usize,
-) -> [u16; 1024]
-    requires { ⌜ InTable w h old values × (new .count ≤ 1024) × (all (proper w h) (blendsOf new) ≡ true) ⌝ }
+) -> [u16; Table::MOST_BLENDS]
+    requires { ⌜ InTable w h old values × (new .count ≤ mostBlends) × (all (proper w h) (blendsOf new) ≡ true) ⌝ }
     ensures { λ r. ⌜ r ≡ carriedArray (blendsOf old) (take (old .count) values) (blendsOf new) ⌝ }
 {
     let mut index = [0u16; 17161];
     index_anchors(old, &mut index);
-    let mut carried = [0u16; 1024];
+    let mut carried = [0u16; Table::MOST_BLENDS];
     let count = new.count;
     let mut i = 0;
     while i < count {

@@ -8,6 +8,7 @@ mod values;
 
 use mesh::Lines;
 use mesh::Split;
+use mesh::Table;
 ghost use mathlib.Core.Path.{_≡_};
 ghost use Rattle.mesh.specs.Lines.{allowedSide};
 ghost use Rattle.maps.specs.Plain.{freshPlain};
@@ -17,13 +18,13 @@ ghost use Rattle.maps.specs.Calls.{freshMap};
 // The record of a map: its lines, which are its sides and its splits in order, and its values in table order; all unused places are zero.
 pub struct Map {
     pub lines: Lines,
-    pub values: [u16; 1024],
+    pub values: [u16; Table::MOST_BLENDS],
 }
 
 impl Map {
-    pub const LARGEST_SIDE: usize = 128;
+    pub const LARGEST_SIDE: usize = Lines::LARGEST_SIDE;
 
-    pub const MOST_SPLITS: usize = 60;
+    pub const MOST_SPLITS: usize = Lines::MOST_SPLITS;
 
     // The fresh map of two sides; 1 with the fresh 1 by 1 map where a side is out of range.
     pub fn fresh(w: usize, h: usize) -> Changed
@@ -67,9 +68,9 @@ fn blank(w: usize, h: usize) -> Map
             w: w,
             h: h,
             count: 0,
-            splits: [none; 60],
+            splits: [none; Map::MOST_SPLITS],
         },
-        values: [0u16; 1024],
+        values: [0u16; Table::MOST_BLENDS],
     }
 }
 

@@ -64,11 +64,11 @@ fn no_split(s: Split) -> bool
 }
 
 // Whether the splits from a place on are all zero.
-fn no_splits_from(splits: [Split; 60], from: usize) -> bool
+fn no_splits_from(splits: [Split; Map::MOST_SPLITS], from: usize) -> bool
     ensures { λ r. ⌜ r ≡ all isNoSplit (drop from splits) ⌝ }
 {
     let mut i = from;
-    while i < 60 {
+    while i < Map::MOST_SPLITS {
         let s = splits[i];
         if !no_split(s) {
             return false;
@@ -79,11 +79,11 @@ fn no_splits_from(splits: [Split; 60], from: usize) -> bool
 }
 
 // Whether the values from a place on are all zero.
-fn no_values_from(values: [u16; 1024], from: usize) -> bool
+fn no_values_from(values: [u16; Table::MOST_BLENDS], from: usize) -> bool
     ensures { λ r. ⌜ r ≡ all (λ v. eqb v 0) (drop from values) ⌝ }
 {
     let mut i = from;
-    while i < 1024 {
+    while i < Table::MOST_BLENDS {
         if values[i] != 0 {
             return false;
         }
@@ -103,7 +103,7 @@ fn no_table() -> Table
     };
     Table {
         count: 0,
-        blends: [none; 1024],
+        blends: [none; Table::MOST_BLENDS],
     }
 }
 

@@ -7,6 +7,7 @@ ghost use Prim.Native.Nat.{_≤_};
 ghost use mathlib.Core.Path.{_≡_};
 ghost use lib.Dec.{eqb};
 ghost use lib.ListN.{take};
+ghost use Rattle.axis.specs.Limits.{mostBlends};
 ghost use Rattle.axis.specs.Triple.{sameTriple};
 ghost use Rattle.mesh.specs.Blends.{same};
 ghost use Rattle.mesh.specs.Sound.{blendsOf};
@@ -31,7 +32,7 @@ fn same_blend(a: Blend, b: Blend) -> bool
 
 // Whether two tables hold the same blends.
 fn same_tables(a: Table, b: Table) -> bool
-    requires { ⌜ (a .count ≤ 1024) × (b .count ≤ 1024) ⌝ }
+    requires { ⌜ (a .count ≤ mostBlends) × (b .count ≤ mostBlends) ⌝ }
     ensures { λ r. ⌜ r ≡ agree same (blendsOf a) (blendsOf b) ⌝ }
 {
     let count = a.count;
@@ -51,8 +52,8 @@ fn same_tables(a: Table, b: Table) -> bool
 }
 
 // Whether the first values of two maps, as many as they have blends, are the same.
-fn same_values(a: [u16; 1024], b: [u16; 1024], count: usize) -> bool
-    requires { ⌜ count ≤ 1024 ⌝ }
+fn same_values(a: [u16; Table::MOST_BLENDS], b: [u16; Table::MOST_BLENDS], count: usize) -> bool
+    requires { ⌜ count ≤ mostBlends ⌝ }
     ensures { λ r. ⌜ r ≡ agree eqb (take count a) (take count b) ⌝ }
 {
     let mut i = 0;

@@ -1,4 +1,5 @@
 // Splits: the refusals in their order, the exact step, and the search for a longer line.
+use crate::Map;
 use mesh::Lines;
 use mesh::Split;
 use mesh::Table;
@@ -11,6 +12,7 @@ use mesh::tables::full;
 ghost use mathlib.Core.Path.{_≡_};
 ghost use mathlib.Core.Bool.{true, _&&_, not};
 ghost use Prim.Native.Nat.{_<_};
+ghost use Rattle.axis.specs.Limits.{mostSplits};
 ghost use Rattle.mesh.specs.Lines.{layoutOf, meshOf, allowed, inRange, ended, shares};
 ghost use Rattle.mesh.specs.Splits.{given, chosen};
 ghost use Rattle.maps.specs.Inner.{withSplit, InHand, judged, exactStep, found, lengthenedStep};
@@ -24,7 +26,7 @@ pub struct Step {
 
 // The lines with one split more.
 fn with_split(lines: Lines, s: Split) -> Lines
-    requires { ⌜ lines .count < 60 ⌝ }
+    requires { ⌜ lines .count < mostSplits ⌝ }
     ensures { λ r. ⌜ r ≡ withSplit lines s ⌝ }
 {
     let mut next = lines;
@@ -42,7 +44,7 @@ fn given_number(lines: Lines, live: Table, s: Split) -> usize
     if !fits_sides(lines.w, lines.h, s) {
         return 3;
     }
-    if 60 <= lines.count {
+    if Map::MOST_SPLITS <= lines.count {
         return 4;
     }
     if shares_stretch(lines, s) {
@@ -59,7 +61,7 @@ fn given_number(lines: Lines, live: Table, s: Split) -> usize
 
 // One split more on lines whose live blends are in hand; 8 where it leaves no sound map.
 fn sound_step(lines: Lines, live: Table, s: Split) -> Step
-    requires { ⌜ InHand lines live × (inRange (lines .w) (lines .h) s ≡ true) × (lines .count < 60) ⌝ }
+    requires { ⌜ InHand lines live × (inRange (lines .w) (lines .h) s ≡ true) × (lines .count < mostSplits) ⌝ }
     ensures { λ r. ⌜ r ≡ judged lines live s ⌝ }
 {
     let next = refine(with_split(lines, s), live);
