@@ -2,7 +2,6 @@
 use Prim.Native.Nat.{ℕ, zero, suc, _+_, _*_, _-_, _/_, _<_}
 use native.Mathlib.Omega.{arith}
 use mathlib.Core.Path.{_≡_, refl, sym, ap, subst, _∙_}
-use mathlib.Core.Bool.{true}
 use mathlib.Core.List.{List, [], _∷_, _++_, map, append-assoc, List·Memᴰ, List·Memᴰ·eq-of-singleton}
 use lib.ListN.{length, getD, length-append}
 use Rattle.mesh.specs.declared.Blend.{Blend}
@@ -10,10 +9,9 @@ use Rattle.axis.proofs.Tests.{each-mem}
 use Rattle.maps.specs.declared.Map.{Map}
 use Rattle.maps.specs.Plain.{Plain, freshPlain, blends}
 use Rattle.maps.specs.Values.{paired}
-use Rattle.maps.specs.Record.{recordOf, plain, good}
+use Rattle.maps.specs.Record.{recordOf, plain}
 use Rattle.maps.specs.Histories.{Call, exact, Outcome, byLibrary, byMachine, outcomes, ending}
 use Rattle.maps.specs.Demand.{leftBy, DemandFrom}
-use Rattle.maps.proofs.Good.{Holds}
 use Rattle.maps.proofs.Readings.{Valued}
 use Rattle.maps.proofs.Reached.{Reached, holds-reached, fresh-reached, Leads, ending-leads}
 use Rattle.maps.proofs.Replayed3.{AcceptedTo, accepted-join, accepted-ends, accepted-more, library-accepts, ending-join, outcomes-join, withValues, splits-drawn, value-set}
@@ -22,8 +20,8 @@ use Rattle.maps.proofs.Following.{ending-follows}
 use Rattle.files.specs.File.{wordAt, splitCount, guessed}
 use Rattle.files.specs.Calls.{readFile}
 use Rattle.files.specs.FromFile.{readPlain, setting, fileCalls, AllAccepted, FromFile, AnyCall, onMap, writes, payloads, AmongFiles}
-use Rattle.files.proofs.RoundTrip.{held-values, accepted-file, all-values}
-use Rattle.files.proofs.Reading.{good-replays, good-short}
+use Rattle.files.proofs.RoundTrip.{accepted-file}
+use Rattle.files.proofs.ReadMaps.{told-held, guessed-holds}
 
 -- The numbers of a file are numbers of 16 bits.
 module _ (bytes : List ℕ) (small : (b : ℕ) → List·Memᴰ b bytes → b < 256) where
@@ -44,24 +42,11 @@ module _ (bytes : List ℕ) (small : (b : ℕ) → List·Memᴰ b bytes → b < 
 
   -- What an accepted file tells is what the map that is read holds, and a map that calls may have reached.
   module _ (e : readFile bytes .number ≡ 0) where
-    is-good : good (recordOf (guessed bytes)) ≡ true
-    is-good = accepted-file bytes e .0
-
-    told-held : plain (recordOf (guessed bytes)) ≡ guessed bytes
-    told-held = all-values bytes (good-short (guessed bytes) is-good) (accepted-file bytes e .1)
-
     pub read-held : readPlain bytes ≡ guessed bytes
-    read-held = ap plain (accepted-file bytes e .2) ∙ told-held
-
-    guessed-holds : Holds (guessed bytes)
-    guessed-holds =
-        record {
-          lines = good-replays (guessed bytes) is-good;
-          counted = rw told-held at (held-values (guessed bytes) (good-short (guessed bytes) is-good));
-        }
+    read-held = ap plain (accepted-file bytes e .2) ∙ told-held bytes e
 
     pub read-reached : Reached (readPlain bytes)
-    read-reached = rw read-held (holds-reached (guessed bytes) guessed-holds guessed-small)
+    read-reached = rw read-held (holds-reached (guessed bytes) (guessed-holds bytes e) guessed-small)
 
     pub read-record : recordOf (readPlain bytes) ≡ readFile bytes .map
     read-record = ap recordOf read-held ∙ sym (accepted-file bytes e .2)

@@ -6,12 +6,9 @@ pub mod RoundTrip
 pub mod Terms
 pub mod Filing
 pub mod Reading
-pub mod Refusals
-pub mod Changing
-pub mod Asking
+pub mod ReadMaps
 pub mod GoodFiles
 pub mod FromFile
 pub mod Texts
 pub mod TableLines
 pub mod TableText
-pub mod Answers

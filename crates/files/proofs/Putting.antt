@@ -8,7 +8,9 @@ use mathlib.Core.List.{List, [], _∷_, _++_, append-assoc, append-nil}
 use lib.ListN.{length, take, drop, getD, length-append, length-drop, take-append-drop}
 use lib.Seq.{length-take-le, take-all, take-at, drop-at, drop-drop, take-suc}
 use Rattle.axis.specs.Range.{joined}
-use Rattle.files.specs.File.{put}
+use Rattle.axis.proofs.Tests.{cond-true, cond-false}
+use borrow.Author.Tests.{le-leb, lt-leb}
+use Rattle.files.specs.File.{word, put, putWords}
 use Rattle.files.proofs.Words.{joined-length}
 use Rattle.axis.proofs.Members.{joined-more}
 
@@ -36,11 +38,15 @@ pub put-then : (bytes : List ℕ) (at : ℕ) (xs ys : List ℕ) (n : ℕ) {betwe
     at + length xs ≡ n → n ≤ length bytes → after ≡ put bytes at (xs ++ ys)
 put-then bytes at xs ys n p q e room = q ∙ rw p (put-more bytes at xs (omega arith) ys n e)
 
-pub put-three : (bytes : List ℕ) (at : ℕ) (xs ys zs : List ℕ) (n o : ℕ) {first second third : List ℕ} →
-    first ≡ put bytes at xs → second ≡ put first n ys → third ≡ put second o zs →
-    at + length xs ≡ n → n + length ys ≡ o → o ≤ length bytes → third ≡ put bytes at (xs ++ ys ++ zs)
-put-three bytes at xs ys zs n o p q r e f room =
-    put-then bytes at (xs ++ ys) zs o (put-then bytes at xs ys n p q e (omega arith)) r (rw length-append (omega arith)) room
+-- numbers in a row, where they fit and where they do not
+module _ (bytes : List ℕ) (at : ℕ) (words : List ℕ) where
+  pub words-fit : at + 2 * length words ≤ length bytes → putWords bytes at words ≡ put bytes at (joined word words)
+  unfolding putWords
+  words-fit le = cond-true _ _ _ (le-leb _ _ le)
+
+  pub words-not : length bytes < at + 2 * length words → bytes ≡ putWords bytes at words
+  unfolding putWords
+  words-not lt = sym (cond-false _ _ _ (lt-leb _ _ lt))
 
 -- Entries of one length, put in a row one by one:
 module _ {A : Type 0} (entry : A → List ℕ) (size : ℕ) (xs : List A) (before : List ℕ) (at : ℕ) where

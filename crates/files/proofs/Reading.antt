@@ -6,8 +6,8 @@ use mathlib.Core.Path.{_≡_, sym, ap, _∙_}
 use mathlib.Core.Logic.{⊎-elim}
 use mathlib.Core.Bool.{true, false}
 use mathlib.Core.List.{List, _++_}
-use borrow.Author.Tests.{ltb-true, ltb-false}
-use lib.Dec.{ltb}
+use borrow.Author.Tests.{ltb-true, ltb-false, eqb-true}
+use lib.Dec.{eqb, ltb}
 use lib.ListN.{length, take, drop, length-append}
 use lib.Seq.{take-append-seam}
 use Rattle.axis.proofs.Tests.{either, true-not-false}
@@ -18,11 +18,12 @@ use Rattle.maps.specs.Calls.{changed}
 use Rattle.maps.proofs.Replay.{good-passes}
 use Rattle.maps.proofs.Good.{Replays, replays-short}
 use Rattle.files.specs.declared.Written.{Written}
-use Rattle.files.specs.File.{fileOf, splitCount, guessed, sameBytes}
+use Rattle.files.specs.File.{fileOf, splitCount, guessed}
 use Rattle.files.specs.Calls.{written, after, readFile}
-use Rattle.files.proofs.Words.{same-bytes, bytes-same}
+use Rattle.axis.specs.Range.{agree}
+use Rattle.axis.proofs.Entries.{agree-same}
 use Rattle.files.proofs.Taking.{count-few}
-use Rattle.files.proofs.RoundTrip.{held-lines, told, told-length, guessed-splits, is-read, is-refused}
+use Rattle.files.proofs.RoundTrip.{held-lines, told, told-length, guessed-splits, same-bytes, is-read, is-refused}
 use Rattle.files.proofs.Filing.{write-bad, write-short, write-whole}
 
 -- a good record's lines, and how few blends they have
@@ -91,10 +92,10 @@ module _ (bytes : List ℕ) where
         ne (ap (λ (x : Written). x .number) (p ∙ sym (write-whole m buffer (ap good is ∙ g) le .0))))
 
     module _ {long : ℕ} {left : List ℕ} (w : Wrote m long left) where
-      pub not-same : sameBytes bytes (take long left) ≡ false → readFile bytes ≡ changed 11 (recordOf (freshPlain 1 1))
+      pub not-same : agree eqb bytes (take long left) ≡ false → readFile bytes ≡ changed 11 (recordOf (freshPlain 1 1))
       not-same f =
           is-refused bytes
-          (λ g e. true-not-false _ (bytes-same bytes (take long left) (e ∙ sym (w .front ∙ rw is))) f)
+          (λ g e. true-not-false _ (same-bytes (e ∙ sym (w .front ∙ rw is))) f)
 
-      pub all-same : sameBytes bytes (take long left) ≡ true → changed 0 m ≡ readFile bytes
-      all-same t = rw is (sym (is-read bytes (ap good (sym is) ∙ w .is-good) (same-bytes bytes (take long left) t ∙ w .front ∙ rw is)))
+      pub all-same : agree eqb bytes (take long left) ≡ true → changed 0 m ≡ readFile bytes
+      all-same t = rw is (sym (is-read bytes (ap good (sym is) ∙ w .is-good) (agree-same eqb eqb-true bytes (take long left) t ∙ w .front ∙ rw is)))

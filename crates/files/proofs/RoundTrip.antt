@@ -10,7 +10,9 @@ use lib.ListN.{length, take, drop, replicate, length-append, length-drop, length
 use lib.Seq.{length-take-le, take-append-seam, drop-drop, drop-at}
 use Rattle.mesh.specs.declared.Split.{Split}
 use Rattle.mesh.specs.declared.Blend.{Blend}
-use Rattle.axis.specs.Range.{each, joined}
+use lib.Dec.{eqb}
+use borrow.Author.Tests.{eqb-true, eq-eqb}
+use Rattle.axis.specs.Range.{each, joined, agree}
 use Rattle.mesh.specs.Weight.{Term}
 use Rattle.axis.proofs.Tests.{either, and-both, and-of, false-of, cond-true, cond-false}
 use Rattle.maps.specs.declared.Map.{Map}
@@ -19,11 +21,12 @@ use Rattle.maps.specs.Plain.{Plain, freshPlain, blends}
 use Rattle.maps.specs.Values.{paired}
 use Rattle.maps.specs.Record.{noSplit, recordOf, plain, good}
 use Rattle.maps.specs.Calls.{changed}
-use Rattle.files.specs.File.{splitEntry, valueEntry, tail, fileOf, wordAt, splitCount, splitAt, guessed, sameBytes}
+use Rattle.files.specs.File.{splitEntry, valueEntry, tail, fileOf, wordAt, splitCount, splitAt, guessed}
 use Rattle.files.specs.Calls.{readFile}
 use Rattle.files.proofs.Taking.{one-more, no-more}
-use Rattle.files.proofs.Words.{word-from, number-read, same-bytes, bytes-same, joined-length, past-entry, each-read}
+use Rattle.files.proofs.Words.{word-from, number-read, joined-length, past-entry, each-read}
 use Rattle.axis.proofs.Members.{each-length}
+use Rattle.axis.proofs.Entries.{agree-same, agree-self}
 
 -- a split's numbers, and a map's, are numbers of 16 bits; its values are as many as its blends
 pub record Small (s : Split) : Type 0 where
@@ -174,6 +177,9 @@ module _ (P : Plain) where
   unfolding recordOf plain
   is-held full = rw (held-lines, ← full, take-append-seam)
 
+pub same-bytes : {xs ys : List ℕ} → xs ≡ ys → agree eqb xs ys ≡ true
+same-bytes {xs} e = rw (← e) (agree-self eqb (λ x. eq-eqb x x refl) xs)
+
 -- Bytes are read where the record that they tell is good and they are its file, and are refused otherwise.
 module _ (bytes : List ℕ) where
   abbrev pub told : Map
@@ -189,14 +195,14 @@ module _ (bytes : List ℕ) where
   guessed-values = rw guessed-splits (each-length 0 ((length bytes - 12 - 12 * splitCount bytes 8 60) / 10) _)
 
   abbrev isFile : Bool
-  isFile = good told && sameBytes bytes (fileOf (plain told))
+  isFile = good told && agree eqb bytes (fileOf (plain told))
 
   says : isFile ≡ true → (good told ≡ true) × (bytes ≡ fileOf (plain told))
-  says t = let b = and-both (good told) _ t in (b .0, same-bytes bytes (fileOf (plain told)) (b .1))
+  says t = let b = and-both (good told) _ t in (b .0, agree-same eqb eqb-true bytes (fileOf (plain told)) (b .1))
 
   pub is-read : good told ≡ true → bytes ≡ fileOf (plain told) → readFile bytes ≡ changed 0 told
   unfolding readFile
-  is-read g e = cond-true _ _ _ (and-of _ _ g (bytes-same bytes (fileOf (plain told)) e))
+  is-read g e = cond-true _ _ _ (and-of _ _ g (same-bytes e))
 
   pub is-refused : (good told ≡ true → bytes ≡ fileOf (plain told) → ⊥) → readFile bytes ≡ changed 11 (recordOf (freshPlain 1 1))
   unfolding readFile
@@ -222,4 +228,4 @@ module _ (bytes : List ℕ) where
 -- So a written map reads back.
 pub written-reads : (P : Plain) → Fits P → good (recordOf P) ≡ true → readFile (fileOf P) ≡ changed 0 (recordOf P)
 unfolding readFile
-written-reads P ok g = rw (guessed-file P ok, is-held P (ok .full)) (cond-true _ _ _ (and-of _ _ g (bytes-same (fileOf P) (fileOf P) refl)))
+written-reads P ok g = rw (guessed-file P ok, is-held P (ok .full)) (cond-true _ _ _ (and-of _ _ g (same-bytes {xs = fileOf P} refl)))

@@ -5,19 +5,18 @@ use native.Mathlib.Numerals.{add-one}
 use native.Mathlib.Nat.{zero-add, add-zero, sub-zero}
 use mathlib.Core.Path.{_≡_, refl, sym, ap, _∙_}
 use mathlib.Core.Logic.{⊎-elim}
-use mathlib.Core.Bool.{true, false, _&&_}
+use mathlib.Core.Bool.{true, _&&_}
 use mathlib.Core.List.{List, [], _∷_, _++_, append-assoc}
-use borrow.Author.Tests.{leb-true, le-leb, eqb-true, eq-eqb, ne-eqb}
+use borrow.Author.Tests.{leb-true, le-leb, eqb-true, eq-eqb}
 use lib.Dec.{leb, eqb}
-use lib.ListN.{length, getD, set, drop, replicate, drop-of-length-le}
-use lib.Seq.{set-at, drop-cons}
+use lib.ListN.{length, set, replicate}
+use lib.Seq.{set-at}
 use Rattle.mesh.specs.declared.Split.{Split}
 use Rattle.axis.specs.Range.{each}
 use Rattle.maps.specs.declared.Map.{Map}
 use Rattle.maps.specs.Record.{noSplit, recordOf}
 use Rattle.axis.proofs.Tests.{either, and-both, and-of, false-of, cond-true, cond-false}
-use Rattle.files.specs.File.{wordAt, splitCount, splitAt, guessed, sameBytes}
-use Rattle.files.proofs.Words.{same-bytes}
+use Rattle.files.specs.File.{wordAt, splitCount, splitAt, guessed}
 use Rattle.axis.proofs.Members.{each-length}
 
 -- Splits in a row: one more where a whole entry of kind 2 stands, no more where none does.
@@ -101,31 +100,6 @@ module _ {A : Type 0} (got : ℕ → A) (d : A) (n : ℕ) where
 
   pub filled-all : {i : ℕ} {xs : List A} → Filled i xs → (k : ℕ) → i ≡ k → xs ≡ run 0 k ++ replicate (n - k) d
   filled-all f k e = rw e at (f .is)
-
--- Bytes compared one by one:
-module _ (xs ys : List ℕ) where
-  pub record Alike (i : ℕ) : Type 0 where
-    pub within : i ≤ length xs
-    pub is : sameBytes xs ys ≡ sameBytes (drop i xs) (drop i ys)
-
-  pub alike-none : Alike 0
-  alike-none = record { within = omega arith; is = refl }
-
-  module _ (long : length ys ≡ length xs) {i : ℕ} (a : Alike i) where
-    turn : i < length xs → sameBytes xs ys ≡ (eqb (getD xs i 0) (getD ys i 0) && sameBytes (drop (suc i) xs) (drop (suc i) ys))
-    turn lt = a .is ∙ rw (drop-cons xs i 0 lt, drop-cons ys i 0 (omega arith))
-
-    pub alike-more : i < length xs → getD xs i 0 ≡ getD ys i 0 → Alike (i + 1)
-    alike-more lt e = record { within = omega arith; is = turn lt ∙ rw (eq-eqb _ _ e, add-one) }
-
-    pub alike-not : i < length xs → (getD xs i 0 ≡ getD ys i 0 → ⊥) → false ≡ sameBytes xs ys
-    alike-not lt ne = sym (turn lt ∙ rw (ne-eqb _ _ ne))
-
-    pub alike-all : length xs ≤ i → true ≡ sameBytes xs ys
-    alike-all le = sym (a .is ∙ let more : length ys ≤ i = omega arith in rw (drop-of-length-le xs le, drop-of-length-le ys more))
-
-  pub longer-not : (length ys ≡ length xs → ⊥) → false ≡ sameBytes xs ys
-  longer-not ne = sym (false-of _ (λ t. ne (ap length (sym (same-bytes xs ys t)))))
 
 -- The numbers at a file's places, in a record:
 pub told-map : (bytes : List ℕ) (w h count places : ℕ) (splits : List Split) (values : List ℕ) →

@@ -15,7 +15,7 @@ use Rattle.maps.specs.declared.Map.{Map}
 use Rattle.maps.specs.Values.{paired}
 use Rattle.axis.proofs.Members.{entry}
 use Rattle.files.specs.Inner.{Listed, terms, filed}
-use Rattle.files.specs.File.{word, put, head, splitEntry, valueEntry, tail}
+use Rattle.files.specs.File.{put, head, splitEntry, valueEntry, tail}
 use Rattle.files.proofs.Words.{joined-length}
 use Rattle.files.proofs.Putting.{put-then}
 use Rattle.files.proofs.RoundTrip.{split-long, value-long, paired-length}
@@ -67,12 +67,10 @@ module _ (m : Map) (t : Table) (ok : Listed t) (places : length (t .blends) ≡ 
   values-long = joined-length valueEntry 10 value-long (terms t (m .values)) ∙ rw (terms-length t (m .values) ok places full)
 
   pub filed-put : (before : List ℕ) → 12 + 12 * m .count + 10 * t .count ≤ length before →
-      {opened headed drawn valued after : List ℕ} → opened ≡ put before 0 (word 6 ++ word 1) → headed ≡ put opened 4 (word (m .w) ++ word (m .h)) →
-      drawn ≡ put headed 8 splits → valued ≡ put drawn (8 + 12 * m .count) values →
+      {headed drawn valued after : List ℕ} → headed ≡ put before 0 (head (m .w) (m .h)) → drawn ≡ put headed 8 splits → valued ≡ put drawn (8 + 12 * m .count) values →
       after ≡ put valued (8 + 12 * m .count + 10 * t .count) tail → after ≡ put before 0 (filed m t)
-  filed-put before room p q r s u =
-      let begun = put-then before 0 (word 6 ++ word 1) (word (m .w) ++ word (m .h)) 4 p q refl (omega arith) in
-      let lined = put-then before 0 (head (m .w) (m .h)) splits 8 begun r refl (omega arith) in
+  filed-put before room q r s u =
+      let lined = put-then before 0 (head (m .w) (m .h)) splits 8 q r refl (omega arith) in
       let most = put-then before 0 (head (m .w) (m .h) ++ splits) values (8 + 12 * m .count) lined s (rw (length-append, splits-long) (omega arith)) (omega arith) in
       put-then before 0 (head (m .w) (m .h) ++ splits ++ values) tail (8 + 12 * m .count + 10 * t .count) most u
       (simp (length-append, splits-long, values-long) (omega arith)) (omega arith)

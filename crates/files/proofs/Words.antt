@@ -2,15 +2,11 @@
 use Prim.Native.Nat.{ℕ, zero, suc, _+_, _*_, _<_}
 use native.Mathlib.Omega.{arith}
 use mathlib.Core.Path.{_≡_, refl, ap, _∙_}
-use mathlib.Core.Bool.{true, false}
 use mathlib.Core.List.{List, [], _∷_, _++_, map, append-assoc, List·Memᴰ}
-use borrow.Author.Tests.{eqb-true, eq-eqb}
-use lib.Dec.{eqb}
 use lib.ListN.{length, drop, length-append}
 use lib.Seq.{getD-drop, drop-drop, drop-at}
 use Rattle.axis.specs.Range.{each, joined}
-use Rattle.axis.proofs.Tests.{and-both, and-of, true-not-false}
-use Rattle.files.specs.File.{word, wordAt, sameBytes}
+use Rattle.files.specs.File.{word, wordAt}
 
 little : (n : ℕ) → n < 65536 → wordAt (word n) 0 ≡ n
 little n lt = omega arith
@@ -25,24 +21,6 @@ word-from bytes at k =
 pub number-read : (bytes : List ℕ) (at : ℕ) (front : List ℕ) → drop at bytes ≡ front → (k n : ℕ) →
     wordAt front k ≡ wordAt (word n) 0 → n < 65536 → wordAt bytes (at + k) ≡ n
 number-read bytes at front e k n q lt = word-from bytes at k ∙ ap (λ (l : List ℕ). wordAt l k) e ∙ q ∙ little n lt
-
--- two lists of bytes are the same where the test says so
-pub same-bytes : (xs ys : List ℕ) → sameBytes xs ys ≡ true → xs ≡ ys
-same-bytes [] [] e = refl
-same-bytes [] (y ∷ ys) e = absurd (true-not-false false e refl)
-same-bytes (x ∷ xs) [] e = absurd (true-not-false false e refl)
-same-bytes (x ∷ xs) (y ∷ ys) e =
-    let b = and-both (eqb x y) (sameBytes xs ys) e in
-    let p = eqb-true x y (b .0) in
-    let q = same-bytes xs ys (b .1) in
-    rw (p, q)
-
-pub bytes-same : (xs ys : List ℕ) → xs ≡ ys → sameBytes xs ys ≡ true
-bytes-same xs ys e = rw (← e) (self xs)
-  where
-    self : (xs : List ℕ) → sameBytes xs xs ≡ true
-    self [] = refl
-    self (x ∷ xs) = and-of _ _ (eq-eqb x x refl) (self xs)
 
 -- Entries of one length in a row:
 module _ {A : Type 0} (entry : A → List ℕ) (size : ℕ) (long : (x : A) → length (entry x) ≡ size) where

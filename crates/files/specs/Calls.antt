@@ -2,15 +2,16 @@
 use Prim.Native.Nat.{ℕ, _+_, _-_}
 use mathlib.Core.Bool.{Bool, cond, _&&_, not}
 use mathlib.Core.List.{List, [], _++_}
-use lib.Dec.{leb, ltb}
+use lib.Dec.{leb, ltb, eqb}
 use lib.ListN.{length, take, drop}
+use Rattle.axis.specs.Range.{agree}
 use Rattle.maps.specs.declared.Map.{Map}
 use Rattle.maps.specs.declared.Changed.{Changed}
 use Rattle.maps.specs.Plain.{freshPlain}
 use Rattle.maps.specs.Record.{recordOf, plain, good}
 use Rattle.maps.specs.Calls.{changed}
 use Rattle.files.specs.declared.Written.{Written}
-use Rattle.files.specs.File.{fileOf, guessed, sameBytes, wordAt}
+use Rattle.files.specs.File.{fileOf, guessed, wordAt}
 
 -- Write: 2 for a record that is not good, 12 where the buffer is shorter than the file.
 unfoldable pub writeNumber : Map → List ℕ → ℕ
@@ -34,7 +35,7 @@ after m buffer =
 unfoldable pub readFile : List ℕ → Changed
 readFile bytes =
     let m = recordOf (guessed bytes) in
-    cond (good m && sameBytes bytes (fileOf (plain m))) (changed 0 m) (changed 11 (recordOf (freshPlain 1 1)))
+    cond (good m && agree eqb bytes (fileOf (plain m))) (changed 0 m) (changed 11 (recordOf (freshPlain 1 1)))
 
 -- whether there is a "whole record with length 2 or more at the place"
 unfoldable pub whole : List ℕ → ℕ → Bool

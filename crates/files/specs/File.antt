@@ -1,6 +1,6 @@
 -- Document 01, "Map file": the bytes of a map.
 use Prim.Native.Nat.{ℕ, zero, suc, _+_, _-_, _*_, _/_, _%_}
-use mathlib.Core.Bool.{Bool, true, false, cond, _&&_}
+use mathlib.Core.Bool.{cond, _&&_}
 use mathlib.Core.List.{List, [], _∷_, _++_}
 use lib.Dec.{leb, eqb}
 use lib.ListN.{length, getD, take, drop}
@@ -39,6 +39,10 @@ fileOf P = head (P .w) (P .h) ++ joined splitEntry (P .splits) ++ joined valueEn
 abbrev pub put : List ℕ → ℕ → List ℕ → List ℕ
 put bytes at new = take at bytes ++ new ++ drop (at + length new) bytes
 
+-- 16-bit numbers put in a row, where they fit
+unfoldable pub putWords : List ℕ → ℕ → List ℕ → List ℕ
+putWords bytes at words = cond (leb (at + 2 * length words) (length bytes)) (put bytes at (joined word words)) bytes
+
 -- the number at a byte place
 abbrev pub wordAt : List ℕ → ℕ → ℕ
 wordAt bytes at = getD bytes at 0 + 256 * getD bytes (at + 1) 0
@@ -69,9 +73,3 @@ guessed bytes =
       splits = each 0 s (λ i. splitAt bytes (8 + 12 * i) ∷ []);
       values = each 0 ((length bytes - 12 - 12 * s) / 10) (λ i. wordAt bytes (16 + 12 * s + 10 * i) ∷ []);
     }
-
-abbrev pub sameBytes : List ℕ → List ℕ → Bool
-sameBytes [] [] = true
-sameBytes [] (y ∷ ys) = false
-sameBytes (x ∷ xs) [] = false
-sameBytes (x ∷ xs) (y ∷ ys) = eqb x y && sameBytes xs ys

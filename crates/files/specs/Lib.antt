@@ -3,4 +3,3 @@ pub mod Calls
 pub mod Inner
 pub mod FromFile
 pub mod Listing
-pub mod Over

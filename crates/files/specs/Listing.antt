@@ -2,7 +2,7 @@
 use Prim.Native.Nat.{ℕ, zero, suc, _-_, _+_, _/_, _%_}
 use mathlib.Core.Bool.{cond}
 use mathlib.Core.List.{List, [], _∷_, _++_}
-use lib.Dec.{ltb, eqb}
+use lib.Dec.{leb, ltb, eqb}
 use lib.ListN.{length, drop}
 use Rattle.axis.specs.declared.Triple.{Triple}
 use Rattle.axis.specs.Range.{joined}
@@ -50,11 +50,12 @@ refusal = 114 ∷ 101 ∷ 102 ∷ 117 ∷ 115 ∷ 101 ∷ 100 ∷ 32 ∷ 49 ∷ 
 unfoldable pub listing : List ℕ → List ℕ
 listing bytes = cond (eqb (readFile bytes .number) 0) (tableText (plain (readFile bytes .map))) refusal
 
--- The call: 12 where the buffer is shorter than 65,536 bytes, which no text reaches; else the text, and the bytes after it stay.
-unfoldable pub listed : List ℕ → List ℕ → Written
-listed bytes out =
-    cond (ltb (length out) 65536) (record { number = 12; length = 0 }) (record { number = 0; length = length (listing bytes) })
+-- A text into a lent buffer: 12 where it is shorter than 65,536 bytes, which no text reaches; else the text, and the bytes after it stay.
+abbrev pub textNumber : List ℕ → ℕ
+textNumber out = cond (ltb (length out) 65536) 12 0
 
-unfoldable pub listedAfter : List ℕ → List ℕ → List ℕ
-listedAfter bytes out =
-    cond (ltb (length out) 65536) out (listing bytes ++ drop (length (listing bytes)) out)
+unfoldable pub textWritten : List ℕ → List ℕ → Written
+textWritten text out = let n = textNumber out in record { number = n; length = cond (leb 1 n) 0 (length text) }
+
+unfoldable pub textAfter : List ℕ → List ℕ → List ℕ
+textAfter text out = cond (leb 1 (textNumber out)) out (text ++ drop (length text) out)

@@ -2,7 +2,7 @@
 ghost use mathlib.Core.Path.{_≡_};
 ghost use Prim.Native.Nat.{ℕ, _+_, _≤_, _<_};
 ghost use lib.ListN.{length};
-ghost use Rattle.files.specs.File.{word, wordAt, put};
+ghost use Rattle.files.specs.File.{word, wordAt, put, putWords};
 ghost use mathlib.Core.Bool.{cond};
 ghost use Rattle.files.specs.Calls.{whole, payloadNumber, payloadAt};
 
@@ -21,12 +21,31 @@ fn wide(x: u8) -> usize
 }
 
 // Puts a number at a byte place.
-pub(crate) fn put_word(bytes: &mut [u8], at: usize, n: usize)
+fn put_word(bytes: &mut [u8], at: usize, n: usize)
     requires { ⌜ at + 2 ≤ length (now bytes) ⌝ }
     ensures { λ _. ⌜ now (bytes .exit) ≡ put (now (bytes .entry)) at (word n) ⌝ }
 {
     bytes[at] = (n % 256) as u8;
     bytes[at + 1] = (n / 256 % 256) as u8;
+}
+
+// Puts numbers in a row from a byte place on, where they fit.
+pub fn put_words(bytes: &mut [u8], at: usize, words: &[usize])
+    ensures { λ _. ⌜ now (bytes .exit) ≡ putWords (now (bytes .entry)) at (now (words .entry)) ⌝ }
+{
+    let count = words.len();
+    if bytes.len() < at {
+        return;
+    }
+    if (bytes.len() - at) / 2 < count {
+        return;
+    }
+    let mut i = 0;
+    while i < count {
+        let n = words[i];
+        put_word(bytes, at + 2 * i, n);
+        i += 1;
+    }
 }
 
 // The length of the whole record at a byte place; 0 where none is there.

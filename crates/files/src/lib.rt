@@ -1,7 +1,6 @@
 // Map files: the third of the three layers.
 pub mod bytes;
 pub mod listing;
-pub mod over;
 mod put;
 mod take;
 
@@ -42,8 +41,8 @@ pub fn write(map: Map, buffer: &mut [u8]) -> Written
     put_whole(buffer, map, opened.table)
 }
 
-// Puts the file of a good map whose table is in hand: refused with 12.
-pub(crate) fn put_whole(buffer: &mut [u8], map: Map, table: Table) -> Written
+// Writes the file of a good map, whose table is in hand, into a lent buffer: refused with 12.
+pub fn put_whole(buffer: &mut [u8], map: Map, table: Table) -> Written
     requires { ⌜ (good map ≡ true) × (table ≡ opened map .table) ⌝ }
     ensures { λ r. ⌜ (r ≡ written map (now (buffer .entry))) × (now (buffer .exit) ≡ after map (now (buffer .entry))) ⌝ }
 {
@@ -62,7 +61,7 @@ pub(crate) fn put_whole(buffer: &mut [u8], map: Map, table: Table) -> Written
 }
 
 // The fresh 1 by 1 map and its table, with 11.
-pub(crate) fn refused() -> WithTable
+fn refused() -> WithTable
     ensures { λ r. ⌜ r ≡ withTable (changed 11 (recordOf (freshPlain 1 1))) ⌝ }
 {
     let fresh = Map::fresh(1, 1);
@@ -90,7 +89,7 @@ pub fn read(bytes: &[u8]) -> Changed
 
 // `read`, with the table of the map, so that the record is not opened again for a call on it. The numbers at a file's places
 // make a map; the bytes are its file where writing it gives the same bytes.
-pub(crate) fn read_with_table(bytes: &[u8]) -> WithTable
+pub fn read_with_table(bytes: &[u8]) -> WithTable
     ensures { λ r. ⌜ r ≡ withTable (readFile (now (bytes .entry))) ⌝ }
 {
     let length = bytes.len();

@@ -1,11 +1,11 @@
 // The table of a map file as text: what the table program prints.
 use crate::Written;
 use crate::read_with_table;
+use axis::Triple;
+use axis::knots;
 use maps::Map;
 use mesh::Blend;
 use mesh::Table;
-use axis::Triple;
-use axis::knots;
 ghost use mathlib.Core.Path.{_≡_};
 ghost use mathlib.Core.Bool.{true};
 ghost use mathlib.Core.List.{[], _∷_, _++_};
@@ -16,7 +16,7 @@ ghost use Rattle.maps.specs.Record.{plain, good};
 ghost use Rattle.maps.specs.Opened.{opened};
 ghost use Rattle.files.specs.File.{put};
 ghost use Rattle.files.specs.Inner.{Listed, Puts, terms};
-ghost use Rattle.files.specs.Listing.{digits, coordinate, spaced, ended, knots, line, tableText, refusal, listed, listedAfter};
+ghost use Rattle.files.specs.Listing.{digits, coordinate, spaced, ended, knots, line, tableText, refusal, listing, textWritten, textAfter};
 
 // The byte of a number's last digit.
 fn digit(n: usize) -> u8
@@ -140,18 +140,10 @@ fn put_refusal(out: &mut [u8])
     out[10] = b'\n';
 }
 
-// Puts the table of a good map whose table is in hand.
-pub(crate) fn put_map(out: &mut [u8], map: Map, table: Table) -> usize
-    requires { ⌜ (good map ≡ true) × (table ≡ opened map .table) × (65536 ≤ length (now out)) ⌝ }
-    ensures { λ r. ⌜ Puts (now (out .entry)) 0 (tableText (plain map)) (now (out .exit)) r ⌝ }
-{
-    let values = map.values;
-    put_table(out, table, values)
-}
-
-// Writes the table of a map file as text into a lent buffer, or the line of a refusal: refused with 12.
-pub fn list(bytes: &[u8], out: &mut [u8]) -> Written
-    ensures { λ r. ⌜ (r ≡ listed (now (bytes .entry)) (now (out .entry))) × (now (out .exit) ≡ listedAfter (now (bytes .entry)) (now (out .entry))) ⌝ }
+// Writes the table of a good map, which is in hand, as text into a lent buffer: refused with 12.
+pub fn put_map(out: &mut [u8], map: Map, table: Table) -> Written
+    requires { ⌜ (good map ≡ true) × (table ≡ opened map .table) ⌝ }
+    ensures { λ r. ⌜ (r ≡ textWritten (tableText (plain map)) (now (out .entry))) × (now (out .exit) ≡ textAfter (tableText (plain map)) (now (out .entry))) ⌝ }
 {
     if out.len() < 65536 {
         return Written {
@@ -159,19 +151,33 @@ pub fn list(bytes: &[u8], out: &mut [u8]) -> Written
             length: 0,
         };
     }
-    let file = read_with_table(bytes);
-    if file.number != 0 {
-        put_refusal(out);
-        return Written {
-            number: 0,
-            length: 11,
-        };
-    }
-    let map = file.map;
-    let table = file.table;
-    let length = put_map(out, map, table);
+    let values = map.values;
+    let length = put_table(out, table, values);
     Written {
         number: 0,
         length: length,
+    }
+}
+
+// Writes the table of a map file as text into a lent buffer, or the line of a refusal: refused with 12.
+pub fn list(bytes: &[u8], out: &mut [u8]) -> Written
+    ensures { λ r. ⌜ (r ≡ textWritten (listing (now (bytes .entry))) (now (out .entry))) × (now (out .exit) ≡ textAfter (listing (now (bytes .entry))) (now (out .entry))) ⌝ }
+{
+    let file = read_with_table(bytes);
+    if file.number == 0 {
+        let map = file.map;
+        let table = file.table;
+        return put_map(out, map, table);
+    }
+    if out.len() < 65536 {
+        return Written {
+            number: 12,
+            length: 0,
+        };
+    }
+    put_refusal(out);
+    Written {
+        number: 0,
+        length: 11,
     }
 }

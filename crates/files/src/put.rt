@@ -1,34 +1,23 @@
 // A map's file, put into bytes entry by entry.
-use crate::bytes::put_word;
+use crate::bytes::put_words;
+use axis::knots;
 use maps::Map;
 use mesh::Split;
 use mesh::Table;
-use axis::knots;
 ghost use mathlib.Core.Path.{_≡_};
-ghost use mathlib.Core.List.{_++_};
 ghost use Prim.Native.Nat.{ℕ, _+_, _-_, _*_, _≤_};
 ghost use lib.ListN.{length, take};
 ghost use Rattle.axis.specs.Range.{joined};
-ghost use Rattle.files.specs.File.{word, put, splitEntry, valueEntry};
+ghost use Rattle.files.specs.File.{put, splitEntry, valueEntry};
 ghost use Rattle.files.specs.Inner.{valueNumbers, Listed, terms, filed};
-
-// Puts two numbers in a row.
-pub(crate) fn put_pair(bytes: &mut [u8], at: usize, first: usize, second: usize)
-    requires { ⌜ at + 4 ≤ length (now bytes) ⌝ }
-    ensures { λ _. ⌜ now (bytes .exit) ≡ put (now (bytes .entry)) at (word first ++ word second) ⌝ }
-{
-    put_word(bytes, at, first);
-    put_word(bytes, at + 2, second);
-}
 
 // Puts a split's entry.
 fn put_split(bytes: &mut [u8], at: usize, split: Split)
     requires { ⌜ at + 12 ≤ length (now bytes) ⌝ }
     ensures { λ _. ⌜ now (bytes .exit) ≡ put (now (bytes .entry)) at (splitEntry split) ⌝ }
 {
-    put_pair(bytes, at, 10, 2);
-    put_pair(bytes, at + 4, split.direction, split.position);
-    put_pair(bytes, at + 8, split.from, split.to);
+    let words = [10, 2, split.direction, split.position, split.from, split.to];
+    put_words(bytes, at, &words);
 }
 
 // Puts the entry of a value at an anchor.
@@ -36,9 +25,8 @@ fn put_value(bytes: &mut [u8], at: usize, m: u8, n: u8, value: usize)
     requires { ⌜ at + 10 ≤ length (now bytes) ⌝ }
     ensures { λ _. ⌜ now (bytes .exit) ≡ put (now (bytes .entry)) at (valueNumbers m n value) ⌝ }
 {
-    put_pair(bytes, at, 8, 3);
-    put_pair(bytes, at + 4, knots::wide(m), knots::wide(n));
-    put_word(bytes, at + 8, value);
+    let words = [8, 3, knots::wide(m), knots::wide(n), value];
+    put_words(bytes, at, &words);
 }
 
 // Puts the entries of the first `count` splits, after the head.
@@ -86,8 +74,8 @@ pub(crate) fn put_file(bytes: &mut [u8], map: Map, table: Table)
     requires { ⌜ Listed table × (map .count ≤ 60) × (12 + 12 * map .count + 10 * table .count ≤ length (now bytes)) ⌝ }
     ensures { λ _. ⌜ now (bytes .exit) ≡ put (now (bytes .entry)) 0 (filed map table) ⌝ }
 {
-    put_pair(bytes, 0, 6, 1);
-    put_pair(bytes, 4, map.w, map.h);
+    let head = [6, 1, map.w, map.h];
+    put_words(bytes, 0, &head);
     let splits = map.splits;
     let count = map.count;
     put_splits(bytes, splits, count);
@@ -95,5 +83,6 @@ pub(crate) fn put_file(bytes: &mut [u8], map: Map, table: Table)
     let values = map.values;
     put_values(bytes, at, table, values);
     let end = at + 10 * table.count;
-    put_pair(bytes, end, 2, 4);
+    let last = [2, 4];
+    put_words(bytes, end, &last);
 }

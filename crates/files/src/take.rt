@@ -5,10 +5,11 @@ use mesh::Split;
 ghost use mathlib.Core.Path.{_≡_};
 ghost use mathlib.Core.List.{[], _∷_, _++_};
 ghost use Prim.Native.Nat.{ℕ, _+_, _-_, _*_, _/_, _≤_};
+ghost use lib.Dec.{eqb};
 ghost use lib.ListN.{length, replicate};
-ghost use Rattle.axis.specs.Range.{each};
+ghost use Rattle.axis.specs.Range.{each, agree};
 ghost use Rattle.maps.specs.Record.{noSplit, recordOf};
-ghost use Rattle.files.specs.File.{wordAt, splitCount, splitAt, guessed, sameBytes};
+ghost use Rattle.files.specs.File.{wordAt, splitCount, splitAt, guessed};
 
 // How many splits stand in a row after the head.
 pub(crate) fn count_splits(bytes: &[u8]) -> usize
@@ -98,7 +99,7 @@ pub(crate) fn taken(bytes: &[u8], count: usize, places: usize) -> Map
 
 // Whether two parts are the same bytes.
 pub(crate) fn equal<'a>(left: &'a [u8], right: &'a [u8]) -> bool
-    ensures { λ r. ⌜ r ≡ sameBytes (now (left .entry)) (now (right .entry)) ⌝ }
+    ensures { λ r. ⌜ r ≡ agree eqb (now (left .entry)) (now (right .entry)) ⌝ }
 {
     let length = left.len();
     if right.len() != length {

@@ -1,7 +1,142 @@
--- What crosses the border to C as numbers alone.
-use Prim.Native.Nat.{ℕ}
+-- The calls at the border to C, where a map crosses as its file: each is document 01's call on the map read from the bytes. c/pump.h tells the same.
+use Prim.Native.Nat.{ℕ, _+_}
+use mathlib.Core.Bool.{cond}
+use mathlib.Core.List.{List, [], _∷_, _++_}
+use lib.Dec.{leb, ltb}
+use lib.IntN.{ℤ, pos, negsuc}
+use lib.ListN.{length, take, drop}
+use Rattle.axis.specs.Range.{joined}
 use Rattle.mesh.specs.declared.Split.{Split}
+use Rattle.maps.specs.declared.Map.{Map}
+use Rattle.maps.specs.declared.Changed.{Changed}
+use Rattle.maps.specs.declared.Shape.{Shape}
+use Rattle.maps.specs.declared.Placed.{Placed}
+use Rattle.maps.specs.declared.Weight.{Weight}
+use Rattle.maps.specs.declared.Weights.{Weights}
+use Rattle.maps.specs.Record.{plain}
+use Rattle.maps.specs.Calls.{freshMap, tablePlace, reading, weights}
+use Rattle.maps.specs.Sameness.{sameness}
+use Rattle.files.specs.File.{word, fileOf}
+use Rattle.files.specs.Calls.{writeNumber, readFile, whole, payloadAt}
+use Rattle.files.specs.Listing.{tableText}
+
+-- of two things, the one that stays after a refusal, and the one that an accepted call gives
+abbrev pub ifRefused {ℓ} : {A : Type ℓ} → ℕ → A → A → A
+ifRefused number stays given = cond (leb 1 number) stays given
+
+-- the first refusal of three checks in their order; 0 where none applies
+abbrev pub firstOf : ℕ → ℕ → ℕ → ℕ
+firstOf a b c = ifRefused a a (ifRefused b b c)
+
+-- 12 where fewer bytes are lent than an answer takes
+abbrev pub shortOf : ℕ → List ℕ → ℕ
+shortOf size out = cond (ltb (length out) size) 12 0
+
+-- "Bytes after a written file stay." A refusal "touches no lent byte": lent bytes with an answer put in front, or as they were.
+abbrev pub answered : ℕ → List ℕ → List ℕ → List ℕ
+answered number answer bytes = ifRefused number bytes (answer ++ drop (length answer) bytes)
+
+-- A call that makes a new map: what was refused before, its own numbers, then 12. The new file stands in the buffer, or all is as it was.
+unfoldable pub newNumber : ℕ → Changed → List ℕ → ℕ
+newNumber refused next buffer = firstOf refused (next .number) (writeNumber (next .map) buffer)
+
+unfoldable pub newBytes : ℕ → Changed → List ℕ → List ℕ
+newBytes refused next buffer = answered (newNumber refused next buffer) (fileOf (plain (next .map))) buffer
+
+unfoldable pub newUsed : ℕ → Changed → List ℕ → ℕ → ℕ
+newUsed refused next buffer used = ifRefused (newNumber refused next buffer) used (length (fileOf (plain (next .map))))
+
+-- pump_fresh: 1, then 12; `used` is then 0.
+abbrev pub freshNumber : ℕ → ℕ → List ℕ → ℕ
+freshNumber w h buffer = newNumber 0 (freshMap w h) buffer
+
+abbrev pub freshBytes : ℕ → ℕ → List ℕ → List ℕ
+freshBytes w h buffer = newBytes 0 (freshMap w h) buffer
+
+abbrev pub freshUsed : ℕ → ℕ → List ℕ → ℕ
+freshUsed w h buffer = newUsed 0 (freshMap w h) buffer 0
+
+-- the file in a lent buffer is its first `used` bytes; where fewer are lent there is none
+abbrev pub lent : List ℕ → ℕ → List ℕ
+lent buffer used = cond (leb used (length buffer)) (take used buffer) []
+
+-- pump_set, pump_exact_split, pump_lengthened_split: 11 where the buffer holds no file, then the call on its map.
+abbrev pub changeNumber : (Map → Changed) → List ℕ → ℕ → ℕ
+changeNumber call buffer used = let file = readFile (lent buffer used) in newNumber (file .number) (call (file .map)) buffer
+
+abbrev pub changeBytes : (Map → Changed) → List ℕ → ℕ → List ℕ
+changeBytes call buffer used = let file = readFile (lent buffer used) in newBytes (file .number) (call (file .map)) buffer
+
+abbrev pub changeUsed : (Map → Changed) → List ℕ → ℕ → ℕ
+changeUsed call buffer used = let file = readFile (lent buffer used) in newUsed (file .number) (call (file .map)) buffer used
 
 -- a split by its direction, position, from and to
 abbrev pub split : ℕ → ℕ → ℕ → ℕ → Split
 split direction position from to = record { direction = direction; position = position; from = from; to = to }
+
+-- a coordinate as a 16-bit number: −1 as 65,535; no other is negative
+abbrev pub signed : ℤ → ℕ
+signed (pos n) = n
+signed (negsuc n) = 65535
+
+abbrev pub shapeNumbers : Shape → List ℕ
+shapeNumbers s = signed (s .l) ∷ signed (s .m) ∷ signed (s .r) ∷ signed (s .b) ∷ signed (s .n) ∷ signed (s .t) ∷ []
+
+-- pump_place: 11, 9, then 12. l, m, r, b, n, t and the value, as 16-bit numbers.
+abbrev pub placeBytes : Placed → List ℕ
+placeBytes p = joined word (shapeNumbers (p .blend) ++ p .value ∷ [])
+
+unfoldable pub placeNumber : List ℕ → ℕ → List ℕ → ℕ
+placeNumber file i out = firstOf (readFile file .number) (tablePlace (readFile file .map) i .number) (shortOf 14 out)
+
+unfoldable pub placeAfter : List ℕ → ℕ → List ℕ → List ℕ
+placeAfter file i out = answered (placeNumber file i out) (placeBytes (tablePlace (readFile file .map) i)) out
+
+-- pump_weights: 11, 10, then 12. For each of the four l, m, r, b, n, t, numerator and denominator.
+abbrev pub weightBytes : Weight → List ℕ
+weightBytes e = joined word (shapeNumbers (e .blend) ++ e .numerator ∷ e .denominator ∷ [])
+
+abbrev pub weightsBytes : Weights → List ℕ
+weightsBytes w = joined weightBytes (w .entries)
+
+unfoldable pub weightsNumber : List ℕ → ℕ → ℕ → List ℕ → ℕ
+weightsNumber file u v out = firstOf (readFile file .number) (weights (readFile file .map) u v .number) (shortOf 64 out)
+
+unfoldable pub weightsAfter : List ℕ → ℕ → ℕ → List ℕ → List ℕ
+weightsAfter file u v out = answered (weightsNumber file u v out) (weightsBytes (weights (readFile file .map) u v)) out
+
+-- pump_reading: 11, then 10; a refusal gives 0 litres.
+unfoldable pub readingNumber : List ℕ → ℕ → ℕ → ℕ
+readingNumber file u v = firstOf (readFile file .number) (reading (readFile file .map) u v .number) 0
+
+unfoldable pub readingLitres : List ℕ → ℕ → ℕ → ℕ
+readingLitres file u v = ifRefused (readingNumber file u v) 0 (reading (readFile file .map) u v .litres)
+
+-- pump_same: 11 where either is no file, and then "no", which is 0.
+unfoldable pub sameNumber : List ℕ → List ℕ → ℕ
+sameNumber one two =
+    firstOf (readFile one .number) (readFile two .number) (sameness (readFile one .map) (readFile two .map) .number)
+
+unfoldable pub sameYes : List ℕ → List ℕ → ℕ
+sameYes one two = ifRefused (sameNumber one two) 0 (cond (sameness (readFile one .map) (readFile two .map) .yes) 1 0)
+
+-- pump_check: whether bytes are a map file.
+abbrev pub checkNumber : List ℕ → ℕ
+checkNumber file = readFile file .number
+
+-- pump_payload: a record's payload, as the byte place where that part of the bytes begins and how many they are.
+unfoldable pub payloadFrom : List ℕ → ℕ → ℕ
+payloadFrom bytes at = cond (whole bytes at) (at + 4) 0
+
+abbrev pub payloadCount : List ℕ → ℕ → ℕ
+payloadCount bytes at = length (payloadAt bytes at)
+
+-- pump_table: 11, then 12 where the buffer is shorter than 65,536 bytes, which no text reaches.
+unfoldable pub tableNumber : List ℕ → List ℕ → ℕ
+tableNumber file out = firstOf (readFile file .number) 0 (shortOf 65536 out)
+
+unfoldable pub tableAfter : List ℕ → List ℕ → List ℕ
+tableAfter file out = answered (tableNumber file out) (tableText (plain (readFile file .map))) out
+
+unfoldable pub tableCount : List ℕ → List ℕ → ℕ
+tableCount file out = ifRefused (tableNumber file out) 0 (length (tableText (plain (readFile file .map))))

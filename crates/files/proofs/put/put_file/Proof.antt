@@ -1,18 +1,19 @@
 -- `put::put_file` meets its contract: a file's parts, one next to the other.
 use native.Mathlib.Omega.{arith}
 use borrow.Author.Needs.{needs}
-use mathlib.Core.Path.{_≡_}
+use mathlib.Core.Path.{_≡_, _∙_}
 use lib.ListN.{length, length-map}
 use lib.Seq.{length-take-le}
+use Rattle.files.proofs.Putting.{words-fit}
 use Rattle.files.proofs.Terms.{filed-put}
 use Rattle.files.proofs.put.put_file.Statement.{statement}
 use Rattle.files.proofs.put.put_file.Tie as tie
 
-put-pair-requires : tie.Need-put-pair-requires
-put-pair-requires c κs = search needs
+slice-aggregate-put-words : tie.Need-slice-aggregate-put-words
+slice-aggregate-put-words c = search needs
 
-put-pair-requires-2 : tie.Need-put-pair-requires-2
-put-pair-requires-2 c κs = search needs
+put-words-requires : tie.Need-put-words-requires
+put-words-requires c κs = search needs
 
 put-splits-requires : tie.Need-put-splits-requires
 put-splits-requires c κs = search needs
@@ -32,8 +33,11 @@ mul-end c = search needs
 add-end : tie.Need-add-end
 add-end c = search needs
 
-put-pair-requires-3 : tie.Need-put-pair-requires-3
-put-pair-requires-3 c κs = search needs
+slice-aggregate-put-words-2 : tie.Need-slice-aggregate-put-words-2
+slice-aggregate-put-words-2 c = search needs
+
+put-words-requires-2 : tie.Need-put-words-requires-2
+put-words-requires-2 c κs = search needs
 
 same-length : tie.Need-same-length
 same-length c = search needs
@@ -41,29 +45,30 @@ same-length c = search needs
 returns : tie.Need-returns
 returns c =
     let end = c .before .before in
-    let values = end .before .before .before .before .before in
+    let values = end .before .before .before .before .before .before in
     let splits = values .before .before .before .before .before in
-    let sides = splits .before .before .before .before .before in
-    let first = sides .before .before .before .before in
-    let start = first .before .before .before in
+    let head = splits .before .before .before .before .before in
+    let start = head .before .before .before .before in
     let m = start .args .map in
     let sixty : length (m .splits) ≡ 60 = simp length-map at (start .good .1 .0 .1 .1 .1 .1 .1 .0 .1 .0 .1) in
     filed-put m (start .args .table) (start .pre .0) (simp length-map at (start .good .1 .1 .0 .1 .1 .1 .0 .1 .0 .1))
     (simp length-map at (start .good .1 .0 .1 .1 .1 .1 .1 .1 .0 .1 .0 .1)) (length-take-le _ _ (omega arith)) _ (start .pre .2)
-    (first .put-pair .ensures) (sides .put-pair2 .ensures) (splits .put-splits .ensures) (values .put-values .ensures) (end .put-pair3 .ensures)
+    (head .put-words .ensures ∙ words-fit _ _ _ (omega (arith, start .pre .2))) (splits .put-splits .ensures) (values .put-values .ensures)
+    (end .put-words2 .ensures ∙ words-fit _ _ _ (omega (arith, start .pre .2, head .put-words .kept .0, splits .put-splits .kept .0, values .put-values .kept .0)))
 
 pub put-file-spec : {M : Type 1} → statement M
 put-file-spec =
     tie.close
     (tie.spec
-    put-pair-requires
-    put-pair-requires-2
+    slice-aggregate-put-words
+    put-words-requires
     put-splits-requires
     mul-at
     add-at
     put-values-requires
     mul-end
     add-end
-    put-pair-requires-3
+    slice-aggregate-put-words-2
+    put-words-requires-2
     same-length
     returns)

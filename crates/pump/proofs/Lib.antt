@@ -1,0 +1,4 @@
+pub mod Refusals
+pub mod Coordinates
+pub mod Changing
+pub mod Asking

@@ -1,0 +1,33 @@
+-- `pump_fresh` meets its contract: the fresh map, opened, ended by `replace`.
+use borrow.Author.Needs.{needs}
+use mathlib.Core.Path.{ap}
+use Rattle.maps.specs.declared.record.Opened.{Opened}
+use Rattle.pump.proofs.Changing.{fresh-good}
+use Rattle.pump.proofs.changes.pump_fresh.Statement.{statement}
+use Rattle.pump.proofs.changes.pump_fresh.Tie as tie
+
+fresh-requires : tie.Need-fresh-requires
+fresh-requires c κs = search needs
+
+open-requires : tie.Need-open-requires
+open-requires c κs = search needs
+
+replace-requires : tie.Need-replace-requires
+replace-requires c κs =
+    let o = c .before .before .before in
+    let made = o .before .before in
+    let a = made .before .before .args in
+    (rw (made .fresh .ensures) (fresh-good (a .w) (a .h)), ap (λ (o : Opened). o .table) (o .«open» .ensures))
+
+same-length : tie.Need-same-length
+same-length c = search needs
+
+returns : tie.Need-returns
+returns c =
+    let end = c .before .before in
+    let made = end .before .before .before .before .before .before in
+    rw (made .fresh .ensures) at (end .replace .ensures)
+
+pub pump-fresh-spec : {M : Type 1} → statement M
+pump-fresh-spec =
+    tie.close (tie.spec fresh-requires open-requires replace-requires same-length returns)

@@ -1,0 +1,51 @@
+-- `changes::replace` meets its contract: a refusal before the file is put, or what putting it answers.
+use borrow.Author.Needs.{needs}
+use mathlib.Core.Path.{ap, _∙_}
+use Prim.Native.Nat.{ℕ}
+use lib.ListN.{length}
+use Rattle.maps.specs.Record.{plain}
+use Rattle.files.specs.declared.Written.{Written}
+use Rattle.files.specs.File.{fileOf}
+use Rattle.files.specs.Calls.{writeNumber}
+use Rattle.pump.specs.Border.{ifRefused, answered, newNumber, newBytes, newUsed}
+use Rattle.pump.proofs.Refusals.{stays, twice, two-refuse, third-tells}
+use Rattle.pump.proofs.changes.replace.Statement.{statement}
+use Rattle.pump.proofs.changes.replace.Tie as tie
+
+first-requires : tie.Need-first-requires
+first-requires c κs = search needs
+
+returns : tie.Need-returns
+unfolding newNumber newBytes newUsed
+returns c =
+    let a = c .before .before .before .args in
+    let e = two-refuse (a .refused) (a .next .number) (writeNumber (a .next .map) (a .buffer .now)) (c .before .first .ensures) (c .if1 .taken) in
+    (e, stays _ _ e (c .if1 .taken), stays _ _ e (c .if1 .taken))
+
+put-whole-requires : tie.Need-put-whole-requires
+put-whole-requires c κs = search needs
+
+if-refused-requires : tie.Need-if-refused-requires
+if-refused-requires c κs = search needs
+
+same-length : tie.Need-same-length
+same-length c = search needs
+
+returns-2 : tie.Need-returns-2
+unfolding newNumber newBytes newUsed
+returns-2 c =
+    let put = c .before .before .before .before in
+    let else = put .before .before .before .before in
+    let a = else .before .before .before .args in
+    let size = length (fileOf (plain (a .next .map))) in
+    let n = writeNumber (a .next .map) (a .buffer .now) in
+    let e = third-tells (a .refused) (a .next .number) n (else .before .first .ensures) (else .if1 .left) in (
+      ap (λ (w : Written). w .number) (put .put-whole .ensures .0) ∙ e,
+      put .put-whole .ensures .1 ∙ ap (λ (n : ℕ). answered n (fileOf (plain (a .next .map))) (a .buffer .now)) e,
+      c .if-refused .ensures ∙ rw (put .put-whole .ensures .0) (twice n (a .used .now) 0 size) ∙ ap (λ (n : ℕ). ifRefused n (a .used .now) size) e,
+    )
+
+pub replace-spec : {M : Type 1} → statement M
+replace-spec =
+    tie.close
+    (tie.spec first-requires returns put-whole-requires if-refused-requires same-length returns-2)

@@ -1,0 +1,86 @@
+-- `pump_place` meets its contract: a refusal, or the entry's numbers put in front.
+use borrow.Author.Needs.{needs}
+use native.Mathlib.Omega.{arith}
+use mathlib.Core.Path.{_≡_, sym, _∙_}
+use Rattle.maps.specs.Calls.{tablePlace}
+use Rattle.files.specs.Calls.{readFile}
+use lib.Seq.{length-take-le}
+use Rattle.files.proofs.Putting.{words-fit}
+use Rattle.pump.specs.Border.{placeNumber, placeAfter}
+use Rattle.pump.proofs.Refusals.{stays, gives, enough}
+use Rattle.pump.proofs.Asking.{its-place}
+use Rattle.pump.proofs.questions.pump_place.Statement.{statement}
+use Rattle.pump.proofs.questions.pump_place.Tie as tie
+
+read-with-table-requires : tie.Need-read-with-table-requires
+read-with-table-requires c κs = search needs
+
+place-in-requires : tie.Need-place-in-requires
+place-in-requires c κs = search needs
+
+short-requires : tie.Need-short-requires
+short-requires c κs = search needs
+
+first-requires : tie.Need-first-requires
+first-requires c κs = search needs
+
+-- the entry is the one of the map that is read
+entry : (c : tie.After-place-in) → let a = c .before .before .before .before .before .args in
+    c .place-in .result ≡ tablePlace (readFile (a .file .now) .map) (a .place)
+entry c = its-place _ (c .before .before .read-with-table .ensures) _ (c .place-in .ensures)
+
+number : (c : tie.After-first) → let a = c .before .before .before .before .before .before .before .args in
+    c .first .result ≡ placeNumber (a .file .now) (a .place) (a .out .now)
+unfolding placeNumber
+number c =
+    let asked = c .before .before in
+    c .first .ensures ∙ rw (entry asked, c .before .short .ensures, asked .before .before .read-with-table .ensures)
+
+returns : tie.Need-returns
+unfolding placeAfter
+returns c = let e = number (c .before) in (e, stays _ _ e (c .if1 .taken))
+
+words-of-requires : tie.Need-words-of-requires
+words-of-requires c κs = search needs
+
+array-share-prefix-words : tie.Need-array-share-prefix-words
+array-share-prefix-words c = search needs
+
+slice-aggregate-put-words : tie.Need-slice-aggregate-put-words
+slice-aggregate-put-words c = let w = c .before .before .words-of in sym (length-take-le 7 (w .result) (rw (w .ensures) (omega arith)))
+
+put-words-requires : tie.Need-put-words-requires
+put-words-requires c κs = search needs
+
+same-length : tie.Need-same-length
+same-length c = search needs
+
+returns-2 : tie.Need-returns-2
+unfolding placeAfter
+returns-2 c =
+    let put = c .before .before in
+    let words = put .before .before .before in
+    let yes = words .before .before in
+    let told = yes .before in
+    let asked = told .before .before in
+    let known = asked .before .before in
+    let a = known .before .before .before .args in
+    let room = enough (known .read-with-table .result .number) (asked .place-in .result .number) _ _ 14 (told .before .short .ensures) (sym (told .first .ensures) ∙ yes .if1 .left) in
+    let e = number told in
+    (e, rw (words .words-of .ensures, entry asked) at (put .put-words .ensures) ∙ words-fit _ _ _ room ∙ gives _ _ e (yes .if1 .left))
+
+pub pump-place-spec : {M : Type 1} → statement M
+pump-place-spec =
+    tie.close
+    (tie.spec
+    read-with-table-requires
+    place-in-requires
+    short-requires
+    first-requires
+    returns
+    words-of-requires
+    array-share-prefix-words
+    slice-aggregate-put-words
+    put-words-requires
+    same-length
+    returns-2)

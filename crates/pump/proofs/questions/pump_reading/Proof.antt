@@ -1,0 +1,40 @@
+-- `pump_reading` meets its contract: the map's reading, 0 after a refusal.
+use borrow.Author.Needs.{needs}
+use mathlib.Core.Path.{_≡_, _∙_}
+use Rattle.pump.specs.Border.{readingNumber, readingLitres}
+use Rattle.pump.proofs.Asking.{its-reading}
+use Rattle.pump.proofs.questions.pump_reading.Statement.{statement}
+use Rattle.pump.proofs.questions.pump_reading.Tie as tie
+
+read-with-table-requires : tie.Need-read-with-table-requires
+read-with-table-requires c κs = search needs
+
+reading-in-requires : tie.Need-reading-in-requires
+reading-in-requires c κs = search needs
+
+first-requires : tie.Need-first-requires
+first-requires c κs = search needs
+
+if-refused-requires : tie.Need-if-refused-requires
+if-refused-requires c κs = search needs
+
+returns : tie.Need-returns
+unfolding readingNumber readingLitres
+returns c =
+    let number = c .before in
+    let asked = number .before in
+    let known = asked .before .before in
+    let a = known .before .before .args in
+    let is = its-reading _ (known .read-with-table .ensures) (a .u) (a .v) (asked .reading-in .ensures) in
+    let e : number .first .result ≡ readingNumber (a .file .now) (a .u) (a .v) = number .first .ensures ∙ rw (is, known .read-with-table .ensures) in
+    (e, c .if-refused .ensures ∙ rw (e, is))
+
+pub pump-reading-spec : {M : Type 1} → statement M
+pump-reading-spec =
+    tie.close
+    (tie.spec
+    read-with-table-requires
+    reading-in-requires
+    first-requires
+    if-refused-requires
+    returns)

@@ -1,0 +1,133 @@
+// Calls that make a new map, whose file then stands in the lent buffer.
+use crate::numbers::first;
+use crate::numbers::if_refused;
+use files::put_whole;
+use files::read_with_table;
+use maps::Map;
+use maps::WithTable;
+use maps::record::open;
+use mesh::Split;
+ghost use mathlib.Core.Path.{_≡_};
+ghost use mathlib.Core.Bool.{true};
+ghost use Rattle.maps.specs.Record.{good, opened};
+ghost use Rattle.maps.specs.Calls.{changed, withTable, setValue, exactSplit, lengthenedSplit};
+ghost use Rattle.files.specs.Calls.{readFile};
+ghost use Rattle.pump.specs.Border.{newNumber, newBytes, newUsed, freshNumber, freshBytes, freshUsed, lent, changeNumber, changeBytes, changeUsed, split};
+
+// The map whose file the first `used` bytes are, with its table. Where they are none, or fewer are lent, the number is 11, and a call
+// that goes on with the fresh 1 by 1 map is refused with it.
+fn read_lent(bytes: &[u8], used: usize) -> WithTable
+    ensures { λ r. ⌜ r ≡ withTable (readFile (lent (now (bytes .entry)) used)) ⌝ }
+{
+    if bytes.len() < used {
+        return read_with_table(&bytes[..0]);
+    }
+    read_with_table(&bytes[..used])
+}
+
+// Ends a call: what was refused before, the call's own refusal, or the new file in the buffer; refused with 12.
+fn replace(buffer: &mut [u8], used: &mut usize, refused: usize, next: WithTable) -> usize
+    requires { ⌜ (good (next .map) ≡ true) × (next .table ≡ opened (next .map) .table) ⌝ }
+    ensures { λ r. ⌜ (r ≡ newNumber refused (changed (next .number) (next .map)) (now (buffer .entry))) ×
+        (now (buffer .exit) ≡ newBytes refused (changed (next .number) (next .map)) (now (buffer .entry))) ×
+        (now (used .exit) ≡ newUsed refused (changed (next .number) (next .map)) (now (buffer .entry)) (now (used .entry))) ⌝ }
+{
+    let number = first(refused, next.number, 0);
+    if number != 0 {
+        return number;
+    }
+    let map = next.map;
+    let table = next.table;
+    let file = put_whole(buffer, map, table);
+    *used = if_refused(file.number, *used, file.length);
+    file.number
+}
+
+#[no_mangle]
+pub extern "C" fn pump_fresh(w: usize, h: usize, buffer: &mut [u8], used: &mut usize) -> usize
+    ensures { λ r. ⌜ (r ≡ freshNumber w h (now (buffer .entry))) × (now (buffer .exit) ≡ freshBytes w h (now (buffer .entry))) ×
+        (now (used .exit) ≡ freshUsed w h (now (buffer .entry))) ⌝ }
+{
+    let made = Map::fresh(w, h);
+    let map = made.map;
+    let opened = open(map);
+    let table = opened.table;
+    let next = WithTable {
+        number: made.number,
+        map: map,
+        table: table,
+    };
+    *used = 0;
+    replace(buffer, used, 0, next)
+}
+
+#[no_mangle]
+pub extern "C" fn pump_set(
+    buffer: &mut [u8],
+    used: &mut usize,
+    m: usize,
+    n: usize,
+    value: u16,
+) -> usize
+    ensures { λ r. ⌜ (r ≡ changeNumber (λ map. setValue map m n value) (now (buffer .entry)) (now (used .entry))) ×
+        (now (buffer .exit) ≡ changeBytes (λ map. setValue map m n value) (now (buffer .entry)) (now (used .entry))) ×
+        (now (used .exit) ≡ changeUsed (λ map. setValue map m n value) (now (buffer .entry)) (now (used .entry))) ⌝ }
+{
+    let length = *used;
+    let old = read_lent(buffer, length);
+    let map = old.map;
+    let next = map.set_in(old.table, m, n, value);
+    replace(buffer, used, old.number, next)
+}
+
+#[no_mangle]
+pub extern "C" fn pump_exact_split(
+    buffer: &mut [u8],
+    used: &mut usize,
+    direction: usize,
+    position: usize,
+    from: usize,
+    to: usize,
+) -> usize
+    ensures { λ r. ⌜ (r ≡ changeNumber (λ map. exactSplit map (split direction position from to)) (now (buffer .entry)) (now (used .entry))) ×
+        (now (buffer .exit) ≡ changeBytes (λ map. exactSplit map (split direction position from to)) (now (buffer .entry)) (now (used .entry))) ×
+        (now (used .exit) ≡ changeUsed (λ map. exactSplit map (split direction position from to)) (now (buffer .entry)) (now (used .entry))) ⌝ }
+{
+    let length = *used;
+    let old = read_lent(buffer, length);
+    let map = old.map;
+    let s = Split {
+        direction: direction,
+        position: position,
+        from: from,
+        to: to,
+    };
+    let next = map.exact_with_table(s);
+    replace(buffer, used, old.number, next)
+}
+
+#[no_mangle]
+pub extern "C" fn pump_lengthened_split(
+    buffer: &mut [u8],
+    used: &mut usize,
+    direction: usize,
+    position: usize,
+    from: usize,
+    to: usize,
+) -> usize
+    ensures { λ r. ⌜ (r ≡ changeNumber (λ map. lengthenedSplit map (split direction position from to)) (now (buffer .entry)) (now (used .entry))) ×
+        (now (buffer .exit) ≡ changeBytes (λ map. lengthenedSplit map (split direction position from to)) (now (buffer .entry)) (now (used .entry))) ×
+        (now (used .exit) ≡ changeUsed (λ map. lengthenedSplit map (split direction position from to)) (now (buffer .entry)) (now (used .entry))) ⌝ }
+{
+    let length = *used;
+    let old = read_lent(buffer, length);
+    let map = old.map;
+    let s = Split {
+        direction: direction,
+        position: position,
+        from: from,
+        to: to,
+    };
+    let next = map.lengthened_with_table(s);
+    replace(buffer, used, old.number, next)
+}

@@ -1,0 +1,150 @@
+// Questions to the map of a file, and to the bytes themselves.
+use crate::numbers::first;
+use crate::numbers::if_refused;
+use crate::numbers::short;
+use crate::numbers::words_of;
+use files::bytes::payload;
+use files::bytes::put_words;
+use files::listing::put_map;
+use files::read;
+use files::read_with_table;
+use maps::Weight;
+ghost use mathlib.Core.Path.{_≡_};
+ghost use mathlib.Core.Bool.{cond};
+ghost use Prim.Native.Nat.{_≤_};
+ghost use lib.ListN.{length};
+ghost use Rattle.axis.specs.Range.{joined};
+ghost use Rattle.files.specs.File.{put};
+ghost use Rattle.files.specs.Calls.{payloadNumber};
+ghost use Rattle.pump.specs.Border.{placeNumber, placeAfter, weightBytes, weightsNumber, weightsAfter, readingNumber, readingLitres, sameNumber, sameYes, checkNumber, payloadFrom, payloadCount, tableNumber, tableAfter, tableCount};
+
+#[no_mangle]
+pub extern "C" fn pump_place(file: &[u8], place: usize, out: &mut [u8]) -> usize
+    ensures { λ r. ⌜ (r ≡ placeNumber (now (file .entry)) place (now (out .entry))) ×
+        (now (out .exit) ≡ placeAfter (now (file .entry)) place (now (out .entry))) ⌝ }
+{
+    let known = read_with_table(file);
+    let map = known.map;
+    let entry = map.place_in(known.table, place);
+    let number = first(known.number, entry.number, short(out.len(), 14));
+    if number != 0 {
+        return number;
+    }
+    let shape = entry.blend;
+    let words = words_of(shape, entry.value, 0);
+    put_words(out, 0, &words[..7]);
+    number
+}
+
+#[no_mangle]
+pub extern "C" fn pump_reading(file: &[u8], u: usize, v: usize, litres: &mut usize) -> usize
+    ensures { λ r. ⌜ (r ≡ readingNumber (now (file .entry)) u v) × (now (litres .exit) ≡ readingLitres (now (file .entry)) u v) ⌝ }
+{
+    let known = read_with_table(file);
+    let map = known.map;
+    let answer = map.reading_in(known.table, u, v);
+    let number = first(known.number, answer.number, 0);
+    *litres = if_refused(number, 0, answer.litres);
+    number
+}
+
+// Puts the four entries of the weights in a row.
+fn put_weights(out: &mut [u8], entries: [Weight; 4])
+    requires { ⌜ 64 ≤ length (now out) ⌝ }
+    ensures { λ _. ⌜ now (out .exit) ≡ put (now (out .entry)) 0 (joined weightBytes entries) ⌝ }
+{
+    let mut i = 0;
+    while i < 4 {
+        let entry = entries[i];
+        let shape = entry.blend;
+        let words = words_of(shape, entry.numerator, entry.denominator);
+        put_words(out, 16 * i, &words);
+        i += 1;
+    }
+}
+
+#[no_mangle]
+pub extern "C" fn pump_weights(file: &[u8], u: usize, v: usize, out: &mut [u8]) -> usize
+    ensures { λ r. ⌜ (r ≡ weightsNumber (now (file .entry)) u v (now (out .entry))) ×
+        (now (out .exit) ≡ weightsAfter (now (file .entry)) u v (now (out .entry))) ⌝ }
+{
+    let known = read_with_table(file);
+    let map = known.map;
+    let four = map.weights_in(known.table, u, v);
+    let number = first(known.number, four.number, short(out.len(), 64));
+    if number != 0 {
+        return number;
+    }
+    let entries = four.entries;
+    put_weights(out, entries);
+    number
+}
+
+fn one_or_none(yes: bool) -> usize
+    ensures { λ r. ⌜ r ≡ cond yes 1 0 ⌝ }
+{
+    if yes {
+        return 1;
+    }
+    0
+}
+
+#[no_mangle]
+pub extern "C" fn pump_same<'a>(one: &'a [u8], two: &'a [u8], yes: &mut usize) -> usize
+    ensures { λ r. ⌜ (r ≡ sameNumber (now (one .entry)) (now (two .entry))) × (now (yes .exit) ≡ sameYes (now (one .entry)) (now (two .entry))) ⌝ }
+{
+    let left = read_with_table(one);
+    let right = read_with_table(two);
+    let map = left.map;
+    let other = right.map;
+    let answer = map.same_in(left.table, other, right.table);
+    let number = first(left.number, right.number, answer.number);
+    *yes = if_refused(number, 0, one_or_none(answer.yes));
+    number
+}
+
+#[no_mangle]
+pub extern "C" fn pump_check(file: &[u8]) -> usize
+    ensures { λ r. ⌜ r ≡ checkNumber (now (file .entry)) ⌝ }
+{
+    let known = read(file);
+    known.number
+}
+
+#[no_mangle]
+pub extern "C" fn pump_payload(
+    bytes: &[u8],
+    place: usize,
+    from: &mut usize,
+    count: &mut usize,
+) -> usize
+    ensures { λ r. ⌜ (r ≡ payloadNumber (now (bytes .entry)) place) × (now (from .exit) ≡ payloadFrom (now (bytes .entry)) place) ×
+        (now (count .exit) ≡ payloadCount (now (bytes .entry)) place) ⌝ }
+{
+    let mut number = 0;
+    let part = payload(bytes, place, &mut number);
+    *count = part.len();
+    if number != 0 {
+        *from = 0;
+        return number;
+    }
+    *from = place + 4;
+    0
+}
+
+#[no_mangle]
+pub extern "C" fn pump_table(file: &[u8], out: &mut [u8], count: &mut usize) -> usize
+    ensures { λ r. ⌜ (r ≡ tableNumber (now (file .entry)) (now (out .entry))) × (now (out .exit) ≡ tableAfter (now (file .entry)) (now (out .entry))) ×
+        (now (count .exit) ≡ tableCount (now (file .entry)) (now (out .entry))) ⌝ }
+{
+    let known = read_with_table(file);
+    if known.number != 0 {
+        *count = 0;
+        return known.number;
+    }
+    let map = known.map;
+    let table = known.table;
+    let text = put_map(out, map, table);
+    *count = text.length;
+    text.number
+}
