@@ -22,6 +22,7 @@ use Rattle.files.specs.Calls.{readFile}
 use Rattle.files.specs.FromFile.{readPlain, setting, fileCalls, AllAccepted, FromFile, AnyCall, onMap, writes, payloads, AmongFiles}
 use Rattle.files.proofs.RoundTrip.{accepted-file}
 use Rattle.files.proofs.ReadMaps.{told-held, guessed-holds}
+use Rattle.mesh.specs.Lines.{layout}
 
 -- The numbers of a file are numbers of 16 bits.
 module _ (bytes : List ℕ) (small : (b : ℕ) → List·Memᴰ b bytes → b < 256) where
@@ -77,23 +78,23 @@ module _ (P : Plain) (valued : Valued P) where
 -- So a map's own calls, its splits and then its values, lead from the fresh map to it.
 module _ (P : Plain) (at : Reached P) where
   abbrev fresh : Plain
-  fresh = freshPlain (P .w) (P .h)
+  fresh = freshPlain (P .lines .w) (P .lines .h)
 
   from-fresh : Reached fresh
-  from-fresh = fresh-reached (P .w) (P .h) (at .holds .lines .across) (at .holds .lines .up)
+  from-fresh = fresh-reached (P .lines .w) (P .lines .h) (at .holds .taken .across) (at .holds .taken .up)
 
   pub calls-lead : AcceptedTo fresh (fileCalls P) P
   unfolding freshPlain
   calls-lead =
-      let drawn = splits-drawn (P .splits) fresh [] (at .holds .lines .replays) in
+      let drawn = splits-drawn (P .lines .splits) fresh (at .holds .taken .all-taken) in
       let Q = drawn .0 in
-      let ends = accepted-ends (map exact (P .splits)) fresh Q (drawn .1) in
-      let leads : Leads fresh (P .splits) Q = rw (ends, drawn .2) at (ending-leads (map exact (P .splits)) fresh from-fresh) in
-      let same : withValues P (Q .values) ≡ Q = λ i. record { w = sym (leads .wide) i; h = sym (leads .tall) i; splits = sym (leads .more) i; values = Q .values } in
+      let ends = accepted-ends (map exact (P .lines .splits)) fresh Q (drawn .1) in
+      let leads : Leads fresh (P .lines .splits) Q = rw (ends, drawn .2) at (ending-leads (map exact (P .lines .splits)) fresh from-fresh) in
+      let same : withValues P (Q .values) ≡ Q = λ i. record { lines = layout (sym (leads .wide) i) (sym (leads .tall) i) (sym (leads .more) i); values = Q .values } in
       let counted : length (Q .values) ≡ length (blends P) =
       leads .reached .valued .counted ∙ ap (λ (R : Plain). length (blends R)) (sym same) in
       let set = values-set P (at .valued) (blends P) [] [] (Q .values) (P .values) refl refl counted (at .valued .counted) (at .valued .small) in
-      accepted-join (map exact (P .splits)) (map setting (paired (blends P) (P .values))) fresh Q P (drawn .1)
+      accepted-join (map exact (P .lines .splits)) (map setting (paired (blends P) (P .values))) fresh Q P (drawn .1)
       (subst (λ (R : Plain). AcceptedTo R (map setting (paired (blends P) (P .values))) P) same set)
 
   pub calls-end : ending byMachine fresh (fileCalls P) ≡ P
@@ -110,15 +111,15 @@ pub from-file : (bytes : List ℕ) → readFile bytes .number ≡ 0 → ((b : �
 from-file bytes e small =
     let P = readPlain bytes in
     let at = read-reached bytes small e in
-    let start = recordOf (freshPlain (P .w) (P .h)) in
-    let left : leftBy (freshPlain (P .w) (P .h)) (fileCalls P) ≡ readFile bytes .map = calls-left P at ∙ read-record bytes small e in
+    let start = recordOf (freshPlain (P .lines .w) (P .lines .h)) in
+    let left : leftBy (freshPlain (P .lines .w) (P .lines .h)) (fileCalls P) ≡ readFile bytes .map = calls-left P at ∙ read-record bytes small e in
     record {
       all-accepted = calls-accepted P at;
       left = left;
       outcomes-after = λ cs. outcomes-join byLibrary start (fileCalls P) cs ∙
           ap (λ (m : Map). outcomes byLibrary start (fileCalls P) ++ outcomes byLibrary m cs) left;
       left-after = λ cs. ending-join byLibrary start (fileCalls P) cs ∙ ap (λ (m : Map). ending byLibrary m cs) left;
-      whole = λ cs. demand-three (P .w) (P .h) (at .holds .lines .across) (at .holds .lines .up) (fileCalls P ++ cs);
+      whole = λ cs. demand-three (P .lines .w) (P .lines .h) (at .holds .taken .across) (at .holds .taken .up) (fileCalls P ++ cs);
       own = read-demand bytes e small;
     }
 

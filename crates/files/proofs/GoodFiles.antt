@@ -14,13 +14,14 @@ use Rattle.axis.proofs.Tests.{either, and-both, all-at}
 use Rattle.mesh.proofs.Drawing.{in-range-says}
 use Rattle.maps.specs.declared.Map.{Map}
 use Rattle.maps.specs.Plain.{Plain, blends}
-use Rattle.maps.specs.Record.{bare, recordOf, plain, good}
+use Rattle.maps.specs.Record.{recordOf, plain, good}
 use Rattle.maps.specs.Calls.{changed}
 use Rattle.maps.proofs.Good.{Replays, replays-stands, good-facts}
 use Rattle.files.specs.File.{fileOf, guessed}
 use Rattle.files.specs.Calls.{readFile}
 use Rattle.files.proofs.RoundTrip.{Small, Fits, accepted-file, all-values, written-reads}
 use Rattle.files.proofs.Reading.{good-replays, good-short}
+use Rattle.mesh.specs.Splits.{liveOf}
 
 most : (s : ℕ) → allowedSide s ≡ true → s ≤ 128
 most s e = leb-true s 128 (and-both (leb 1 s) (leb s 128) e .1)
@@ -52,15 +53,15 @@ module _ (w h : ℕ) (hw : w ≤ 128) (hh : h ≤ 128) (s : Split) (e : inRange 
       (either (eqb (s .direction) 0))
 
 module _ (P : Plain) (values : (v : ℕ) → List·Memᴰ v (P .values) → v < 65536) (full : length (P .values) ≡ length (blends P)) where
-  good-fits : Replays P → Fits P
+  good-fits : Replays (P .lines) → Fits P
   good-fits r =
-      let hw = most (P .w) (r .across) in
-      let hh = most (P .h) (r .up) in
+      let hw = most (P .lines .w) (r .across) in
+      let hh = most (P .lines .h) (r .up) in
       record {
         across = omega arith;
         up = omega arith;
         few = r .few;
-        splits = λ s m. small (P .w) (P .h) hw hh s (all-at (inRange (P .w) (P .h)) (P .splits) (replays-stands r .ranges) s m);
+        splits = λ s m. small (P .lines .w) (P .lines .h) hw hh s (all-at (inRange (P .lines .w) (P .lines .h)) (P .lines .splits) (replays-stands r .ranges) s m);
         values = values;
         full = full;
       }
@@ -69,15 +70,15 @@ module _ (P : Plain) (values : (v : ℕ) → List·Memᴰ v (P .values) → v < 
   reads-back g = written-reads P (good-fits (good-replays P g)) g
 
 -- A good record that is written reads back.
-pub map-reads-back : (m : Map) → length (m .splits) ≡ 60 → length (m .values) ≡ 1024 → ((v : ℕ) → List·Memᴰ v (m .values) → v < 65536) →
+pub map-reads-back : (m : Map) → length (m .lines .splits) ≡ 60 → length (m .values) ≡ 1024 → ((v : ℕ) → List·Memᴰ v (m .values) → v < 65536) →
     good m ≡ true → readFile (fileOf (plain m)) ≡ changed 0 m
 unfolding plain
 map-reads-back m places room values g =
     let f = good-facts m places room g in
-    let k = length (blends (bare m)) in
+    let k = length (liveOf (layoutOf (m .lines))) in
     let held : (v : ℕ) → List·Memᴰ v (plain m .values) → v < 65536 =
     λ v i. values v (rw (take-append-drop k (m .values)) at (Memᴰ·append-left (drop k (m .values)) i)) in
-    reads-back (plain m) held (f .counted) (ap good (f .is-record) ∙ g) ∙ ap (changed 0) (f .is-record)
+    reads-back (plain m) held (f .holds .counted) (ap good (f .is-record) ∙ g) ∙ ap (changed 0) (f .is-record)
 
 -- Bytes that are accepted are the file of the map that is read.
 pub accepted-is-written : (bytes : List ℕ) → readFile bytes .number ≡ 0 →

@@ -11,12 +11,13 @@ use borrow.Author.Tests.{eqb-true}
 use Rattle.axis.proofs.Tests.{either, true-not-false}
 use Rattle.maps.specs.declared.Map.{Map}
 use Rattle.maps.specs.declared.Changed.{Changed}
-use Rattle.maps.specs.declared.WithTable.{WithTable}
+use Rattle.maps.specs.declared.opened.Opened.{Opened}
 use Rattle.maps.specs.Plain.{Plain, freshPlain}
-use Rattle.maps.specs.Record.{noSplit, recordOf, plain, good, opened}
-use Rattle.maps.specs.Calls.{changed, withTable}
+use Rattle.maps.specs.Record.{linesOf, recordOf, plain, good}
+use Rattle.maps.specs.Opened.{withTable, Opens}
+use Rattle.maps.specs.Calls.{changed}
 use Rattle.maps.proofs.Good.{Holds, replays-short, record-good, fresh-holds}
-use Rattle.maps.proofs.Recording.{GoodMap, opened-map}
+use Rattle.maps.proofs.Changing.{GoodMap, opened-map}
 use Rattle.files.specs.File.{guessed}
 use Rattle.files.specs.Calls.{readFile}
 use Rattle.files.proofs.RoundTrip.{held-values, accepted-file, all-values, is-read, is-refused}
@@ -33,7 +34,7 @@ module _ (bytes : List ℕ) (e : readFile bytes .number ≡ 0) where
   pub guessed-holds : Holds (guessed bytes)
   guessed-holds =
       record {
-        lines = good-replays (guessed bytes) is-good;
+        taken = good-replays (guessed bytes) is-good;
         counted = rw told-held at (held-values (guessed bytes) (good-short (guessed bytes) is-good));
       }
 
@@ -51,27 +52,23 @@ read-holds bytes =
 
 -- a record's arrays have all their places
 module _ {P : Plain} (p : Holds P) where
-  all-places : length (recordOf P .splits) ≡ 60
-  unfolding recordOf
-  all-places = rw (length-append, length-replicate) (omega (arith, p .lines .few))
+  all-places : length (recordOf P .lines .splits) ≡ 60
+  unfolding recordOf linesOf
+  all-places = rw (length-append, length-replicate) (omega (arith, p .taken .few))
 
   all-room : length (recordOf P .values) ≡ 1024
   unfolding recordOf
-  all-room = rw (length-append, length-replicate) (omega (arith, p .counted, replays-short (p .lines)))
+  all-room = rw (length-append, length-replicate) (omega (arith, p .counted, replays-short (p .taken)))
 
--- so a table that comes with the map is that of a good record
-module _ (bytes : List ℕ) {file : WithTable} (is : file ≡ withTable (readFile bytes)) where
-  pub read-good : good (file .map) ≡ true
-  read-good = let h = read-holds bytes in rw (is, h .2) (record-good (h .1) .0)
-
-  pub read-table : file .table ≡ opened (file .map) .table
-  read-table = rw is
-
-  pub read-places : length (file .map .splits) ≡ 60
-  read-places = let h = read-holds bytes in rw (is, h .2) (all-places (h .1))
-
-  pub read-room : length (file .map .values) ≡ 1024
-  read-room = let h = read-holds bytes in rw (is, h .2) (all-room (h .1))
+-- so it is an opened map
+module _ (bytes : List ℕ) {file : Opened} (is : file ≡ withTable (readFile bytes)) where
+  pub read-opens : Opens file
+  read-opens = let h = read-holds bytes in rw is (record { is-good = rw (h .2) (record-good (h .1) .0); is-table = refl })
 
   pub read-map : GoodMap (file .map) (file .table)
-  read-map = opened-map (file .map) (file .table) read-places read-room read-good read-table
+  read-map =
+      let h = read-holds bytes in
+      opened-map read-opens (rw (is, h .2) (all-places (h .1))) (rw (is, h .2) (all-room (h .1)))
+
+  pub read-answer : changed (file .number) (file .map) ≡ readFile bytes
+  read-answer = ap (λ (o : Opened). changed (o .number) (o .map)) is

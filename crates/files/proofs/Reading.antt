@@ -15,23 +15,21 @@ use Rattle.maps.specs.declared.Map.{Map}
 use Rattle.maps.specs.Plain.{Plain, freshPlain, blends}
 use Rattle.maps.specs.Record.{recordOf, plain, good}
 use Rattle.maps.specs.Calls.{changed}
-use Rattle.maps.proofs.Replay.{good-passes}
-use Rattle.maps.proofs.Good.{Replays, replays-short}
+use Rattle.maps.proofs.Opening.{good-passes}
+use Rattle.maps.proofs.Good.{Replays, replays-short, layout-replay}
 use Rattle.files.specs.declared.Written.{Written}
 use Rattle.files.specs.File.{fileOf, splitCount, guessed}
 use Rattle.files.specs.Calls.{written, after, readFile}
 use Rattle.axis.specs.Range.{agree}
 use Rattle.axis.proofs.Entries.{agree-same}
 use Rattle.files.proofs.Taking.{count-few}
-use Rattle.files.proofs.RoundTrip.{held-lines, told, told-length, guessed-splits, same-bytes, is-read, is-refused}
+use Rattle.files.proofs.RoundTrip.{told, told-length, guessed-splits, same-bytes, is-read, is-refused}
 use Rattle.files.proofs.Filing.{write-bad, write-short, write-whole}
 
 -- a good record's lines, and how few blends they have
-pub good-replays : (P : Plain) → good (recordOf P) ≡ true → Replays P
+pub good-replays : (P : Plain) → good (recordOf P) ≡ true → Replays (P .lines)
 unfolding recordOf
-good-replays P g =
-    let p = good-passes (recordOf P) g in
-    record { across = p .across; up = p .up; few = p .few; replays = rw (held-lines P) at (p .replays) }
+good-replays P g = layout-replay (P .lines) (good-passes (recordOf P) g .accepted?)
 
 pub good-short : (P : Plain) → good (recordOf P) ≡ true → length (blends P) ≤ 1024
 good-short P g = replays-short (good-replays P g)

@@ -19,14 +19,16 @@ use Rattle.maps.specs.declared.Map.{Map}
 use Rattle.maps.specs.declared.Changed.{Changed}
 use Rattle.maps.specs.Plain.{Plain, freshPlain, blends}
 use Rattle.maps.specs.Values.{paired}
-use Rattle.maps.specs.Record.{noSplit, recordOf, plain, good}
+use Rattle.maps.specs.Record.{linesOf, noSplit, recordOf, plain, good}
 use Rattle.maps.specs.Calls.{changed}
+use Rattle.maps.proofs.Good.{plain-held}
 use Rattle.files.specs.File.{splitEntry, valueEntry, tail, fileOf, wordAt, splitCount, splitAt, guessed}
 use Rattle.files.specs.Calls.{readFile}
 use Rattle.files.proofs.Taking.{one-more, no-more}
 use Rattle.files.proofs.Words.{word-from, number-read, joined-length, past-entry, each-read}
 use Rattle.axis.proofs.Members.{each-length}
 use Rattle.axis.proofs.Entries.{agree-same, agree-self}
+use Rattle.mesh.specs.Lines.{layout}
 
 -- a split's numbers, and a map's, are numbers of 16 bits; its values are as many as its blends
 pub record Small (s : Split) : Type 0 where
@@ -36,10 +38,10 @@ pub record Small (s : Split) : Type 0 where
   pub to : s .to < 65536
 
 pub record Fits (P : Plain) : Type 0 where
-  pub across : P .w < 65536
-  pub up : P .h < 65536
-  pub few : length (P .splits) ≤ 60
-  pub splits : (s : Split) → List·Memᴰ s (P .splits) → Small s
+  pub across : P .lines .w < 65536
+  pub up : P .lines .h < 65536
+  pub few : length (P .lines .splits) ≤ 60
+  pub splits : (s : Split) → List·Memᴰ s (P .lines .splits) → Small s
   pub values : (v : ℕ) → List·Memᴰ v (P .values) → v < 65536
   pub full : length (P .values) ≡ length (blends P)
 
@@ -67,7 +69,7 @@ paired-mem (B ∷ bs) (v ∷ vs) t (List·Memᴰ.List·Memᴰ·head e) = List·M
 paired-mem (B ∷ bs) (v ∷ vs) t (List·Memᴰ.List·Memᴰ·tail m) = List·Memᴰ.List·Memᴰ·tail (paired-mem bs vs t m)
 
 -- "With s splits and k blends it has 12 + 12 × s + 10 × k bytes."
-pub file-length : (P : Plain) → length (P .values) ≡ length (blends P) → length (fileOf P) ≡ 12 + 12 * length (P .splits) + 10 * length (blends P)
+pub file-length : (P : Plain) → length (P .values) ≡ length (blends P) → length (fileOf P) ≡ 12 + 12 * length (P .lines .splits) + 10 * length (blends P)
 unfolding fileOf
 file-length P full =
     simp (length-append, joined-length splitEntry 12 split-long, joined-length valueEntry 10 value-long, paired-length (blends P) (P .values) full)
@@ -122,37 +124,37 @@ module _ (P : Plain) (ok : Fits P) where
   abbrev values-and-end : List ℕ
   values-and-end = joined valueEntry terms ++ tail
 
-  from-splits : drop 8 (fileOf P) ≡ joined splitEntry (P .splits) ++ values-and-end
+  from-splits : drop 8 (fileOf P) ≡ joined splitEntry (P .lines .splits) ++ values-and-end
   unfolding fileOf
-  from-splits = append-assoc (joined splitEntry (P .splits)) (joined valueEntry terms) tail
+  from-splits = append-assoc (joined splitEntry (P .lines .splits)) (joined valueEntry terms) tail
 
-  from-values : drop (8 + 12 * length (P .splits)) (fileOf P) ≡ values-and-end
+  from-values : drop (8 + 12 * length (P .lines .splits)) (fileOf P) ≡ values-and-end
   from-values =
-      rw (← drop-drop (12 * length (P .splits)) 8 (fileOf P), from-splits)
-      (drop-at (joined splitEntry (P .splits)) values-and-end _ (joined-length splitEntry 12 split-long (P .splits)))
+      rw (← drop-drop (12 * length (P .lines .splits)) 8 (fileOf P), from-splits)
+      (drop-at (joined splitEntry (P .lines .splits)) values-and-end _ (joined-length splitEntry 12 split-long (P .lines .splits)))
 
-  counted : splitCount (fileOf P) 8 60 ≡ length (P .splits)
-  counted = count-read 60 (fileOf P) 8 (P .splits) values-and-end (ok .few) from-splits (after-splits terms)
+  counted : splitCount (fileOf P) 8 60 ≡ length (P .lines .splits)
+  counted = count-read 60 (fileOf P) 8 (P .lines .splits) values-and-end (ok .few) from-splits (after-splits terms)
 
-  splits-read : each 0 (length (P .splits)) (λ i. splitAt (fileOf P) (8 + 12 * i) ∷ []) ≡ P .splits
+  splits-read : each 0 (length (P .lines .splits)) (λ i. splitAt (fileOf P) (8 + 12 * i) ∷ []) ≡ P .lines .splits
   splits-read =
-      each-read splitEntry 12 split-long (fileOf P) 8 (λ i. splitAt (fileOf P) (8 + 12 * i)) (λ s. s) (P .splits) values-and-end 0 from-splits
-      (λ s m i more e. split-read (fileOf P) (8 + 12 * i) more s (ok .splits s m) e) ∙ map-id (P .splits)
+      each-read splitEntry 12 split-long (fileOf P) 8 (λ i. splitAt (fileOf P) (8 + 12 * i)) (λ s. s) (P .lines .splits) values-and-end 0 from-splits
+      (λ s m i more e. split-read (fileOf P) (8 + 12 * i) more s (ok .splits s m) e) ∙ map-id (P .lines .splits)
 
   -- where the values begin
   abbrev base : ℕ
-  base = 8 + 12 * length (P .splits)
+  base = 8 + 12 * length (P .lines .splits)
 
-  values-read : each 0 (length (P .values)) (λ i. wordAt (fileOf P) (16 + 12 * length (P .splits) + 10 * i) ∷ []) ≡ P .values
+  values-read : each 0 (length (P .values)) (λ i. wordAt (fileOf P) (16 + 12 * length (P .lines .splits) + 10 * i) ∷ []) ≡ P .values
   values-read =
       rw (ok .full, ← paired-length (blends P) (P .values) (ok .full))
-      (each-read valueEntry 10 value-long (fileOf P) base (λ i. wordAt (fileOf P) (16 + 12 * length (P .splits) + 10 * i)) (λ t. t .multiple) terms tail 0
+      (each-read valueEntry 10 value-long (fileOf P) base (λ i. wordAt (fileOf P) (16 + 12 * length (P .lines .splits) + 10 * i)) (λ t. t .multiple) terms tail 0
       (rw add-zero from-values)
-      (λ t m i more e. let place : 16 + 12 * length (P .splits) + 10 * i ≡ base + 10 * i + 8 = omega arith in
+      (λ t m i more e. let place : 16 + 12 * length (P .lines .splits) + 10 * i ≡ base + 10 * i + 8 = omega arith in
       rw place (value-read (fileOf P) (base + 10 * i) more t (ok .values (t .multiple) (paired-mem (blends P) (P .values) t m)) e)) ∙
       paired-values (blends P) (P .values) (ok .full))
 
-  values-counted : (length (fileOf P) - 12 - 12 * length (P .splits)) / 10 ≡ length (P .values)
+  values-counted : (length (fileOf P) - 12 - 12 * length (P .lines .splits)) / 10 ≡ length (P .values)
   values-counted = omega (arith, file-length P (ok .full), ok .full)
 
   pub guessed-file : guessed (fileOf P) ≡ P
@@ -160,22 +162,13 @@ module _ (P : Plain) (ok : Fits P) where
   guessed-file =
       let number = number-read (fileOf P) 0 (fileOf P) refl in
       rw (counted, values-counted, splits-read, values-read)
-      (λ i. record { w = number 4 (P .w) refl (ok .across) i; h = number 6 (P .h) refl (ok .up) i; splits = P .splits; values = P .values })
+      (λ i. record { lines = layout (number 4 (P .lines .w) refl (ok .across) i) (number 6 (P .lines .h) refl (ok .up) i) (P .lines .splits); values = P .values })
 
--- the record of a map holds the map's lines, and its values where they are as many as its blends
-module _ (P : Plain) where
-  pub held-lines : take (length (P .splits)) (P .splits ++ replicate (60 - length (P .splits)) noSplit) ≡ P .splits
-  held-lines = take-append-seam (P .splits) _
-
-  pub held-values : length (blends P) ≤ 1024 → length (plain (recordOf P) .values) ≡ length (blends (plain (recordOf P)))
-  unfolding recordOf plain
-  held-values few =
-      rw held-lines
-      (length-take-le _ _ (rw (length-append, length-replicate) (omega arith)))
-
-  pub is-held : length (P .values) ≡ length (blends P) → plain (recordOf P) ≡ P
-  unfolding recordOf plain
-  is-held full = rw (held-lines, ← full, take-append-seam)
+-- the record of a map has as many values as blends, where they are not more than it has places
+pub held-values : (P : Plain) → length (blends P) ≤ 1024 → length (plain (recordOf P) .values) ≡ length (blends (plain (recordOf P)))
+unfolding recordOf linesOf plain
+held-values P few =
+    rw (take-append-seam (P .lines .splits)) (length-take-le _ _ (rw (length-append, length-replicate) (omega arith)))
 
 pub same-bytes : {xs ys : List ℕ} → xs ≡ ys → agree eqb xs ys ≡ true
 same-bytes {xs} e = rw (← e) (agree-self eqb (λ x. eq-eqb x x refl) xs)
@@ -186,11 +179,11 @@ module _ (bytes : List ℕ) where
   told = recordOf (guessed bytes)
 
   -- how many splits and values it has
-  pub guessed-splits : length (guessed bytes .splits) ≡ splitCount bytes 8 60
+  pub guessed-splits : length (guessed bytes .lines .splits) ≡ splitCount bytes 8 60
   unfolding guessed
   guessed-splits = each-length 0 (splitCount bytes 8 60) _
 
-  pub guessed-values : length (guessed bytes .values) ≡ (length bytes - 12 - 12 * length (guessed bytes .splits)) / 10
+  pub guessed-values : length (guessed bytes .values) ≡ (length bytes - 12 - 12 * length (guessed bytes .lines .splits)) / 10
   unfolding guessed
   guessed-values = rw guessed-splits (each-length 0 ((length bytes - 12 - 12 * splitCount bytes 8 60) / 10) _)
 
@@ -218,14 +211,14 @@ module _ (bytes : List ℕ) where
 
   -- It has a value for each blend, so the map that is read is the one whose file it is.
   module _ (few : length (blends (guessed bytes)) ≤ 1024) (e : bytes ≡ fileOf (plain told)) where
-    pub told-length : length bytes ≡ 12 + 12 * length (guessed bytes .splits) + 10 * length (blends (guessed bytes))
-    unfolding recordOf plain
-    told-length = ap length e ∙ file-length (plain told) (held-values (guessed bytes) few) ∙ rw (held-lines (guessed bytes))
+    pub told-length : length bytes ≡ 12 + 12 * length (guessed bytes .lines .splits) + 10 * length (blends (guessed bytes))
+    unfolding recordOf linesOf plain
+    told-length = ap length e ∙ file-length (plain told) (held-values (guessed bytes) few) ∙ rw (take-append-seam (guessed bytes .lines .splits))
 
     pub all-values : plain told ≡ guessed bytes
-    all-values = is-held (guessed bytes) (omega (arith, guessed-values, told-length))
+    all-values = plain-held (guessed bytes) (omega (arith, guessed-values, told-length))
 
 -- So a written map reads back.
 pub written-reads : (P : Plain) → Fits P → good (recordOf P) ≡ true → readFile (fileOf P) ≡ changed 0 (recordOf P)
 unfolding readFile
-written-reads P ok g = rw (guessed-file P ok, is-held P (ok .full)) (cond-true _ _ _ (and-of _ _ g (same-bytes {xs = fileOf P} refl)))
+written-reads P ok g = rw (guessed-file P ok, plain-held P (ok .full)) (cond-true _ _ _ (and-of _ _ g (same-bytes {xs = fileOf P} refl)))

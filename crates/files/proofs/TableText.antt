@@ -14,21 +14,19 @@ use Rattle.mesh.specs.declared.Table.{Table}
 use Rattle.axis.proofs.Tests.{either, and-both, false-of}
 use Rattle.maps.specs.declared.Map.{Map}
 use Rattle.maps.specs.declared.Changed.{Changed}
-use Rattle.maps.specs.Record.{recordOf, plain, good}
-use Rattle.maps.specs.Opened.{opened}
+use Rattle.maps.specs.Record.{plain}
 use Rattle.maps.proofs.InHand.{table-blends, table-count}
+use Rattle.maps.proofs.Changing.{GoodMap, live-table}
 use Rattle.files.specs.declared.Written.{Written}
 use Rattle.files.specs.File.{fileOf, put}
 use Rattle.files.specs.Calls.{readFile}
 use Rattle.files.specs.Inner.{Puts, terms}
 use Rattle.files.specs.Listing.{ended, line, tableText, refusal, listing, textWritten, textAfter}
-use Rattle.files.proofs.Filing.{its-table}
 
--- a good map's table, in hand, has the map's text
-pub hand-text : (m : Map) (t : Table) → good m ≡ true → t ≡ opened m .table →
-    ended (t .count) ++ joined line (terms t (m .values)) ≡ tableText (plain m)
+-- an opened map's table has the map's text
+pub opened-text : {m : Map} {t : Table} → GoodMap m t → ended (t .count) ++ joined line (terms t (m .values)) ≡ tableText (plain m)
 unfolding plain
-hand-text m t g its = rw (its-table m t g its, table-blends, table-count)
+opened-text g = rw (live-table g, table-blends, table-count)
 
 -- what putting a text answers and leaves
 module _ (text out : List ℕ) where

@@ -53,24 +53,24 @@ module _ (t : Table) (values : List ℕ) (ok : Listed t) (places : length (t .bl
 
 -- A file, put part by part: its head, the splits, the values and the end.
 module _ (m : Map) (t : Table) (ok : Listed t) (places : length (t .blends) ≡ 1024) (full : length (m .values) ≡ 1024)
-    (used : length (take (m .count) (m .splits)) ≡ m .count) where
+    (used : length (take (m .lines .count) (m .lines .splits)) ≡ m .lines .count) where
   abbrev splits : List ℕ
-  splits = joined splitEntry (take (m .count) (m .splits))
+  splits = joined splitEntry (take (m .lines .count) (m .lines .splits))
 
   abbrev values : List ℕ
   values = joined valueEntry (terms t (m .values))
 
-  splits-long : length splits ≡ 12 * m .count
-  splits-long = joined-length splitEntry 12 split-long (take (m .count) (m .splits)) ∙ rw used
+  splits-long : length splits ≡ 12 * m .lines .count
+  splits-long = joined-length splitEntry 12 split-long (take (m .lines .count) (m .lines .splits)) ∙ rw used
 
   values-long : length values ≡ 10 * t .count
   values-long = joined-length valueEntry 10 value-long (terms t (m .values)) ∙ rw (terms-length t (m .values) ok places full)
 
-  pub filed-put : (before : List ℕ) → 12 + 12 * m .count + 10 * t .count ≤ length before →
-      {headed drawn valued after : List ℕ} → headed ≡ put before 0 (head (m .w) (m .h)) → drawn ≡ put headed 8 splits → valued ≡ put drawn (8 + 12 * m .count) values →
-      after ≡ put valued (8 + 12 * m .count + 10 * t .count) tail → after ≡ put before 0 (filed m t)
+  pub filed-put : (before : List ℕ) → 12 + 12 * m .lines .count + 10 * t .count ≤ length before →
+      {headed drawn valued after : List ℕ} → headed ≡ put before 0 (head (m .lines .w) (m .lines .h)) → drawn ≡ put headed 8 splits → valued ≡ put drawn (8 + 12 * m .lines .count) values →
+      after ≡ put valued (8 + 12 * m .lines .count + 10 * t .count) tail → after ≡ put before 0 (filed m t)
   filed-put before room q r s u =
-      let lined = put-then before 0 (head (m .w) (m .h)) splits 8 q r refl (omega arith) in
-      let most = put-then before 0 (head (m .w) (m .h) ++ splits) values (8 + 12 * m .count) lined s (rw (length-append, splits-long) (omega arith)) (omega arith) in
-      put-then before 0 (head (m .w) (m .h) ++ splits ++ values) tail (8 + 12 * m .count + 10 * t .count) most u
+      let lined = put-then before 0 (head (m .lines .w) (m .lines .h)) splits 8 q r refl (omega arith) in
+      let most = put-then before 0 (head (m .lines .w) (m .lines .h) ++ splits) values (8 + 12 * m .lines .count) lined s (rw (length-append, splits-long) (omega arith)) (omega arith) in
+      put-then before 0 (head (m .lines .w) (m .lines .h) ++ splits ++ values) tail (8 + 12 * m .lines .count + 10 * t .count) most u
       (simp (length-append, splits-long, values-long) (omega arith)) (omega arith)

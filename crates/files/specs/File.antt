@@ -6,6 +6,7 @@ use lib.Dec.{leb, eqb}
 use lib.ListN.{length, getD, take, drop}
 use Rattle.mesh.specs.declared.Split.{Split}
 use Rattle.axis.specs.Range.{joined, each}
+use Rattle.mesh.specs.Lines.{layout}
 use Rattle.mesh.specs.Weight.{Term}
 use Rattle.maps.specs.Plain.{Plain, blends}
 use Rattle.maps.specs.Values.{paired}
@@ -33,7 +34,7 @@ tail = entry 4 []
 
 -- "A file is one kind 1, the splits in order, one kind 3 for each table entry in order, one kind 4, and no more."
 unfoldable pub fileOf : Plain → List ℕ
-fileOf P = head (P .w) (P .h) ++ joined splitEntry (P .splits) ++ joined valueEntry (paired (blends P) (P .values)) ++ tail
+fileOf P = head (P .lines .w) (P .lines .h) ++ joined splitEntry (P .lines .splits) ++ joined valueEntry (paired (blends P) (P .values)) ++ tail
 
 -- bytes with others put over them, from a byte place on
 abbrev pub put : List ℕ → ℕ → List ℕ → List ℕ
@@ -68,8 +69,6 @@ unfoldable pub guessed : List ℕ → Plain
 guessed bytes =
     let s = splitCount bytes 8 60 in
     record {
-      w = wordAt bytes 4;
-      h = wordAt bytes 6;
-      splits = each 0 s (λ i. splitAt bytes (8 + 12 * i) ∷ []);
+      lines = layout (wordAt bytes 4) (wordAt bytes 6) (each 0 s (λ i. splitAt bytes (8 + 12 * i) ∷ []));
       values = each 0 ((length bytes - 12 - 12 * s) / 10) (λ i. wordAt bytes (16 + 12 * s + 10 * i) ∷ []);
     }

@@ -23,7 +23,7 @@ setting t = set (t .of .across .m - 1) (t .of .up .m - 1) (t .multiple)
 
 -- the calls that a file stands for: its splits, "taken in order from the fresh map before the file's values are set"
 abbrev pub fileCalls : Plain → List Call
-fileCalls P = map exact (P .splits) ++ map setting (paired (blends P) (P .values))
+fileCalls P = map exact (P .lines .splits) ++ map setting (paired (blends P) (P .values))
 
 -- every call of a list is accepted
 abbrev pub AllAccepted : Map → List Call → Type 0
@@ -33,16 +33,16 @@ AllAccepted m cs = (o : Outcome Map) → List·Memᴰ o (outcomes byLibrary m cs
 -- ones, taken in order from the fresh map before the file's values are set."
 pub record FromFile (bytes : List ℕ) : Type 0 where
   -- The calls that the file stands for are all accepted, and leave the map that is read on the fresh map of its sides;
-  pub all-accepted : let P = readPlain bytes in AllAccepted (recordOf (freshPlain (P .w) (P .h))) (fileCalls P)
-  pub left : let P = readPlain bytes in leftBy (freshPlain (P .w) (P .h)) (fileCalls P) ≡ readFile bytes .map
+  pub all-accepted : let P = readPlain bytes in AllAccepted (recordOf (freshPlain (P .lines .w) (P .lines .h))) (fileCalls P)
+  pub left : let P = readPlain bytes in leftBy (freshPlain (P .lines .w) (P .lines .h)) (fileCalls P) ≡ readFile bytes .map
   -- so a list on the map that is read is the rest of a history,
   pub outcomes-after : (cs : List Call) → let P = readPlain bytes in
-      let start = recordOf (freshPlain (P .w) (P .h)) in
+      let start = recordOf (freshPlain (P .lines .w) (P .lines .h)) in
       outcomes byLibrary start (fileCalls P ++ cs) ≡ outcomes byLibrary start (fileCalls P) ++ outcomes byLibrary (readFile bytes .map) cs
   pub left-after : (cs : List Call) → let P = readPlain bytes in
-      leftBy (freshPlain (P .w) (P .h)) (fileCalls P ++ cs) ≡ ending byLibrary (readFile bytes .map) cs
+      leftBy (freshPlain (P .lines .w) (P .lines .h)) (fileCalls P ++ cs) ≡ ending byLibrary (readFile bytes .map) cs
   -- of which demand 3 holds; and it holds of the list on its own.
-  pub whole : (cs : List Call) → let P = readPlain bytes in Demand3 (P .w) (P .h) (fileCalls P ++ cs)
+  pub whole : (cs : List Call) → let P = readPlain bytes in Demand3 (P .lines .w) (P .lines .h) (fileCalls P ++ cs)
   pub own : (cs : List Call) → DemandFrom (readPlain bytes) cs
 
 -- "Writing and asking for a record's payload change no map, so they may come anywhere between these calls": a call of such a list, on the map,

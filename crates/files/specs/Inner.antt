@@ -28,7 +28,7 @@ terms t values = paired (blendsOf t) (take (t .count) values)
 -- the file of a map's record, with its table in hand
 abbrev pub filed : Map → Table → List ℕ
 filed m t =
-    head (m .w) (m .h) ++ joined splitEntry (take (m .count) (m .splits)) ++ joined valueEntry (terms t (m .values)) ++ tail
+    head (m .lines .w) (m .lines .h) ++ joined splitEntry (take (m .lines .count) (m .lines .splits)) ++ joined valueEntry (terms t (m .values)) ++ tail
 
 -- a text is put over bytes from a place on, and `next` is the place after it
 pub record Puts (before : List ℕ) (at : ℕ) (text after : List ℕ) (next : ℕ) : Type 0 where

@@ -10,15 +10,13 @@ use crate::take::equal;
 use crate::take::taken;
 use maps::Changed;
 use maps::Map;
-use maps::WithTable;
-use maps::record::open;
-use mesh::Table;
+use maps::opened::Opened;
+use maps::opened::open;
 ghost use mathlib.Core.Path.{_≡_};
 ghost use Rattle.maps.specs.Plain.{freshPlain};
-ghost use mathlib.Core.Bool.{true};
-ghost use Rattle.maps.specs.Record.{recordOf, good};
-ghost use Rattle.maps.specs.Opened.{opened, withTable};
+ghost use Rattle.maps.specs.Record.{recordOf};
 ghost use Rattle.maps.specs.Calls.{changed};
+ghost use Rattle.maps.specs.Opened.{withTable, Opens};
 ghost use Rattle.files.specs.Calls.{written, after, readFile};
 
 // A number, and how many bytes were written.
@@ -32,21 +30,23 @@ pub fn write(map: Map, buffer: &mut [u8]) -> Written
     ensures { λ r. ⌜ (r ≡ written map (now (buffer .entry))) × (now (buffer .exit) ≡ after map (now (buffer .entry))) ⌝ }
 {
     let opened = open(map);
-    if !opened.good {
+    if opened.number != 0 {
         return Written {
             number: 2,
             length: 0,
         };
     }
-    put_whole(buffer, map, opened.table)
+    write_opened(opened, buffer)
 }
 
-// Writes the file of a good map, whose table is in hand, into a lent buffer: refused with 12.
-pub fn put_whole(buffer: &mut [u8], map: Map, table: Table) -> Written
-    requires { ⌜ (good map ≡ true) × (table ≡ opened map .table) ⌝ }
-    ensures { λ r. ⌜ (r ≡ written map (now (buffer .entry))) × (now (buffer .exit) ≡ after map (now (buffer .entry))) ⌝ }
+// The rest of `write`, after the record is opened.
+pub fn write_opened(o: Opened, buffer: &mut [u8]) -> Written
+    requires { ⌜ Opens o ⌝ }
+    ensures { λ r. ⌜ (r ≡ written (o .map) (now (buffer .entry))) × (now (buffer .exit) ≡ after (o .map) (now (buffer .entry))) ⌝ }
 {
-    let length = 12 + 12 * map.count + 10 * table.count;
+    let map = o.map;
+    let table = o.table;
+    let length = 12 + 12 * map.lines.count + 10 * table.count;
     if buffer.len() < length {
         return Written {
             number: 12,
@@ -60,26 +60,21 @@ pub fn put_whole(buffer: &mut [u8], map: Map, table: Table) -> Written
     }
 }
 
-// The fresh 1 by 1 map and its table, with 11.
-fn refused() -> WithTable
+// The fresh 1 by 1 map, opened, with 11.
+fn refused() -> Opened
     ensures { λ r. ⌜ r ≡ withTable (changed 11 (recordOf (freshPlain 1 1))) ⌝ }
 {
     let fresh = Map::fresh(1, 1);
-    let map = fresh.map;
-    let opened = open(map);
-    let table = opened.table;
-    WithTable {
-        number: 11,
-        map: map,
-        table: table,
-    }
+    let mut opened = open(fresh.map);
+    opened.number = 11;
+    opened
 }
 
 // The map whose file the bytes are: refused with 11.
 pub fn read(bytes: &[u8]) -> Changed
     ensures { λ r. ⌜ r ≡ readFile (now (bytes .entry)) ⌝ }
 {
-    let file = read_with_table(bytes);
+    let file = read_opened(bytes);
     let map = file.map;
     Changed {
         number: file.number,
@@ -87,9 +82,9 @@ pub fn read(bytes: &[u8]) -> Changed
     }
 }
 
-// `read`, with the table of the map, so that the record is not opened again for a call on it. The numbers at a file's places
-// make a map; the bytes are its file where writing it gives the same bytes.
-pub fn read_with_table(bytes: &[u8]) -> WithTable
+// `read`, with the map opened, so that its record is not replayed again for a call on it. The numbers at a file's places make a
+// map; the bytes are its file where writing it gives the same bytes.
+pub fn read_opened(bytes: &[u8]) -> Opened
     ensures { λ r. ⌜ r ≡ withTable (readFile (now (bytes .entry))) ⌝ }
 {
     let length = bytes.len();
@@ -106,13 +101,12 @@ pub fn read_with_table(bytes: &[u8]) -> WithTable
         return refused();
     }
     let map = taken(bytes, count, places);
-    let known = open(map);
-    if !known.good {
+    let opened = open(map);
+    if opened.number != 0 {
         return refused();
     }
-    let table = known.table;
     let mut buffer = [0u8; 10972];
-    let file = put_whole(&mut buffer, map, table);
+    let file = write_opened(opened, &mut buffer);
     if file.number != 0 {
         return refused();
     }
@@ -120,9 +114,5 @@ pub fn read_with_table(bytes: &[u8]) -> WithTable
     if !equal(bytes, &buffer[..size]) {
         return refused();
     }
-    WithTable {
-        number: 0,
-        map: map,
-        table: table,
-    }
+    opened
 }

@@ -1,19 +1,18 @@
 // The table of a map file as text: what the table program prints.
 use crate::Written;
-use crate::read_with_table;
+use crate::read_opened;
 use axis::Triple;
 use axis::knots;
-use maps::Map;
+use maps::opened::Opened;
 use mesh::Blend;
 use mesh::Table;
 ghost use mathlib.Core.Path.{_≡_};
-ghost use mathlib.Core.Bool.{true};
 ghost use mathlib.Core.List.{[], _∷_, _++_};
 ghost use Prim.Native.Nat.{_+_, _%_, _≤_, _<_};
 ghost use lib.ListN.{length};
 ghost use Rattle.axis.specs.Range.{joined};
-ghost use Rattle.maps.specs.Record.{plain, good};
-ghost use Rattle.maps.specs.Opened.{opened};
+ghost use Rattle.maps.specs.Record.{plain};
+ghost use Rattle.maps.specs.Opened.{Opens};
 ghost use Rattle.files.specs.File.{put};
 ghost use Rattle.files.specs.Inner.{Listed, Puts, terms};
 ghost use Rattle.files.specs.Listing.{digits, coordinate, spaced, ended, knots, line, tableText, refusal, listing, textWritten, textAfter};
@@ -140,10 +139,10 @@ fn put_refusal(out: &mut [u8])
     out[10] = b'\n';
 }
 
-// Writes the table of a good map, which is in hand, as text into a lent buffer: refused with 12.
-pub fn put_map(out: &mut [u8], map: Map, table: Table) -> Written
-    requires { ⌜ (good map ≡ true) × (table ≡ opened map .table) ⌝ }
-    ensures { λ r. ⌜ (r ≡ textWritten (tableText (plain map)) (now (out .entry))) × (now (out .exit) ≡ textAfter (tableText (plain map)) (now (out .entry))) ⌝ }
+// Writes the table of an opened map as text into a lent buffer: refused with 12.
+pub fn list_opened(o: Opened, out: &mut [u8]) -> Written
+    requires { ⌜ Opens o ⌝ }
+    ensures { λ r. ⌜ (r ≡ textWritten (tableText (plain (o .map))) (now (out .entry))) × (now (out .exit) ≡ textAfter (tableText (plain (o .map))) (now (out .entry))) ⌝ }
 {
     if out.len() < 65536 {
         return Written {
@@ -151,8 +150,9 @@ pub fn put_map(out: &mut [u8], map: Map, table: Table) -> Written
             length: 0,
         };
     }
+    let map = o.map;
     let values = map.values;
-    let length = put_table(out, table, values);
+    let length = put_table(out, o.table, values);
     Written {
         number: 0,
         length: length,
@@ -163,11 +163,9 @@ pub fn put_map(out: &mut [u8], map: Map, table: Table) -> Written
 pub fn list(bytes: &[u8], out: &mut [u8]) -> Written
     ensures { λ r. ⌜ (r ≡ textWritten (listing (now (bytes .entry))) (now (out .entry))) × (now (out .exit) ≡ textAfter (listing (now (bytes .entry))) (now (out .entry))) ⌝ }
 {
-    let file = read_with_table(bytes);
+    let file = read_opened(bytes);
     if file.number == 0 {
-        let map = file.map;
-        let table = file.table;
-        return put_map(out, map, table);
+        return list_opened(file, out);
     }
     if out.len() < 65536 {
         return Written {

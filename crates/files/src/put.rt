@@ -71,13 +71,14 @@ fn put_values(bytes: &mut [u8], at: usize, table: Table, values: [u16; 1024])
 
 // Puts the whole file of a map whose table is in hand.
 pub(crate) fn put_file(bytes: &mut [u8], map: Map, table: Table)
-    requires { ⌜ Listed table × (map .count ≤ 60) × (12 + 12 * map .count + 10 * table .count ≤ length (now bytes)) ⌝ }
+    requires { ⌜ Listed table × (map .lines .count ≤ 60) × (12 + 12 * map .lines .count + 10 * table .count ≤ length (now bytes)) ⌝ }
     ensures { λ _. ⌜ now (bytes .exit) ≡ put (now (bytes .entry)) 0 (filed map table) ⌝ }
 {
-    let head = [6, 1, map.w, map.h];
+    let lines = map.lines;
+    let head = [6, 1, lines.w, lines.h];
     put_words(bytes, 0, &head);
-    let splits = map.splits;
-    let count = map.count;
+    let splits = lines.splits;
+    let count = lines.count;
     put_splits(bytes, splits, count);
     let at = 8 + 12 * count;
     let values = map.values;

@@ -1,6 +1,7 @@
 // The numbers at a file's places, taken out of bytes.
 use crate::bytes::word_at;
 use maps::Map;
+use mesh::Lines;
 use mesh::Split;
 ghost use mathlib.Core.Path.{_≡_};
 ghost use mathlib.Core.List.{[], _∷_, _++_};
@@ -89,10 +90,12 @@ pub(crate) fn taken(bytes: &[u8], count: usize, places: usize) -> Map
     let at = 16 + 12 * count;
     let values = take_values(bytes, at, places);
     Map {
-        w: w,
-        h: h,
-        count: count,
-        splits: splits,
+        lines: Lines {
+            w: w,
+            h: h,
+            count: count,
+            splits: splits,
+        },
         values: values,
     }
 }

@@ -112,6 +112,10 @@ module _ (m : Map) (o : Opened) (e : o ≡ opened m) where
         is-table = refl;
       })
 
+  pub opened-as : o .number ≡ 0 → o ≡ withTable (changed 0 m)
+  unfolding opened
+  opened-as z = e ∙ rw (sym number-is ∙ z)
+
   pub refused-as : (o .number ≡ 0 → ⊥) → changed (o .number) (o .map) ≡ changed 2 m
   unfolding opened
   refused-as ne = rw (number-is, same-map, not-good ne)

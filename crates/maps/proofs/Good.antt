@@ -85,26 +85,26 @@ module _ {P : Layout} (r : Replays P) where
       let a = replays-sides in at-most (P .w) (P .h) (a .0) (a .2) (a .3) (P .splits) (r .few) (replays-stands .is-sound)
 
 -- as tests of a struct of lines, and of the lines of a layout
-module _ (L : Lines) (places : length (L .splits) ≡ 60) where
-  pub lines-replay : replays L ≡ true → Replays (layoutOf L)
-  unfolding replays
-  lines-replay e =
-      let a = and-both _ (accepted (layout (L .w) (L .h) []) (splitsOf L)) e in
-      let b = and-both (allowedSide (L .w) && allowedSide (L .h)) (leb (L .count) 60) (a .0) in
-      let c = and-both (allowedSide (L .w)) (allowedSide (L .h)) (b .0) in
-      let few = leb-true (L .count) 60 (b .1) in
-      record { across = c .0; up = c .1; few = rw (length-take-le (L .count) (L .splits) (omega arith)) few; all-taken = a .1 }
+replays-says : (L : Lines) → replays L ≡ true →
+    (allowedSide (L .w) ≡ true) × (allowedSide (L .h) ≡ true) × (L .count ≤ 60) × (accepted (layout (L .w) (L .h) []) (splitsOf L) ≡ true)
+unfolding replays
+replays-says L e =
+    let a = and-both _ (accepted (layout (L .w) (L .h) []) (splitsOf L)) e in
+    let b = and-both (allowedSide (L .w) && allowedSide (L .h)) (leb (L .count) 60) (a .0) in
+    let c = and-both (allowedSide (L .w)) (allowedSide (L .h)) (b .0) in
+    (c .0, c .1, leb-true (L .count) 60 (b .1), a .1)
 
-  pub lines-counted : replays L ≡ true → (L .count ≤ 60) × (length (splitsOf L) ≡ L .count)
-  unfolding replays
-  lines-counted e =
-      let a = and-both (allowedSide (L .w) && allowedSide (L .h) && leb (L .count) 60) _ e in
-      let few = leb-true (L .count) 60 (and-both (allowedSide (L .w) && allowedSide (L .h)) _ (a .0) .1) in
-      (few, length-take-le (L .count) (L .splits) (omega arith))
+module _ (L : Lines) (places : length (L .splits) ≡ 60) (e : replays L ≡ true) where
+  counted-lines : length (splitsOf L) ≡ L .count
+  counted-lines = length-take-le (L .count) (L .splits) (omega (arith, replays-says L e .2))
 
-pub layout-held : (P : Layout) → layoutOf (linesOf P) ≡ P
+  lines-replay : Replays (layoutOf L)
+  lines-replay = let r = replays-says L e in record { across = r .0; up = r .1; few = rw counted-lines (r .2); all-taken = r .3 }
+
+pub layout-replay : (P : Layout) → replays (linesOf P) ≡ true → Replays P
 unfolding linesOf
-layout-held P = rw (take-append-seam (P .splits))
+layout-replay P e =
+    let r = replays-says (linesOf P) e in record { across = r .0; up = r .1; few = r .2; all-taken = rw (take-append-seam (P .splits)) at (r .3) }
 
 layout-replays : {P : Layout} → Replays P → replays (linesOf P) ≡ true
 unfolding replays linesOf
@@ -115,7 +115,12 @@ pub record Holds (P : Plain) : Type 0 where
   pub taken : Replays (P .lines)
   pub counted : length (P .values) ≡ length (blends P)
 
--- The record of a map that a good record may hold is good, and holds that map.
+-- The record of a map holds it, where its values are as many as its blends,
+pub plain-held : (P : Plain) → length (P .values) ≡ length (blends P) → plain (recordOf P) ≡ P
+unfolding recordOf linesOf plain
+plain-held P full = rw (take-append-seam (P .lines .splits), ← full, take-append-seam)
+
+-- and is good, where a good record may hold the map.
 module _ {P : Plain} (p : Holds P) where
   is-good : good (recordOf P) ≡ true
   unfolding recordOf linesOf
@@ -127,12 +132,8 @@ module _ {P : Plain} (p : Holds P) where
         no-values = rw (take-append-seam (P .lines .splits), ← p .counted, drop-append-seam) (padding-passes isZero 0 refl (1024 - length (P .values)));
       })
 
-  is-held : plain (recordOf P) ≡ P
-  unfolding recordOf linesOf plain
-  is-held = rw (take-append-seam (P .lines .splits), ← p .counted, take-append-seam)
-
   pub record-good : (good (recordOf P) ≡ true) × (plain (recordOf P) ≡ P)
-  record-good = (is-good, is-held)
+  record-good = (is-good, plain-held P (p .counted))
 
 -- What a good record gives the calls that open it.
 pub record GoodFacts (m : Map) : Type 0 where
@@ -151,19 +152,19 @@ good-facts m places room e =
     let p = good-passes m e in
     let L = m .lines in
     let lines = lines-replay L places (p .accepted?) in
-    let used = lines-counted L places (p .accepted?) in
+    let few = replays-says L (p .accepted?) .2 in
+    let n = counted-lines L places (p .accepted?) in
     let stands = replays-stands lines in
     let short = replays-short lines in
     let sides = replays-sides lines in
     let counted : length (plain m .values) ≡ length (liveOf (layoutOf L)) = length-take-le (length (liveOf (layoutOf L))) (m .values) (rw room short) in
-    let ok : allowed L ≡ true = rw (lines .across, lines .up, le-leb (L .count) 60 (used .0), stands .ranges) in
-    let splits = padded isNoSplit noSplit blank-split (L .splits) 60 (L .count) places (used .0) (p .no-splits) in
+    let ok : allowed L ≡ true = rw (lines .across, lines .up, le-leb (L .count) 60 few, stands .ranges) in
+    let splits = padded isNoSplit noSplit blank-split (L .splits) 60 (L .count) places few (p .no-splits) in
     let values = padded isZero 0 (λ v q. eqb-true v 0 q) (m .values) 1024 (length (liveOf (layoutOf L))) room short (p .no-values) in
-    let n = used .1 in
     record {
       across = (sides .0, sides .1);
       up = (sides .2, sides .3);
-      few = used .0;
+      few = few;
       holds = record { taken = lines; counted = counted };
       is-sound = stands .is-sound;
       is-short = short;

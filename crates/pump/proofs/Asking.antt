@@ -2,19 +2,20 @@
 use Prim.Native.Nat.{ℕ}
 use mathlib.Core.Path.{_≡_, ap, _∙_}
 use mathlib.Core.List.{List}
-use Rattle.maps.specs.declared.WithTable.{WithTable}
+use Rattle.maps.specs.declared.opened.Opened.{Opened}
 use Rattle.maps.specs.declared.Placed.{Placed}
 use Rattle.maps.specs.declared.Reading.{Reading}
 use Rattle.maps.specs.declared.Weights.{Weights}
 use Rattle.maps.specs.declared.Same.{Same}
-use Rattle.maps.specs.Calls.{withTable, tablePlace, reading, weights, placeIn, readingIn, weightsIn}
+use Rattle.maps.specs.Opened.{withTable}
+use Rattle.maps.specs.Calls.{tablePlace, reading, weights, placeIn, readingIn, weightsIn}
 use Rattle.maps.specs.Sameness.{sameness, sameIn}
 use Rattle.maps.proofs.FromHand.{own-place, own-reading, own-weights}
 use Rattle.maps.proofs.Agreeing.{own-same}
 use Rattle.files.specs.Calls.{readFile}
 use Rattle.files.proofs.ReadMaps.{read-map}
 
-module _ (bytes : List ℕ) {known : WithTable} (is : known ≡ withTable (readFile bytes)) where
+module _ (bytes : List ℕ) {known : Opened} (is : known ≡ withTable (readFile bytes)) where
   pub its-place : (i : ℕ) {p : Placed} → p ≡ placeIn (known .map) (known .table) i → p ≡ tablePlace (readFile bytes .map) i
   its-place i e = rw is at (e ∙ own-place (read-map bytes is) i)
 
@@ -25,6 +26,6 @@ module _ (bytes : List ℕ) {known : WithTable} (is : known ≡ withTable (readF
     pub its-weights : {w : Weights} → w ≡ weightsIn (known .map) (known .table) u v → w ≡ weights (readFile bytes .map) u v
     its-weights e = rw is at (e ∙ own-weights (read-map bytes is) u v)
 
-  pub its-same : (others : List ℕ) {other : WithTable} → other ≡ withTable (readFile others) → {s : Same} →
+  pub its-same : (others : List ℕ) {other : Opened} → other ≡ withTable (readFile others) → {s : Same} →
       s ≡ sameIn (known .map) (known .table) (other .map) (other .table) → s ≡ sameness (readFile bytes .map) (readFile others .map)
   its-same others at e = rw (is, at) at (e ∙ own-same (read-map bytes is) (read-map others at))

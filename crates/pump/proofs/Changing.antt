@@ -9,20 +9,21 @@ use Rattle.mesh.specs.declared.Split.{Split}
 use Rattle.mesh.specs.Lines.{allowedSide}
 use Rattle.maps.specs.declared.Map.{Map}
 use Rattle.maps.specs.declared.Changed.{Changed}
-use Rattle.maps.specs.declared.WithTable.{WithTable}
-use Rattle.maps.specs.Record.{good, opened}
-use Rattle.maps.specs.Calls.{changed, withTable, freshMap, setValue, exactSplit, lengthenedSplit, setIn}
+use Rattle.maps.specs.declared.opened.Opened.{Opened}
+use Rattle.maps.specs.Record.{good}
+use Rattle.maps.specs.Opened.{opened, withTable}
+use Rattle.maps.specs.Calls.{changed, freshMap, setValue, exactSplit, lengthenedSplit, setIn}
 use Rattle.maps.proofs.Good.{record-good, fresh-holds}
-use Rattle.maps.proofs.Handed.{without, own-set, set-good, exact-good, lengthened-good}
+use Rattle.maps.proofs.Changing.{without, own-set, set-good, exact-good, lengthened-good}
 use Rattle.files.specs.Calls.{readFile}
 use Rattle.files.proofs.ReadMaps.{read-good, read-places, read-room, read-map}
 use Rattle.pump.specs.Border.{newNumber, newBytes, newUsed, lent, changeNumber, changeBytes, changeUsed}
 
 -- a good map with its table
-abbrev pub Handed : WithTable → Type 0
+abbrev pub Handed : Opened → Type 0
 Handed w = (good (w .map) ≡ true) × (w .table ≡ opened (w .map) .table)
 
-handed : {w : WithTable} {c : Changed} → w ≡ withTable c → good (c .map) ≡ true → Handed w
+handed : {w : Opened} {c : Changed} → w ≡ withTable c → good (c .map) ≡ true → Handed w
 handed is y = rw is (y, refl)
 
 -- the fresh map of any sides, which is 1 by 1 on a refusal
@@ -37,7 +38,7 @@ fresh-good w h =
     (either (allowedSide w && allowedSide h))
 
 -- each call on the map that was read
-module _ (bytes : List ℕ) {old next : WithTable} (is : old ≡ withTable (readFile bytes)) where
+module _ (bytes : List ℕ) {old next : Opened} (is : old ≡ withTable (readFile bytes)) where
   pub set-own : (m n value : ℕ) → next ≡ setIn (old .map) (old .table) m n value → next ≡ withTable (setValue (old .map) m n value)
   set-own m n value e = e ∙ own-set (read-map bytes is) m n value
 
@@ -57,7 +58,7 @@ Ends refused next buffer used number bytes size =
     (number ≡ newNumber refused next buffer) × (bytes ≡ newBytes refused next buffer) × (size ≡ newUsed refused next buffer used)
 
 -- on the map that was read, it is what the change of a file says
-module _ (call : Map → Changed) (buffer : List ℕ) (used : ℕ) {old next : WithTable} (is : old ≡ withTable (readFile (lent buffer used)))
+module _ (call : Map → Changed) (buffer : List ℕ) (used : ℕ) {old next : Opened} (is : old ≡ withTable (readFile (lent buffer used)))
     (given : next ≡ withTable (call (old .map))) where
   pub changes : {number : ℕ} {bytes : List ℕ} {size : ℕ} → Ends (old .number) (changed (next .number) (next .map)) buffer used number bytes size →
       (number ≡ changeNumber call buffer used) × (bytes ≡ changeBytes call buffer used) × (size ≡ changeUsed call buffer used)

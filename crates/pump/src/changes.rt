@@ -9,8 +9,9 @@ use maps::record::open;
 use mesh::Split;
 ghost use mathlib.Core.Path.{_≡_};
 ghost use mathlib.Core.Bool.{true};
-ghost use Rattle.maps.specs.Record.{good, opened};
-ghost use Rattle.maps.specs.Calls.{changed, withTable, setValue, exactSplit, lengthenedSplit};
+ghost use Rattle.maps.specs.Record.{good};
+ghost use Rattle.maps.specs.Opened.{opened, withTable};
+ghost use Rattle.maps.specs.Calls.{changed, setValue, exactSplit, lengthenedSplit};
 ghost use Rattle.files.specs.Calls.{readFile};
 ghost use Rattle.pump.specs.Border.{newNumber, newBytes, newUsed, freshNumber, freshBytes, freshUsed, lent, changeNumber, changeBytes, changeUsed, split};
 

@@ -1,9 +1,10 @@
 -- `refused` meets its contract: what `Map::fresh` gives for sides 1 and 1, opened.
 use borrow.Author.Needs.{needs}
-use mathlib.Core.Path.{ap}
+use mathlib.Core.Path.{ap, _∙_}
 use Rattle.maps.specs.declared.Changed.{Changed}
+use Rattle.maps.specs.declared.opened.Opened.{Opened}
 use Rattle.maps.specs.Calls.{changed, freshMap}
-use Rattle.maps.proofs.Handed.{kept-table}
+use Rattle.maps.specs.Opened.{opened, withTable}
 use Rattle.files.proofs.refused.Statement.{statement}
 use Rattle.files.proofs.refused.Tie as tie
 
@@ -14,10 +15,11 @@ open-requires : tie.Need-open-requires
 open-requires c κs = search needs
 
 returns : tie.Need-returns
-unfolding freshMap
+unfolding freshMap opened
 returns c =
-    let o = c .before .«open» in
-    kept-table _ (o .result) (o .ensures) 11 _ (ap (λ (x : Changed). changed 11 (x .map)) (c .before .before .before .fresh .ensures))
+    let o = c .«open» in
+    ap (λ (x : Opened). record { number = 11; map = x .map; table = x .table }) (o .ensures) ∙
+    ap (λ (x : Changed). withTable (changed 11 (x .map))) (c .before .fresh .ensures)
 
 pub refused-spec : {M : Type 1} → statement M
 refused-spec = tie.close (tie.spec fresh-requires open-requires returns)

@@ -2,8 +2,9 @@
 use native.Mathlib.Omega.{arith}
 use borrow.Author.Needs.{needs}
 use mathlib.Core.Path.{_≡_, _∙_}
-use lib.ListN.{length, length-map}
 use lib.Seq.{length-take-le}
+use Rattle.mesh.proofs.Arrays.{table-full}
+use Rattle.maps.proofs.Changing.{full}
 use Rattle.files.proofs.Putting.{words-fit}
 use Rattle.files.proofs.Terms.{filed-put}
 use Rattle.files.proofs.put.put_file.Statement.{statement}
@@ -48,11 +49,11 @@ returns c =
     let values = end .before .before .before .before .before .before in
     let splits = values .before .before .before .before .before in
     let head = splits .before .before .before .before .before in
-    let start = head .before .before .before .before in
+    let start = head .before .before .before .before .before in
     let m = start .args .map in
-    let sixty : length (m .splits) ≡ 60 = simp length-map at (start .good .1 .0 .1 .1 .1 .1 .1 .0 .1 .0 .1) in
-    filed-put m (start .args .table) (start .pre .0) (simp length-map at (start .good .1 .1 .0 .1 .1 .1 .0 .1 .0 .1))
-    (simp length-map at (start .good .1 .0 .1 .1 .1 .1 .1 .1 .0 .1 .0 .1)) (length-take-le _ _ (omega arith)) _ (start .pre .2)
+    let places = full m _ (start .good .1 .0) in
+    filed-put m (start .args .table) (start .pre .0) (table-full (start .args .table) (start .good .1 .1 .0)) (places .1)
+    (length-take-le _ _ (omega (arith, places .0))) _ (start .pre .2)
     (head .put-words .ensures ∙ words-fit _ _ _ (omega (arith, start .pre .2))) (splits .put-splits .ensures) (values .put-values .ensures)
     (end .put-words2 .ensures ∙ words-fit _ _ _ (omega (arith, start .pre .2, head .put-words .kept .0, splits .put-splits .kept .0, values .put-values .kept .0)))
 

@@ -1,7 +1,7 @@
 -- `pump_fresh` meets its contract: the fresh map, opened, ended by `replace`.
 use borrow.Author.Needs.{needs}
 use mathlib.Core.Path.{ap}
-use Rattle.maps.specs.declared.record.Opened.{Opened}
+use Rattle.maps.specs.declared.opened.Opened.{Opened}
 use Rattle.pump.proofs.Changing.{fresh-good}
 use Rattle.pump.proofs.changes.pump_fresh.Statement.{statement}
 use Rattle.pump.proofs.changes.pump_fresh.Tie as tie

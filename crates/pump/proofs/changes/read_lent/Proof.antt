@@ -6,7 +6,7 @@ use mathlib.Core.List.{List}
 use Prim.Native.Nat.{ℕ}
 use lib.Seq.{length-take-le}
 use Rattle.axis.proofs.Tests.{cond-true, cond-false}
-use Rattle.maps.specs.Calls.{withTable}
+use Rattle.maps.specs.Opened.{withTable}
 use Rattle.files.specs.Calls.{readFile}
 use Rattle.pump.proofs.changes.read_lent.Statement.{statement}
 use Rattle.pump.proofs.changes.read_lent.Tie as tie

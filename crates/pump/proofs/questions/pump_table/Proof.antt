@@ -3,7 +3,7 @@ use borrow.Author.Needs.{needs}
 use mathlib.Core.Path.{_≡_, ap, _∙_}
 use Prim.Native.Nat.{ℕ}
 use lib.ListN.{length}
-use Rattle.maps.specs.declared.WithTable.{WithTable}
+use Rattle.maps.specs.declared.opened.Opened.{Opened}
 use Rattle.maps.specs.Record.{plain}
 use Rattle.files.specs.declared.Written.{Written}
 use Rattle.files.specs.Calls.{readFile}
@@ -21,7 +21,7 @@ returns : tie.Need-returns
 unfolding tableNumber tableAfter tableCount
 returns c =
     let known = c .before .before .read-with-table in
-    let is = ap (λ (w : WithTable). w .number) (known .ensures) in
+    let is = ap (λ (w : Opened). w .number) (known .ensures) in
     let e = is ∙ stays _ _ is (c .if1 .taken) in
     (e, stays _ _ e (c .if1 .taken), stays _ _ e (c .if1 .taken))
 
@@ -42,7 +42,7 @@ returns-2 c =
     let a = known .before .before .before .args in
     let text = tableText (plain (readFile (a .file .now) .map)) in
     let e : shortOf 65536 (a .out .now) ≡ tableNumber (a .file .now) (a .out .now) =
-    gives _ _ (ap (λ (w : WithTable). w .number) (known .read-with-table .ensures)) (yes .if1 .left) in
+    gives _ _ (ap (λ (w : Opened). w .number) (known .read-with-table .ensures)) (yes .if1 .left) in
     let p = rw (known .read-with-table .ensures) at (put .put-map .ensures) in (
       ap (λ (w : Written). w .number) (p .0) ∙ e,
       p .1 ∙ ap (λ (n : ℕ). answered n text (a .out .now)) e,

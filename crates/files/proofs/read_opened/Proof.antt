@@ -1,17 +1,18 @@
--- `read_with_table` meets its contract: no file has the lengths that are refused, and the map that the bytes tell is written again and compared.
+-- `read_opened` meets its contract: no file has the lengths that are refused, and the map that the bytes tell is written again and compared.
 use borrow.Author.Needs.{needs}
 use native.Mathlib.Omega.{arith}
 use borrow.Author.Tests.{not-true, not-false}
-use mathlib.Core.Path.{refl, sym, ap, _∙_}
+use mathlib.Core.Path.{_≡_, refl, sym, ap, _∙_}
 use Rattle.maps.specs.Opened.{withTable}
-use Rattle.maps.proofs.Handed.{kept-table}
+use Rattle.maps.proofs.Changing.{same-map, not-good, is-opened, opened-as}
+use lib.ListN.{replicate}
 use lib.Seq.{length-take-le}
+use Rattle.files.specs.Calls.{written, after}
 use Rattle.files.proofs.RoundTrip.{is-refused}
 use Rattle.files.proofs.Taking.{count-few}
-use Rattle.files.proofs.Filing.{not-good, in-hand}
 use Rattle.files.proofs.Reading.{Wrote, wrote, file-lengths, not-opened, not-written, not-same, all-same}
-use Rattle.files.proofs.read_with_table.Statement.{statement}
-use Rattle.files.proofs.read_with_table.Tie as tie
+use Rattle.files.proofs.read_opened.Statement.{statement}
+use Rattle.files.proofs.read_opened.Tie as tie
 
 refused-requires : tie.Need-refused-requires
 refused-requires c κs = search needs
@@ -61,15 +62,23 @@ returns-4 c =
     let start = taken .before .before .before .before .before .before in
     c .refused4 .ensures ∙
     sym (ap withTable (not-opened (start .args .bytes .now) (taken .taken .result) (taken .taken .ensures)
-    (not-good _ (c .before .before .before .«open» .ensures) (not-true _ (c .before .if4 .taken)))))
+    (not-good _ (c .before .before .before .«open» .result) (c .before .before .before .«open» .ensures) (c .before .if4 .taken))))
 
-slice-aggregate-put-whole : tie.Need-slice-aggregate-put-whole
-slice-aggregate-put-whole c = search needs
+slice-aggregate-write-opened : tie.Need-slice-aggregate-write-opened
+slice-aggregate-write-opened c = search needs
 
-put-whole-requires : tie.Need-put-whole-requires
-put-whole-requires c κs =
-    let else = c .before .before in
-    in-hand _ (else .before .before .«open» .ensures) (not-false _ (else .if4 .left))
+write-opened-requires : tie.Need-write-opened-requires
+write-opened-requires c κs =
+    let else = c .before in
+    let o = else .before .before .«open» in
+    is-opened _ (o .result) (o .ensures) (else .if4 .left)
+
+-- the map that was opened is the one that was taken
+wrote-opened : (c : tie.After-write-opened) →
+    let o = c .before .before .before .before in
+    let m = o .before .taken .result in
+    (c .write-opened .result ≡ written m (replicate 10972 0)) × (c .write-opened .last .0 ≡ after m (replicate 10972 0))
+wrote-opened c = let o = c .before .before .before .before .«open» in rw (same-map _ (o .result) (o .ensures)) at (c .write-opened .ensures)
 
 refused-requires-5 : tie.Need-refused-requires-5
 refused-requires-5 c κs = search needs
@@ -77,17 +86,18 @@ refused-requires-5 c κs = search needs
 returns-5 : tie.Need-returns-5
 returns-5 c =
     let put = c .before .before .before .before in
-    let taken = put .before .before .before .before .before .before in
+    let taken = put .before .before .before .before .before in
     let start = taken .before .before .before .before .before .before in
     c .refused5 .ensures ∙
-    sym (ap withTable (not-written (start .args .bytes .now) (taken .taken .result) (taken .taken .ensures) _ (put .put-whole .ensures .0) refl (c .before .if5 .taken)))
+    sym (ap withTable (not-written (start .args .bytes .now) (taken .taken .result) (taken .taken .ensures) _ (wrote-opened put .0) refl (c .before .if5 .taken)))
 
 filed : (c : tie.Else5) →
     let put = c .before .before .before in
-    Wrote (put .before .before .before .before .before .before .taken .result) (put .put-whole .result .length) (put .put-whole .last .0)
+    Wrote (put .before .before .before .before .before .taken .result) (put .write-opened .result .length) (put .write-opened .last .0)
 filed c =
     let put = c .before .before .before in
-    wrote _ _ (put .put-whole .ensures .0) (put .put-whole .ensures .1) (c .if5 .left)
+    let w = wrote-opened put in
+    wrote _ _ (w .0) (w .1) (c .if5 .left)
 
 array-share-prefix-buffer : tie.Need-array-share-prefix-buffer
 array-share-prefix-buffer c = filed c .fits
@@ -105,7 +115,7 @@ returns-6 : tie.Need-returns-6
 returns-6 c =
     let same = c .before .before in
     let at = same .before .before in
-    let taken = at .before .before .before .before .before .before .before .before .before in
+    let taken = at .before .before .before .before .before .before .before .before in
     let start = taken .before .before .before .before .before .before in
     c .refused6 .ensures ∙
     sym (ap withTable (not-same (start .args .bytes .now) (taken .taken .result) (taken .taken .ensures) (filed at) (sym (same .equal .ensures) ∙ not-true _ (c .before .if6 .taken))))
@@ -114,14 +124,14 @@ returns-7 : tie.Need-returns-7
 returns-7 c =
     let same = c .before in
     let at = same .before .before in
-    let o = at .before .before .before .before .before .before .before .before in
+    let o = at .before .before .before .before .before .before .before in
     let taken = o .before in
     let start = taken .before .before .before .before .before .before in
-    kept-table _ (o .«open» .result) (o .«open» .ensures) 0 _
-    (all-same (start .args .bytes .now) (taken .taken .result) (taken .taken .ensures) (filed at) (sym (same .equal .ensures) ∙ not-false _ (c .if6 .left)))
+    opened-as _ (o .«open» .result) (o .«open» .ensures) (at .before .before .before .before .before .if4 .left) ∙
+    ap withTable (all-same (start .args .bytes .now) (taken .taken .result) (taken .taken .ensures) (filed at) (sym (same .equal .ensures) ∙ not-false _ (c .if6 .left)))
 
-pub read-with-table-spec : {M : Type 1} → statement M
-read-with-table-spec =
+pub read-opened-spec : {M : Type 1} → statement M
+read-opened-spec =
     tie.close
     (tie.spec
     refused-requires
@@ -137,8 +147,8 @@ read-with-table-spec =
     open-requires
     refused-requires-4
     returns-4
-    slice-aggregate-put-whole
-    put-whole-requires
+    slice-aggregate-write-opened
+    write-opened-requires
     refused-requires-5
     returns-5
     array-share-prefix-buffer
