@@ -1,10 +1,11 @@
 -- What the maps' own functions work on. Only contracts of functions that the crate keeps to itself cite this file.
-use Prim.Native.Nat.{ℕ, _+_, _-_, _≤_, _<_}
+use Prim.Native.Nat.{ℕ, _+_, _-_, _*_, _^_, _≤_, _<_}
 use mathlib.Core.Path.{_≡_}
 use mathlib.Core.Bool.{Bool, true, false, cond}
 use mathlib.Core.List.{List, [], _∷_, _++_, map}
 use lib.Dec.{eqb}
 use lib.ListN.{length, take, set, replicate}
+use Rattle.axis.specs.Fraction.{Fraction}
 use Rattle.mesh.specs.declared.Split.{Split}
 use Rattle.mesh.specs.declared.Lines.{Lines}
 use Rattle.mesh.specs.declared.Table.{Table}
@@ -15,8 +16,14 @@ use Rattle.mesh.specs.Bytes.{place}
 use Rattle.maps.specs.declared.Map.{Map}
 use Rattle.maps.specs.declared.splits.Step.{Step}
 use Rattle.maps.specs.declared.splits.Found.{Found}
+use Rattle.maps.specs.declared.Weight.{Weight}
+use Rattle.maps.specs.declared.values.Part.{Part}
+use Rattle.maps.specs.declared.values.Sum.{Sum}
+use Rattle.maps.specs.declared.values.Entry.{Entry}
+use Rattle.maps.specs.declared.values.Four.{Four}
 use Rattle.maps.specs.Plain.{Plain, blends}
-use Rattle.maps.specs.Values.{carried}
+use Rattle.maps.specs.Values.{carried, weightAt}
+use Rattle.maps.specs.Calls.{shape}
 use Rattle.maps.specs.Splits.{given, exactNumber, withLine, soundWith, chosen}
 
 -- the lines of a record, as a struct; and what a struct of lines holds, without values
@@ -73,3 +80,41 @@ pub record InTable (w h : ℕ) (t : Table) (values : List ℕ) : Type 0 where
   pub is-table : t ≡ table (blends of)
   pub is-short : length (blends of) ≤ 1024
   pub are-values : of .values ≡ take (length (blends of)) values
+
+-- the blends of a list that pass a test, each with its place, counted from i
+abbrev pub entriesOver : (Blend → Bool) → List Blend → ℕ → List Entry
+entriesOver test [] i = []
+entriesOver test (B ∷ bs) i =
+    let rest = entriesOver test bs (i + 1) in
+    cond (test B) (record { blend = B; place = i } ∷ rest) rest
+
+abbrev pub entries : Four → List Entry
+entries f = f .first ∷ f .second ∷ f .third ∷ f .fourth ∷ []
+
+-- a blend with its weight at a corner of a square
+abbrev pub weighed : ℕ → ℕ → ℕ → ℕ → Blend → Weight
+weighed x y u v B =
+    let f = weightAt x y u v B in
+    record { blend = shape B; numerator = f .num; denominator = f .den }
+
+-- a value times that weight
+abbrev pub portion : ℕ → ℕ → ℕ → ℕ → Blend → ℕ → Fraction
+portion x y u v B c = let f = weightAt x y u v B in record { num = f .num * c; den = f .den }
+
+-- a part of a reading, and the sum of some parts; with the bounds that keep each number below 2 to the 64
+abbrev pub fraction : Part → Fraction
+fraction p = record { num = p .num; den = p .den }
+
+pub record Small (p : Part) : Type 0 where
+  pub positive : 0 < p .den
+  pub low : p .den ≤ 16641
+  pub most : p .num ≤ 16641 * 65535
+
+abbrev pub exact : Sum → Fraction
+exact s = record { num = s .whole * s .bottom + s .top; den = s .bottom }
+
+pub record SumOf (n : ℕ) (s : Sum) : Type 0 where
+  pub positive : 0 < s .bottom
+  pub low : s .bottom ≤ 16641 ^ n
+  pub rest : s .top ≤ n * s .bottom
+  pub most : s .whole ≤ n * (16641 * 65535)

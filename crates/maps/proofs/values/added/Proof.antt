@@ -1,45 +1,40 @@
--- `maps::values::added` meets its contract.
+-- `maps::values::added` meets its contract: each of its numbers is at most one of the sum, which is small.
 use borrow.Author.Needs.{needs}
 use native.Mathlib.Omega.{arith}
-use native.Mathlib.Nat.{div-le-self, mod-lt, mul-le-mul}
-use Prim.Native.Nat.{_*_, _%_, _^_, _≤_}
+use Rattle.maps.specs.Inner.{SumOf}
+use Rattle.maps.proofs.Adding.{more, more-exact, more-small}
 use Rattle.maps.proofs.values.added.Statement.{statement}
 use Rattle.maps.proofs.values.added.Tie as tie
 
--- the products are at most a few times the largest product of four denominators
-top-most : (c : tie.Start) → c .args .s .top * c .args .den ≤ 4 * 16641 ^ 3 * 16641
-top-most c = let h : c .args .s .top ≤ 4 * 16641 ^ 3 = omega arith in mul-le-mul h (c .pre .1)
+sum : (c : tie.Start) → SumOf 4 (more (c .args .s) (c .args .p))
+sum c = more-small (c .args .s) (c .args .p) (c .pre .0) 3 (c .pre .1)
 
-rest-most : (c : tie.Start) → c .args .product % c .args .den * c .args .s .bottom ≤ 16641 * 16641 ^ 3
-rest-most c =
-    let h : c .args .product % c .args .den ≤ 16641 = omega (arith, mod-lt (c .args .product) (c .pre .0)) in
-    mul-le-mul h (c .pre .3)
+div-t3 : tie.Need-div-t3
+div-t3 c = search needs
 
-div-t4 : tie.Need-div-t4
-div-t4 c = search needs
+add-t4 : tie.Need-add-t4
+add-t4 c = omega (arith, sum (c .before .before) .most)
 
-add-t5 : tie.Need-add-t5
-add-t5 c = let a = c .before .args in omega (arith, div-le-self (a .product) (a .den))
+mul-t5 : tie.Need-mul-t5
+mul-t5 c = let s = sum (c .before .before .before .before) in omega arith
 
-mul-t6 : tie.Need-mul-t6
-mul-t6 c = omega (arith, top-most (c .before .before))
+rem-t6 : tie.Need-rem-t6
+rem-t6 c = search needs
 
-rem-t7 : tie.Need-rem-t7
-rem-t7 c = search needs
+mul-t7 : tie.Need-mul-t7
+mul-t7 c = let s = sum (c .before .before .before .before .before .before) in omega arith
 
-mul-t8 : tie.Need-mul-t8
-mul-t8 c = omega (arith, rest-most (c .before .before .before))
+add-t8 : tie.Need-add-t8
+add-t8 c = let s = sum (c .before .before .before .before .before .before) in omega arith
 
-add-t9 : tie.Need-add-t9
-add-t9 c = omega (arith, top-most (c .before .before .before), rest-most (c .before .before .before))
-
-mul-t10 : tie.Need-mul-t10
-mul-t10 c =
-    let s = c .before .before .before .before in
-    omega (arith, mul-le-mul (s .pre .3) (s .pre .1))
+mul-t9 : tie.Need-mul-t9
+mul-t9 c = let s = sum (c .before .before .before .before .before .before .before .before) in omega arith
 
 returns : tie.Need-returns
-returns c = search needs
+returns c =
+    let s = c .before .before .before .before .before .before .before .before in
+    let a = s .args in
+    (more-exact (a .s) (a .p), more-small (a .s) (a .p) (s .pre .0))
 
 pub added-spec : {M : Type 1} → statement M
-added-spec = tie.close (tie.spec div-t4 add-t5 mul-t6 rem-t7 mul-t8 add-t9 mul-t10 returns)
+added-spec = tie.close (tie.spec div-t3 add-t4 mul-t5 rem-t6 mul-t7 add-t8 mul-t9 returns)
