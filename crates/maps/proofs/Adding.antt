@@ -1,7 +1,7 @@
--- A reading as it is added up: one part more, and the parts of all blends by those of the blends over a square.
+-- A reading as it is added up: a sum with one fraction more, and the sum over all blends by those over a square.
 use Prim.Native.Nat.{ℕ, zero, suc, _+_, _*_, _/_, _%_, _^_, _<_, _≤_}
 use native.Mathlib.Omega.{arith}
-use native.Mathlib.Nat.{mul-pos, mul-le-mul, mul-le-mul-right, div-le-self, mod-lt, le-of-lt, div-add-mod', pow-suc}
+use native.Mathlib.Nat.{mul-pos, mul-le-mul, mul-le-mul-right, div-le-self, mod-lt, le-of-lt, div-add-mod', pow-suc, mul-add-div-right}
 use native.Mathlib.Numerals.{add-one}
 use mathlib.Core.Path.{_≡_, refl, sym, ap, subst, _∙_}
 use mathlib.Core.Logic.{⊎-elim}
@@ -23,32 +23,30 @@ use Rattle.mesh.proofs.Cutting.{proper-most}
 use Rattle.mesh.proofs.Weights.{weight-den}
 use Rattle.maps.specs.declared.values.Entry.{Entry}
 use Rattle.maps.specs.declared.values.Four.{Four}
-use Rattle.maps.specs.declared.values.Part.{Part}
 use Rattle.maps.specs.declared.values.Sum.{Sum}
 use Rattle.maps.specs.Values.{paired, rounded, weightAt}
-use Rattle.maps.specs.Inner.{entriesOver, entries, portion, fraction, Small, exact, SumOf}
+use Rattle.maps.specs.Inner.{entriesOver, entries, portion, exact, SumOf}
 use Rattle.maps.proofs.Over.{weight-shares, weight-outside}
 
--- a sum with one part more is exact, and stays small
-module _ (s : Sum) (p : Part) where
+-- a sum with one fraction more is exact, and stays small
+module _ (s : Sum) (p d : ℕ) where
   abbrev pub more : Sum
-  more = record { whole = s .whole + p .num / p .den; top = s .top * p .den + p .num % p .den * s .bottom; bottom = s .bottom * p .den }
+  more = record { whole = s .whole + p / d; top = s .top * d + p % d * s .bottom; bottom = s .bottom * d }
 
-  pub more-exact : exact more ≡ plus (fraction p) (exact s)
+  pub more-exact : exact more ≡ plus (record { num = p; den = d }) (exact s)
   more-exact =
-      let n : more .whole * more .bottom + more .top ≡ p .num * s .bottom + (s .whole * s .bottom + s .top) * p .den =
-      omega (arith, ap (λ (n : ℕ). n * s .bottom) (div-add-mod' (p .num) (p .den))) in
-      let d : s .bottom * p .den ≡ p .den * s .bottom = omega arith in
-      λ i. record { num = n i; den = d i }
+      let n : more .whole * more .bottom + more .top ≡ p * s .bottom + (s .whole * s .bottom + s .top) * d =
+      omega (arith, ap (λ (n : ℕ). n * s .bottom) (div-add-mod' p d)) in
+      let b : s .bottom * d ≡ d * s .bottom = omega arith in
+      λ i. record { num = n i; den = b i }
 
-  pub more-small : Small p → (n : ℕ) → SumOf n s → SumOf (n + 1) more
-  more-small small n sum =
+  pub more-small : 0 < d → d ≤ 16641 → p ≤ 16641 * 65535 → (n : ℕ) → SumOf n s → SumOf (n + 1) more
+  more-small positive low most n sum =
       record {
-        positive = mul-pos (sum .positive) (small .positive);
-        low = rw (add-one, pow-suc) (mul-le-mul (sum .low) (small .low));
-        rest =
-            omega (arith, mul-le-mul-right (p .den) (sum .rest), mul-le-mul-right (s .bottom) (le-of-lt (mod-lt (p .num) (small .positive))));
-        most = omega (arith, sum .most, small .most, div-le-self (p .num) (p .den));
+        positive = mul-pos (sum .positive) positive;
+        low = rw (add-one, pow-suc) (mul-le-mul (sum .low) low);
+        rest = omega (arith, mul-le-mul-right d (sum .rest), mul-le-mul-right (s .bottom) (le-of-lt (mod-lt p positive)));
+        most = omega (arith, sum .most, div-le-self p d);
       }
 
 -- a sum over proper blends has a denominator
@@ -87,14 +85,15 @@ module _ (x y u v : ℕ) (e : End x u) (f : End y v) (values : List ℕ) where
   -- so the parts of the four that are found in a table make the reading
   pub table-over : (w h : ℕ) → w ≤ 128 → h ≤ 128 → (t : Table) → t .count ≤ length (t .blends) → t .count ≤ length values →
       all (proper w h) (blendsOf t) ≡ true → (four : Four) → entries four ≡ entriesOver (overSquare x y) (blendsOf t) 0 →
-      (ps : List Fraction) → ps ≡ parts x y u v values (entries four) → 0 < total ps .den →
-      rounded (total ps) ≡ rounded (value (paired (blendsOf t) (take (t .count) values)) u v 1)
-  table-over w h hw hh t long full ok four found ps same positive =
+      (s : Sum) → 0 < s .bottom → exact s ≡ total (parts x y u v values (entries four)) →
+      s .whole + s .top / s .bottom ≡ rounded (value (paired (blendsOf t) (take (t .count) values)) u v 1)
+  table-over w h hw hh t long full ok four found s positive same =
       let bs = blendsOf t in
       let vs = take (t .count) values in
       let m = length-take-le (t .count) (t .blends) long in
       let n = length-take-le (t .count) values full in
-      sym (rounds-same (value (paired bs vs) u v 1) (total ps) (value-positive w h bs vs ok u v) positive
-      (subst (λ (fs : List Fraction). Equal (value (paired bs vs) u v 1) (total fs)) (sym (same ∙ ap (parts x y u v values) found))
+      sym (rounds-same (value (paired bs vs) u v 1) (exact s) (value-positive w h bs vs ok u v) positive
+      (subst (Equal (value (paired bs vs) u v 1)) (sym (same ∙ ap (λ (es : List Entry). total (parts x y u v values es)) found))
       (value-over bs vs 0 (proper-most w h bs hw hh ok) (omega arith)
-      (λ k lt. getD-take (t .count) values k 0 (omega arith) ∙ ap (λ (j : ℕ). getD values j 0) (omega arith)))))
+      (λ k lt. getD-take (t .count) values k 0 (omega arith) ∙ ap (λ (j : ℕ). getD values j 0) (omega arith)))) ∙
+      mul-add-div-right positive (s .whole) (s .top))

@@ -17,7 +17,6 @@ use Rattle.maps.specs.declared.Map.{Map}
 use Rattle.maps.specs.declared.splits.Step.{Step}
 use Rattle.maps.specs.declared.splits.Found.{Found}
 use Rattle.maps.specs.declared.Weight.{Weight}
-use Rattle.maps.specs.declared.values.Part.{Part}
 use Rattle.maps.specs.declared.values.Sum.{Sum}
 use Rattle.maps.specs.declared.values.Entry.{Entry}
 use Rattle.maps.specs.declared.values.Four.{Four}
@@ -97,19 +96,16 @@ weighed x y u v B =
     let f = weightAt x y u v B in
     record { blend = shape B; numerator = f .num; denominator = f .den }
 
+pub record Light (w : Weight) : Type 0 where
+  pub positive : 0 < w .denominator
+  pub low : w .denominator ≤ 16641
+  pub most : w .numerator ≤ 16641
+
 -- a value times that weight
 abbrev pub portion : ℕ → ℕ → ℕ → ℕ → Blend → ℕ → Fraction
 portion x y u v B c = let f = weightAt x y u v B in record { num = f .num * c; den = f .den }
 
--- a part of a reading, and the sum of some parts; with the bounds that keep each number below 2 to the 64
-abbrev pub fraction : Part → Fraction
-fraction p = record { num = p .num; den = p .den }
-
-pub record Small (p : Part) : Type 0 where
-  pub positive : 0 < p .den
-  pub low : p .den ≤ 16641
-  pub most : p .num ≤ 16641 * 65535
-
+-- a sum of n such numbers, with the bounds that keep its parts below 2 to the 64
 abbrev pub exact : Sum → Fraction
 exact s = record { num = s .whole * s .bottom + s .top; den = s .bottom }
 

@@ -12,18 +12,18 @@ use axis::shares::share_at;
 use axis::supports::spans_at;
 ghost use mathlib.Core.Path.{_≡_};
 ghost use mathlib.Core.Bool.{true};
-ghost use mathlib.Core.List.{map, _∷_, []};
+ghost use mathlib.Core.List.{map};
 ghost use Prim.Native.Nat.{ℕ, _+_, _≤_, _<_};
 ghost use lib.IntN.{pos, predℤ};
 ghost use lib.ListN.{length, take};
 ghost use Rattle.axis.specs.Range.{all, only};
-ghost use Rattle.axis.specs.Fraction.{plus, total};
+ghost use Rattle.axis.specs.Fraction.{plus};
 ghost use Rattle.mesh.specs.Blends.{anchored};
 ghost use Rattle.mesh.specs.Sound.{proper, overSquare, blendsOf};
 ghost use Rattle.axis.specs.Gap.{corner};
-ghost use Rattle.maps.specs.Values.{placeOf, readingAt, rounded, weightAt};
+ghost use Rattle.maps.specs.Values.{placeOf, readingAt};
 ghost use Rattle.maps.specs.Calls.{shape, weightOver};
-ghost use Rattle.maps.specs.Inner.{fraction, portion, Small, exact, SumOf, entries, entriesOver, weighed};
+ghost use Rattle.maps.specs.Inner.{entries, entriesOver, weighed, Light, portion, exact, SumOf};
 
 // A blend in document 01's coordinates.
 pub(crate) fn shape_of(x: Blend) -> Shape
@@ -62,22 +62,17 @@ fn is_over(b: Blend, x: usize, y: usize) -> bool
     spans_at(u, y)
 }
 
-// A fraction: the weight of a blend, or that times its value.
-struct Part {
-    num: usize,
-    den: usize,
-}
-
-// The weight of a blend over that square, at a corner of the square at knots (u, v), over the product of the two gaps in which the square lies.
-fn weight_at(b: Blend, x: usize, y: usize, u: usize, v: usize) -> Part
-    requires { ⌜ (u ≤ x + 1) × (v ≤ y + 1) ⌝ }
-    ensures { λ r. ⌜ fraction r ≡ weightAt x y u v b ⌝ }
+// A blend over that square with its weight at a corner of the square, at knots (u, v), over the product of the two gaps in which the square lies.
+fn weight_at(b: Blend, x: usize, y: usize, u: usize, v: usize) -> Weight
+    requires { ⌜ (proper 128 128 b ≡ true) × (x ≤ u) × (u ≤ x + 1) × (y ≤ v) × (v ≤ y + 1) ⌝ }
+    ensures { λ r. ⌜ (r ≡ weighed x y u v b) × Light r ⌝ }
 {
     let a = b.across;
     let c = b.up;
-    Part {
-        num: share_at(a, x, u) * share_at(c, y, v),
-        den: gap_at(a, x) * gap_at(c, y),
+    Weight {
+        blend: shape_of(b),
+        numerator: share_at(a, x, u) * share_at(c, y, v),
+        denominator: gap_at(a, x) * gap_at(c, y),
     }
 }
 
@@ -117,43 +112,20 @@ struct Sum {
     bottom: usize,
 }
 
-// A blend's value times its weight, a small fraction.
-fn part_of(b: Blend, value: u16, x: usize, y: usize, u: usize, v: usize) -> Part
-    requires { ⌜ (proper 128 128 b ≡ true) × (x ≤ u) × (u ≤ x + 1) × (y ≤ v) × (v ≤ y + 1) ⌝ }
-    ensures { λ r. ⌜ (fraction r ≡ portion x y u v b value) × Small r ⌝ }
+// A sum with one more blend's value times its weight, a fraction which is taken apart by its own denominator first. No denominator is above
+// 129 times 129, so with at most four of them each number stays below 2 to the 64.
+fn added(s: Sum, b: Blend, value: u16, x: usize, y: usize, u: usize, v: usize) -> Sum
+    requires { ⌜ SumOf 3 s × (proper 128 128 b ≡ true) × (x ≤ u) × (u ≤ x + 1) × (y ≤ v) × (v ≤ y + 1) ⌝ }
+    ensures { λ r. ⌜ (exact r ≡ plus (portion x y u v b value) (exact s)) × ((n : ℕ) → SumOf n s → SumOf (n + 1) r) ⌝ }
 {
     let weight = weight_at(b, x, y, u, v);
-    Part {
-        num: weight.num * value as usize,
-        den: weight.den,
-    }
-}
-
-// A sum with one more fraction, which is taken apart by its own denominator first. No denominator is above 129 times 129,
-// so with at most four of them each number stays below 2 to the 64.
-fn added(s: Sum, p: Part) -> Sum
-    requires { ⌜ Small p × SumOf 3 s ⌝ }
-    ensures { λ r. ⌜ (exact r ≡ plus (fraction p) (exact s)) × ((n : ℕ) → SumOf n s → SumOf (n + 1) r) ⌝ }
-{
+    let product = weight.numerator * value as usize;
+    let den = weight.denominator;
     Sum {
-        whole: s.whole + p.num / p.den,
-        top: s.top * p.den + p.num % p.den * s.bottom,
-        bottom: s.bottom * p.den,
+        whole: s.whole + product / den,
+        top: s.top * den + product % den * s.bottom,
+        bottom: s.bottom * den,
     }
-}
-
-// The sum of four fractions, rounded down.
-fn rounded_sum(a: Part, b: Part, c: Part, d: Part) -> usize
-    requires { ⌜ Small a × Small b × Small c × Small d ⌝ }
-    ensures { λ r. ⌜ r ≡ rounded (total (map fraction (a ∷ b ∷ c ∷ d ∷ []))) ⌝ }
-{
-    let none = Sum {
-        whole: 0,
-        top: 0,
-        bottom: 1,
-    };
-    let s = added(added(added(added(none, d), c), b), a);
-    s.whole + s.top / s.bottom
 }
 
 // How many of the table's blends lie over the unit square at a whole point.
@@ -252,25 +224,16 @@ pub(crate) fn reading_of(
     let j = four.second.place;
     let k = four.third.place;
     let l = four.fourth.place;
-    rounded_sum(
-        part_of(four.first.blend, values[i], x, y, m, n),
-        part_of(four.second.blend, values[j], x, y, m, n),
-        part_of(four.third.blend, values[k], x, y, m, n),
-        part_of(four.fourth.blend, values[l], x, y, m, n),
-    )
-}
-
-// A blend with its weight, in document 01's coordinates.
-fn entry_at(b: Blend, x: usize, y: usize, u: usize, v: usize) -> Weight
-    requires { ⌜ (proper 128 128 b ≡ true) × (u ≤ x + 1) × (v ≤ y + 1) ⌝ }
-    ensures { λ r. ⌜ r ≡ weighed x y u v b ⌝ }
-{
-    let weight = weight_at(b, x, y, u, v);
-    Weight {
-        blend: shape_of(b),
-        numerator: weight.num,
-        denominator: weight.den,
-    }
+    let none = Sum {
+        whole: 0,
+        top: 0,
+        bottom: 1,
+    };
+    let one = added(none, four.fourth.blend, values[l], x, y, m, n);
+    let two = added(one, four.third.blend, values[k], x, y, m, n);
+    let three = added(two, four.second.blend, values[j], x, y, m, n);
+    let sum = added(three, four.first.blend, values[i], x, y, m, n);
+    sum.whole + sum.top / sum.bottom
 }
 
 // The weights of the four blends over the unit square at a whole point, in table order.
@@ -285,10 +248,10 @@ pub(crate) fn weights_of(table: Table, w: usize, h: usize, u: usize, v: usize) -
     let m = u + 1;
     let n = v + 1;
     let four = four_over(table, x, y);
-    let first = entry_at(four.first.blend, x, y, m, n);
-    let second = entry_at(four.second.blend, x, y, m, n);
-    let third = entry_at(four.third.blend, x, y, m, n);
-    let fourth = entry_at(four.fourth.blend, x, y, m, n);
+    let first = weight_at(four.first.blend, x, y, m, n);
+    let second = weight_at(four.second.blend, x, y, m, n);
+    let third = weight_at(four.third.blend, x, y, m, n);
+    let fourth = weight_at(four.fourth.blend, x, y, m, n);
     Weights {
         number: 0,
         entries: [first, second, third, fourth],

@@ -1,11 +1,10 @@
 -- `maps::values::weights_of` meets its contract.
 use borrow.Author.Needs.{needs}
 use mathlib.Core.Path.{refl, ap, _∙_}
-use mathlib.Core.List.{List, map}
-use Rattle.mesh.specs.Sound.{blendsOf, overSquare}
+use mathlib.Core.List.{map}
+use Rattle.mesh.specs.Sound.{blendsOf}
 use Rattle.maps.specs.declared.values.Entry.{Entry}
 use Rattle.maps.specs.Calls.{weightOver}
-use Rattle.maps.specs.Inner.{weighed}
 use Rattle.maps.proofs.Over.{Listed, all-listed, entries-only}
 use Rattle.maps.proofs.values.weights_of.Statement.{statement}
 use Rattle.maps.proofs.values.weights_of.Tie as tie
@@ -32,7 +31,7 @@ returns c =
     let a = k .before .before .args in
     let blends = ap (map (λ (e : Entry). e .blend)) (f .four-over .ensures) ∙ entries-only _ (blendsOf (a .table)) 0 in
     (refl,
-    rw (one .entry-at .ensures, two .entry-at2 .ensures, three .entry-at3 .ensures, c .entry-at4 .ensures, k .before .low-knot .ensures .0, k .low-knot2 .ensures .0)
+    rw (one .weight-at .ensures .0, two .weight-at2 .ensures .0, three .weight-at3 .ensures .0, c .weight-at4 .ensures .0, k .before .low-knot .ensures .0, k .low-knot2 .ensures .0)
     (ap (map (weightOver (a .w) (a .h) (a .u) (a .v))) (rw (k .before .low-knot .ensures .0, k .low-knot2 .ensures .0) at blends)))
 
 pub weights-of-spec : {M : Type 1} → statement M
