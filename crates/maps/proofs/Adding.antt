@@ -1,5 +1,5 @@
 -- A reading as it is added up: a sum with one fraction more, and the sum over all blends by those over a square.
-use Prim.Native.Nat.{ℕ, zero, suc, _+_, _*_, _/_, _%_, _^_, _<_, _≤_}
+use Prim.Native.Nat.{ℕ, suc, _+_, _*_, _/_, _%_, _<_, _≤_}
 use native.Mathlib.Omega.{arith}
 use native.Mathlib.Nat.{mul-pos, mul-le-mul, mul-le-mul-right, div-le-self, mod-lt, le-of-lt, div-add-mod', pow-suc, mul-add-div-right}
 use native.Mathlib.Numerals.{add-one}

@@ -1,12 +1,12 @@
 -- Blends over a unit square: their gaps and shares there, the weight that they make at the square's corners, and the four entries of a table.
 use Prim.Native.Nat.{ℕ, zero, suc, _+_, _*_, _-_, _<_, _≤_}
 use native.Mathlib.Omega.{arith}
-use native.Mathlib.Nat.{mul-pos, mul-le-mul, mul-one, mul-comm, zero-mul, mul-zero}
+use native.Mathlib.Nat.{mul-pos, mul-le-mul, zero-mul, mul-zero}
 use mathlib.Core.Path.{_≡_, refl, sym, ap, _∙_}
-use mathlib.Core.Logic.{_⊎_, inl, inr, ⊎-elim}
+use mathlib.Core.Logic.{⊎-elim}
 use mathlib.Core.Bool.{Bool, true, false}
-use borrow.Author.Tests.{ltb-true, ltb-false, leb-true, leb-false, le-leb, eqb-true, eqb-false}
-use lib.Dec.{ltb, leb, eqb}
+use borrow.Author.Tests.{eqb-true}
+use lib.Dec.{eqb}
 use lib.ListN.{length, getD, drop, length-map, length-append, length-drop, length-take}
 use mathlib.Core.List.{List, [], _∷_, _++_, map, List·Memᴰ, List·Memᴰ·cases-cons, List·Memᴰ·not-nil}
 use mathlib.Core.List.List·Memᴰ.{List·Memᴰ·head, List·Memᴰ·tail}
@@ -15,12 +15,10 @@ use Rattle.axis.specs.Fraction.{Equal}
 use Rattle.mesh.specs.Weight.{weight}
 use Rattle.axis.specs.Range.{every, all, only}
 use Rattle.mesh.specs.Sound.{overSquare, proper, blendsOf, none, sound, fourEverywhere, noneNested}
-use Rattle.axis.specs.declared.Triple.{Triple}
 use Rattle.mesh.specs.declared.Table.{Table}
 use Rattle.mesh.specs.declared.Blend.{Blend}
 use Rattle.axis.proofs.Tests.{either, and-both, and-fails, every-at, all-at}
-use Rattle.axis.proofs.Hats.{Rise, hat-outside}
-use Rattle.mesh.proofs.Places.{Rises, ProperIn}
+use Rattle.mesh.proofs.Places.{ProperIn}
 use Rattle.mesh.proofs.Cutting.{proper-most}
 use Rattle.axis.proofs.Entries.{left-mem}
 use Rattle.axis.specs.Gap.{gap, share, corner}

@@ -2,19 +2,18 @@
 use crate::Shape;
 use crate::Weight;
 use crate::Weights;
-use mesh::Blend;
-use mesh::Table;
 use axis::knots;
 use axis::knots::coordinate;
 use axis::shares::corner_of;
 use axis::shares::gap_at;
 use axis::shares::share_at;
 use axis::supports::spans_at;
+use mesh::Blend;
+use mesh::Table;
 ghost use mathlib.Core.Path.{_≡_};
 ghost use mathlib.Core.Bool.{true};
 ghost use mathlib.Core.List.{map};
 ghost use Prim.Native.Nat.{ℕ, _+_, _≤_, _<_};
-ghost use lib.IntN.{pos, predℤ};
 ghost use lib.ListN.{length, take};
 ghost use Rattle.axis.specs.Range.{all, only};
 ghost use Rattle.axis.specs.Fraction.{plus};
@@ -189,10 +188,7 @@ pub(crate) fn four_over(table: Table, x: usize, y: usize) -> Four
                 first: second,
                 second: third,
                 third: fourth,
-                fourth: Entry {
-                    blend: b,
-                    place: i,
-                },
+                fourth: Entry { blend: b, place: i },
             };
             found += 1;
         }

@@ -4,7 +4,7 @@ use native.Mathlib.Omega.{arith}
 use native.Mathlib.Nat.{mul-le-mul}
 use mathlib.Core.Path.{ap, _∙_}
 use Prim.Native.Nat.{ℕ, _+_, _*_, _≤_}
-use Rattle.axis.specs.Fraction.{Fraction, plus}
+use Rattle.axis.specs.Fraction.{plus}
 use Rattle.maps.specs.declared.Weight.{Weight}
 use Rattle.maps.specs.Inner.{SumOf, exact}
 use Rattle.maps.proofs.Adding.{more, more-exact, more-small}
@@ -26,10 +26,11 @@ returns : tie.Need-returns
 returns c =
     let k = c .before .before .before .before .before in
     let a = k .before .args in
-    let w = k .weight-at in
-    (more-exact (a .s) (w .result .numerator * a .value) (w .result .denominator) ∙
-    ap (λ (r : Weight). plus (record { num = r .numerator * a .value; den = r .denominator }) (exact (a .s))) (w .ensures .0),
-    sum k)
+    let w = k .weight-at in (
+      more-exact (a .s) (w .result .numerator * a .value) (w .result .denominator) ∙
+          ap (λ (r : Weight). plus (record { num = r .numerator * a .value; den = r .denominator }) (exact (a .s))) (w .ensures .0),
+      sum k,
+    )
 
 pub added-spec : {M : Type 1} → statement M
 added-spec =

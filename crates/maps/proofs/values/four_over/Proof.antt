@@ -1,18 +1,16 @@
 -- `maps::values::four_over` meets its contract. The invariant: the entries found are the last of the four, and those that remain follow them.
 use borrow.Author.Needs.{needs}
 use native.Mathlib.Omega.{arith}
-use Prim.Native.Nat.{ℕ, _+_, _-_, _≤_, _<_}
+use Prim.Native.Nat.{_+_, _-_, _≤_, _<_}
 use mathlib.Core.Path.{_≡_, refl, sym, _∙_}
 use mathlib.Core.Logic.{⊎-elim}
-use mathlib.Core.List.{List, _∷_}
+use mathlib.Core.List.{_∷_}
 use borrow.Author.Tests.{ltb-true, ltb-false}
 use lib.Dec.{ltb}
 use lib.ListN.{drop, getD, length, length-map}
 use Rattle.axis.proofs.Tests.{either}
 use Rattle.mesh.specs.Sound.{blendsOf, none, overSquare}
-use Rattle.mesh.specs.declared.Blend.{Blend}
 use Rattle.mesh.proofs.Cutting.{blends-turn, blends-end}
-use Rattle.maps.specs.declared.values.Entry.{Entry}
 use Rattle.maps.specs.Inner.{entriesOver}
 use Rattle.maps.proofs.Over.{Window, window-left, window-more, window-all, entries-length}
 use Rattle.maps.proofs.values.four_over.Statement.{statement}
@@ -51,9 +49,6 @@ turn c =
     let full : length (s .args .t1 .blends) ≡ 1024 = simp length-map at (s .good .0 .1 .1 .1 .0 .1 .0 .1) in
     rw (blends-turn (s .args .t1) (l .i) (inside c) (omega arith)) at (l .inv .1)
 
-element-copy-out-t15 : tie.Need-element-copy-out-t15 Inv-loop μ-loop
-element-copy-out-t15 c = omega arith
-
 loop-holds : tie.Need-loop-holds Inv-loop μ-loop
 loop-holds c = (omega arith, record { most = omega arith; joins = refl })
 
@@ -62,15 +57,6 @@ mul-b c = omega (arith, inside c)
 
 element-copy-out-b : tie.Need-element-copy-out-b Inv-loop μ-loop
 element-copy-out-b c = omega (arith, inside c)
-
-is-over-requires : tie.Need-is-over-requires Inv-loop μ-loop
-is-over-requires c κs = search needs
-
-add-found : tie.Need-add-found Inv-loop μ-loop
-add-found c = omega arith
-
-add-i : tie.Need-add-i Inv-loop μ-loop
-add-i c = omega arith
 
 loop-less : tie.Need-loop-less Inv-loop μ-loop
 loop-less c = omega (arith, inside (c .before .before .before))
@@ -96,13 +82,13 @@ four-over-spec =
     (tie.spec
     Inv-loop
     μ-loop
-    element-copy-out-t15
+    (λ c. omega arith)
     loop-holds
     mul-b
     element-copy-out-b
-    is-over-requires
-    add-found
-    add-i
+    (λ c κs. search needs)
+    (λ c. omega arith)
+    (λ c. omega arith)
     loop-less
     loop-again
     returns)

@@ -3,7 +3,7 @@ use borrow.Author.Needs.{needs}
 use native.Mathlib.Omega.{arith}
 use mathlib.Core.Path.{ap}
 use Prim.Native.Nat.{ℕ, _+_}
-use Rattle.axis.proofs.Gaps.{End, corner-in, corner-end}
+use Rattle.axis.proofs.Gaps.{corner-in, corner-end}
 use Rattle.maps.proofs.values.low_knot.Statement.{statement}
 use Rattle.maps.proofs.values.low_knot.Tie as tie
 

@@ -29,10 +29,11 @@ returns c =
     let f = one .before in
     let k = f .before in
     let a = k .before .before .args in
-    let blends = ap (map (λ (e : Entry). e .blend)) (f .four-over .ensures) ∙ entries-only _ (blendsOf (a .table)) 0 in
-    (refl,
-    rw (one .weight-at .ensures .0, two .weight-at2 .ensures .0, three .weight-at3 .ensures .0, c .weight-at4 .ensures .0, k .before .low-knot .ensures .0, k .low-knot2 .ensures .0)
-    (ap (map (weightOver (a .w) (a .h) (a .u) (a .v))) (rw (k .before .low-knot .ensures .0, k .low-knot2 .ensures .0) at blends)))
+    let blends = ap (map (λ (e : Entry). e .blend)) (f .four-over .ensures) ∙ entries-only _ (blendsOf (a .table)) 0 in (
+      refl,
+      rw (one .weight-at .ensures .0, two .weight-at2 .ensures .0, three .weight-at3 .ensures .0, c .weight-at4 .ensures .0, k .before .low-knot .ensures .0, k .low-knot2 .ensures .0)
+          (ap (map (weightOver (a .w) (a .h) (a .u) (a .v))) (rw (k .before .low-knot .ensures .0, k .low-knot2 .ensures .0) at blends)),
+    )
 
 pub weights-of-spec : {M : Type 1} → statement M
 weights-of-spec =
