@@ -1,30 +1,32 @@
--- A blend over a unit square: its gaps and shares there, and the weight that they make at the square's corners.
-use Prim.Native.Nat.{ℕ, _+_, _*_, _-_, _<_, _≤_}
+-- Blends over a unit square: their gaps and shares there, the weight that they make at the square's corners, and the four entries of a table.
+use Prim.Native.Nat.{ℕ, zero, suc, _+_, _*_, _-_, _<_, _≤_}
 use native.Mathlib.Omega.{arith}
-use native.Mathlib.Nat.{mul-pos, mul-le-mul, mul-one, mul-comm, zero-mul, mul-zero}
-use mathlib.Core.Path.{_≡_, refl}
-use mathlib.Core.Logic.{_⊎_, inl, inr, ⊎-elim}
-use mathlib.Core.Bool.{true, false}
-use borrow.Author.Tests.{ltb-true, ltb-false, leb-true, leb-false, le-leb, eqb-true, eqb-false}
-use lib.Dec.{ltb, leb, eqb}
-use lib.ListN.{length, getD}
-use mathlib.Core.List.{List}
+use native.Mathlib.Nat.{mul-pos, mul-le-mul, zero-mul, mul-zero}
+use mathlib.Core.Path.{_≡_, refl, sym, ap, _∙_}
+use mathlib.Core.Logic.{⊎-elim}
+use mathlib.Core.Bool.{Bool, true, false}
+use borrow.Author.Tests.{eqb-true}
+use lib.Dec.{eqb}
+use lib.ListN.{length, getD, drop, length-map, length-append, length-drop, length-take}
+use mathlib.Core.List.{List, [], _∷_, _++_, map, List·Memᴰ, List·Memᴰ·cases-cons, List·Memᴰ·not-nil}
+use mathlib.Core.List.List·Memᴰ.{List·Memᴰ·head, List·Memᴰ·tail}
 use Rattle.axis.specs.Triple.{hat, spans}
 use Rattle.axis.specs.Fraction.{Equal}
 use Rattle.mesh.specs.Weight.{weight}
 use Rattle.axis.specs.Range.{every, all, only}
 use Rattle.mesh.specs.Sound.{overSquare, proper, blendsOf, none, sound, fourEverywhere, noneNested}
-use Rattle.axis.specs.declared.Triple.{Triple}
 use Rattle.mesh.specs.declared.Table.{Table}
 use Rattle.mesh.specs.declared.Blend.{Blend}
 use Rattle.axis.proofs.Tests.{either, and-both, and-fails, every-at, all-at}
-use Rattle.axis.proofs.Hats.{Rise, hat-outside}
-use Rattle.mesh.proofs.Places.{Rises, ProperIn}
+use Rattle.mesh.proofs.Places.{ProperIn}
 use Rattle.mesh.proofs.Cutting.{proper-most}
 use Rattle.axis.proofs.Entries.{left-mem}
 use Rattle.axis.specs.Gap.{gap, share, corner}
 use Rattle.axis.proofs.Sums.{times-equal}
 use Rattle.axis.proofs.Triples.{rise-of}
+use Rattle.maps.specs.declared.values.Entry.{Entry}
+use Rattle.maps.specs.declared.values.Four.{Four}
+use Rattle.maps.specs.Inner.{entriesOver, entries}
 use Rattle.axis.proofs.Gaps.{End, corner-in, gap-most, gap-positive, hat-outside-step, hat-share, share-most}
 
 -- the weight of a blend at a corner of a square, over the gaps in which the square lies: both numbers are small
@@ -74,3 +76,71 @@ pub proper-at : (w h : ℕ) → w ≤ 128 → h ≤ 128 → (t : Table) → all 
     t .count ≤ length (t .blends) → proper 128 128 (getD (t .blends) i none) ≡ true
 proper-at w h hw hh t e i lt le =
     all-at (proper 128 128) (blendsOf t) (proper-most w h (blendsOf t) hw hh e) _ (left-mem (t .blends) (t .count) i le none lt)
+
+-- the entries that pass a test: their blends are those that do, and each has its place
+module _ (test : Blend → Bool) where
+  pub entries-only : (bs : List Blend) (i : ℕ) → map (λ (e : Entry). e .blend) (entriesOver test bs i) ≡ only test bs
+  entries-only [] i = refl
+  entries-only (B ∷ bs) i =
+      let rest = entries-only bs (i + 1) in ⊎-elim (λ t. rw t (ap (λ (l : List Blend). B ∷ l) rest)) (λ t. rw t rest) (either (test B))
+
+  pub entries-length : (bs : List Blend) (i : ℕ) → length (entriesOver test bs i) ≡ length (only test bs)
+  entries-length bs i = sym (length-map (entriesOver test bs i) (λ (e : Entry). e .blend)) ∙ ap length (entries-only bs i)
+
+  pub entry-in : (bs : List Blend) (i : ℕ) (e : Entry) → List·Memᴰ e (entriesOver test bs i) →
+      (e .place < i + length bs) × List·Memᴰ (e .blend) bs
+  entry-in [] i e m = absurd (List·Memᴰ·not-nil m)
+  entry-in (B ∷ bs) i e m =
+      let later : List·Memᴰ e (entriesOver test bs (i + 1)) → (e .place < i + length (B ∷ bs)) × List·Memᴰ (e .blend) (B ∷ bs) =
+      λ k. let r = entry-in bs (i + 1) e k in (omega (arith, r .0), List·Memᴰ·tail (r .1)) in
+      ⊎-elim
+      (λ t. ⊎-elim (λ q. rw q (omega arith, List·Memᴰ·head refl)) later (List·Memᴰ·cases-cons (rw t at m)))
+      (λ t. later (rw t at m))
+      (either (test B))
+
+-- The last n entries of four, with those that are left, are a whole list of four.
+pub record Window (whole left : List Entry) (n : ℕ) (f : Four) : Type 0 where
+  pub most : n ≤ 4
+  pub joins : drop (4 - n) (entries f) ++ left ≡ whole
+
+module _ {whole : List Entry} (four : length whole ≡ 4) where
+  pub window-left : {left : List Entry} {n : ℕ} {f : Four} → Window whole left n f → n + length left ≡ 4
+  window-left {left} {n} {f} w = omega (arith, w .most, simp (length-append, length-drop) at (ap length (w .joins)))
+
+  pub window-more : {left : List Entry} {n : ℕ} {f : Four} {e : Entry} → Window whole (e ∷ left) n f →
+      Window whole left (n + 1) (record { first = f .second; second = f .third; third = f .fourth; fourth = e })
+  window-more {left} {n} {f} {e} w = record { most = omega (arith, window-left w); joins = shifted n (omega (arith, window-left w)) ∙ w .joins }
+    where
+      shifted : (n : ℕ) → n < 4 → drop (4 - (n + 1)) (f .second ∷ f .third ∷ f .fourth ∷ e ∷ []) ++ left ≡ drop (4 - n) (entries f) ++ e ∷ left
+      shifted zero lt = refl
+      shifted (suc zero) lt = refl
+      shifted (suc (suc zero)) lt = refl
+      shifted (suc (suc (suc zero))) lt = refl
+      shifted (suc (suc (suc (suc n)))) lt = absurd (omega arith)
+
+  pub window-all : {left : List Entry} {n : ℕ} {f : Four} → Window whole left n f → 4 ≤ n → entries f ≡ whole
+  window-all {left = []} {n = n} w le = let e : n ≡ 4 = omega (arith, w .most) in rw e at (w .joins)
+  window-all {left = e ∷ left} w le = absurd (omega (arith, window-left w))
+
+-- each of the four that are found in a table of proper blends stands in it
+pub record Listed (t : Table) (e : Entry) : Type 0 where
+  pub inside : e .place < t .count
+  pub is-proper : proper 128 128 (e .blend) ≡ true
+
+pub all-listed : (w h : ℕ) → w ≤ 128 → h ≤ 128 → (t : Table) → all (proper w h) (blendsOf t) ≡ true →
+    (x y : ℕ) (f : Four) → entries f ≡ entriesOver (overSquare x y) (blendsOf t) 0 →
+    Listed t (f .first) × Listed t (f .second) × Listed t (f .third) × Listed t (f .fourth)
+all-listed w h hw hh t ok x y f e = (
+  listed _ (List·Memᴰ·head refl),
+  listed _ (List·Memᴰ·tail (List·Memᴰ·head refl)),
+  listed _ (List·Memᴰ·tail (List·Memᴰ·tail (List·Memᴰ·head refl))),
+  listed _ (List·Memᴰ·tail (List·Memᴰ·tail (List·Memᴰ·tail (List·Memᴰ·head refl)))),
+)
+  where
+    listed : (a : Entry) → List·Memᴰ a (entries f) → Listed t a
+    listed a m =
+        let r = entry-in (overSquare x y) (blendsOf t) 0 a (rw e at m) in
+        record {
+          inside = omega (arith, r .0, length-take (t .count) (t .blends));
+          is-proper = all-at (proper 128 128) (blendsOf t) (proper-most w h (blendsOf t) hw hh ok) (a .blend) (r .1);
+        }

@@ -1,11 +1,12 @@
 -- What the maps' own functions work on. Only contracts of functions that the crate keeps to itself cite this file.
-use Prim.Native.Nat.{ℕ, _+_, _-_, _≤_, _<_}
+use Prim.Native.Nat.{ℕ, _+_, _-_, _*_, _^_, _≤_, _<_}
 use mathlib.Core.Path.{_≡_}
 use mathlib.Core.Bool.{Bool, true, false, cond}
 use mathlib.Core.List.{List, [], _∷_, _++_, map}
 use lib.Dec.{eqb}
 use lib.ListN.{length, take, set, replicate}
 use Rattle.axis.specs.Limits.{largestSide, mostSplits, mostBlends}
+use Rattle.axis.specs.Fraction.{Fraction}
 use Rattle.mesh.specs.declared.Split.{Split}
 use Rattle.mesh.specs.declared.Lines.{Lines}
 use Rattle.mesh.specs.declared.Table.{Table}
@@ -14,13 +15,17 @@ use Rattle.mesh.specs.Lines.{layoutOf, allowed}
 use Rattle.mesh.specs.Sound.{sound, table}
 use Rattle.mesh.specs.Bytes.{place}
 use Rattle.maps.specs.declared.splits.Step.{Step}
-use Rattle.maps.specs.Plain.{Plain, blends}
+use Rattle.mesh.specs.Splits.{liveOf, withLine, soundWith, given, exactNumber, chosen}
 use Rattle.maps.specs.declared.Map.{Map}
 use Rattle.maps.specs.declared.Changed.{Changed}
-use Rattle.maps.specs.Values.{carried, drawn}
+use Rattle.maps.specs.declared.Weight.{Weight}
+use Rattle.maps.specs.declared.values.Sum.{Sum}
+use Rattle.maps.specs.declared.values.Entry.{Entry}
+use Rattle.maps.specs.declared.values.Four.{Four}
+use Rattle.maps.specs.Plain.{Plain, blends}
+use Rattle.maps.specs.Values.{carried, drawn, weightAt}
 use Rattle.maps.specs.Record.{plain, recordOf}
-use Rattle.maps.specs.Calls.{changed}
-use Rattle.mesh.specs.Splits.{liveOf, withLine, soundWith, given, exactNumber, chosen}
+use Rattle.maps.specs.Calls.{changed, shape}
 
 -- the lines with one split more
 abbrev pub withSplit : Lines → Split → Lines
@@ -85,3 +90,38 @@ Drawable m r =
 -- the map with the line drawn, or the step's refusal
 abbrev pub drawnBy : Map → Step → Changed
 drawnBy m r = cond (eqb (r .number) 0) (changed 0 (recordOf (drawn (plain m) (r .split)))) (changed (r .number) m)
+
+-- the blends of a list that pass a test, each with its place, counted from i
+abbrev pub entriesOver : (Blend → Bool) → List Blend → ℕ → List Entry
+entriesOver test [] i = []
+entriesOver test (B ∷ bs) i =
+    let rest = entriesOver test bs (i + 1) in
+    cond (test B) (record { blend = B; place = i } ∷ rest) rest
+
+abbrev pub entries : Four → List Entry
+entries f = f .first ∷ f .second ∷ f .third ∷ f .fourth ∷ []
+
+-- a blend with its weight at a corner of a square
+abbrev pub weighed : ℕ → ℕ → ℕ → ℕ → Blend → Weight
+weighed x y u v B =
+    let f = weightAt x y u v B in
+    record { blend = shape B; numerator = f .num; denominator = f .den }
+
+pub record Light (w : Weight) : Type 0 where
+  pub positive : 0 < w .denominator
+  pub low : w .denominator ≤ 16641
+  pub most : w .numerator ≤ 16641
+
+-- a value times that weight
+abbrev pub portion : ℕ → ℕ → ℕ → ℕ → Blend → ℕ → Fraction
+portion x y u v B c = let f = weightAt x y u v B in record { num = f .num * c; den = f .den }
+
+-- a sum of n such numbers, with the bounds that keep its parts below 2 to the 64
+abbrev pub exact : Sum → Fraction
+exact s = record { num = s .whole * s .bottom + s .top; den = s .bottom }
+
+pub record SumOf (n : ℕ) (s : Sum) : Type 0 where
+  pub positive : 0 < s .bottom
+  pub low : s .bottom ≤ 16641 ^ n
+  pub rest : s .top ≤ n * s .bottom
+  pub most : s .whole ≤ n * (16641 * 65535)

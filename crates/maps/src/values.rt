@@ -2,31 +2,32 @@
 use crate::Shape;
 use crate::Weight;
 use crate::Weights;
-use mesh::Blend;
-use mesh::Table;
 use axis::knots;
 use axis::knots::coordinate;
 use axis::shares::corner_of;
 use axis::shares::gap_at;
 use axis::shares::share_at;
 use axis::supports::spans_at;
+use mesh::Blend;
+use mesh::Table;
 ghost use mathlib.Core.Path.{_≡_};
 ghost use mathlib.Core.Bool.{true};
 ghost use mathlib.Core.List.{map};
-ghost use Prim.Native.Nat.{_+_, _*_, _/_, _%_, _^_, _≤_, _<_};
-ghost use lib.IntN.{pos, predℤ};
+ghost use Prim.Native.Nat.{ℕ, _+_, _≤_, _<_};
 ghost use lib.ListN.{length, take};
+ghost use Rattle.axis.specs.Limits.{largestSide, mostBlends};
 ghost use Rattle.axis.specs.Range.{all, only};
-ghost use Rattle.axis.specs.Triple.{rising, spans};
+ghost use Rattle.axis.specs.Fraction.{plus};
 ghost use Rattle.mesh.specs.Blends.{anchored};
 ghost use Rattle.mesh.specs.Sound.{proper, overSquare, blendsOf};
-ghost use Rattle.axis.specs.Gap.{corner, gap, share};
+ghost use Rattle.axis.specs.Gap.{corner};
 ghost use Rattle.maps.specs.Values.{placeOf, readingAt};
 ghost use Rattle.maps.specs.Calls.{shape, weightOver};
+ghost use Rattle.maps.specs.Inner.{entries, entriesOver, weighed, Light, portion, exact, SumOf};
 
 // A blend in document 01's coordinates.
 pub(crate) fn shape_of(x: Blend) -> Shape
-    requires { ⌜ proper 128 128 x ≡ true ⌝ }
+    requires { ⌜ proper largestSide largestSide x ≡ true ⌝ }
     ensures { λ r. ⌜ r ≡ shape x ⌝ }
 {
     let a = x.across;
@@ -41,6 +42,14 @@ pub(crate) fn shape_of(x: Blend) -> Shape
     }
 }
 
+// The knot at the low end of the unit step at a coordinate of a side. The coordinate's own knot is an end of that step.
+fn low_knot(side: usize, u: usize) -> usize
+    requires { ⌜ (1 ≤ side) × (side ≤ 128) × (u ≤ side) ⌝ }
+    ensures { λ r. ⌜ (r ≡ corner side u + 1) × (r ≤ u + 1) × (u ≤ r) ⌝ }
+{
+    corner_of(side, u) + 1
+}
+
 // Whether the unit square whose low corner is at knots (x, y) lies in the blend's support.
 fn is_over(b: Blend, x: usize, y: usize) -> bool
     ensures { λ r. ⌜ r ≡ overSquare x y b ⌝ }
@@ -53,24 +62,18 @@ fn is_over(b: Blend, x: usize, y: usize) -> bool
     spans_at(u, y)
 }
 
-// The numerator of the weight of a blend over that square, at a corner of the square at knots (u, v).
-fn numerator_at(b: Blend, x: usize, y: usize, u: usize, v: usize) -> usize
-    requires { ⌜ (proper 128 128 b ≡ true) × (overSquare x y b ≡ true) × (x ≤ u) × (u ≤ x + 1) × (y ≤ v) × (v ≤ y + 1) ⌝ }
-    ensures { λ r. ⌜ r ≡ share (b .across) x u * share (b .up) y v ⌝ }
+// A blend over that square with its weight at a corner of the square, at knots (u, v), over the product of the two gaps in which the square lies.
+fn weight_at(b: Blend, x: usize, y: usize, u: usize, v: usize) -> Weight
+    requires { ⌜ (proper largestSide largestSide b ≡ true) × (x ≤ u) × (u ≤ x + 1) × (y ≤ v) × (v ≤ y + 1) ⌝ }
+    ensures { λ r. ⌜ (r ≡ weighed x y u v b) × Light r ⌝ }
 {
     let a = b.across;
     let c = b.up;
-    share_at(a, x, u) * share_at(c, y, v)
-}
-
-// The denominator of that weight: the product of the two gaps in which the square lies.
-fn denominator_at(b: Blend, x: usize, y: usize) -> usize
-    requires { ⌜ proper 128 128 b ≡ true ⌝ }
-    ensures { λ r. ⌜ r ≡ gap (b .across) x * gap (b .up) y ⌝ }
-{
-    let a = b.across;
-    let c = b.up;
-    gap_at(a, x) * gap_at(c, y)
+    Weight {
+        blend: shape_of(b),
+        numerator: share_at(a, x, u) * share_at(c, y, v),
+        denominator: gap_at(a, x) * gap_at(c, y),
+    }
 }
 
 // Whether the blend's anchor is at knots (m, n).
@@ -87,7 +90,7 @@ fn is_anchored(b: Blend, m: usize, n: usize) -> bool
 
 // The table place of the blend with the anchor at knots (m, n); the table's count where there is none.
 pub(crate) fn place_of(table: Table, m: usize, n: usize) -> usize
-    requires { ⌜ table .count ≤ 1024 ⌝ }
+    requires { ⌜ table .count ≤ mostBlends ⌝ }
     ensures { λ r. ⌜ r ≡ placeOf (blendsOf table) m n ⌝ }
 {
     let count = table.count;
@@ -102,13 +105,6 @@ pub(crate) fn place_of(table: Table, m: usize, n: usize) -> usize
     count
 }
 
-// A value as a number to calculate with.
-fn wide(value: u16) -> usize
-    ensures { λ r. ⌜ (r ≡ value) × (r ≤ 65535) ⌝ }
-{
-    value as usize
-}
-
 // A sum of fractions: a whole number, and a rest over the product of the denominators.
 struct Sum {
     whole: usize,
@@ -116,12 +112,15 @@ struct Sum {
     bottom: usize,
 }
 
-// A sum with one more fraction, which is taken apart by its own denominator first. No denominator is above 129 times 129,
-// so with at most four of them each number stays below 2 to the 64.
-fn added(s: Sum, product: usize, den: usize) -> Sum
-    requires { ⌜ (0 < den) × (den ≤ 16641) × (s .whole + product < 2 ^ 63) × (s .bottom ≤ 16641 ^ 3) × (s .top ≤ 4 * s .bottom) ⌝ }
-    ensures { λ r. ⌜ (r .whole ≡ s .whole + product / den) × (r .top ≡ s .top * den + product % den * s .bottom) × (r .bottom ≡ s .bottom * den) ⌝ }
+// A sum with one more blend's value times its weight, a fraction which is taken apart by its own denominator first. No denominator is above
+// 129 times 129, so with at most four of them each number stays below 2 to the 64.
+fn added(s: Sum, b: Blend, value: u16, x: usize, y: usize, u: usize, v: usize) -> Sum
+    requires { ⌜ SumOf 3 s × (proper largestSide largestSide b ≡ true) × (x ≤ u) × (u ≤ x + 1) × (y ≤ v) × (v ≤ y + 1) ⌝ }
+    ensures { λ r. ⌜ (exact r ≡ plus (portion x y u v b value) (exact s)) × ((n : ℕ) → SumOf n s → SumOf (n + 1) r) ⌝ }
 {
+    let weight = weight_at(b, x, y, u, v);
+    let product = weight.numerator * value as usize;
+    let den = weight.denominator;
     Sum {
         whole: s.whole + product / den,
         top: s.top * den + product % den * s.bottom,
@@ -129,81 +128,109 @@ fn added(s: Sum, product: usize, den: usize) -> Sum
     }
 }
 
-
-// The reading at the whole point (u, v): the weights of the blends over its unit square times their values, rounded down.
-pub(crate) fn reading_of(
-    table: Table,
-    values: [u16; 1024],
-    w: usize,
-    h: usize,
-    u: usize,
-    v: usize,
-) -> usize
-    requires { ⌜ (table .count ≤ 1024) × (all (proper w h) (blendsOf table) ≡ true) ×
-        (length (only (overSquare (corner w u + 1) (corner h v + 1)) (blendsOf table)) ≡ 4) ×
-        (1 ≤ w) × (w ≤ 128) × (1 ≤ h) × (h ≤ 128) × (u ≤ w) × (v ≤ h) ⌝ }
-    ensures { λ r. ⌜ r ≡ readingAt (blendsOf table) (take (table .count) values) u v ⌝ }
-{
-    let x = corner_of(w, u) + 1;
-    let y = corner_of(h, v) + 1;
-    let count = table.count;
-    let mut sum = Sum {
-        whole: 0,
-        top: 0,
-        bottom: 1,
-    };
-    let mut i = 0;
-    while i < count {
-        let b = table.blends[i];
-        if is_over(b, x, y) {
-            let value = wide(values[i]);
-            let product = numerator_at(b, x, y, u + 1, v + 1) * value;
-            sum = added(sum, product, denominator_at(b, x, y));
-        }
-        i += 1;
-    }
-    sum.whole + sum.top / sum.bottom
+// A blend of a table, and its place there.
+pub(crate) struct Entry {
+    pub blend: Blend,
+    pub place: usize,
 }
 
-// The weights of the four blends over the unit square at a whole point, in table order.
-pub(crate) fn weights_of(table: Table, w: usize, h: usize, u: usize, v: usize) -> Weights
-    requires { ⌜ (table .count ≤ 1024) × (all (proper w h) (blendsOf table) ≡ true) ×
-        (length (only (overSquare (corner w u + 1) (corner h v + 1)) (blendsOf table)) ≡ 4) ×
-        (1 ≤ w) × (w ≤ 128) × (1 ≤ h) × (h ≤ 128) × (u ≤ w) × (v ≤ h) ⌝ }
-    ensures { λ r. ⌜ (r .number ≡ 0) × (r .entries ≡ map (weightOver w h u v) (only (overSquare (corner w u + 1) (corner h v + 1)) (blendsOf table))) ⌝ }
+pub(crate) struct Four {
+    pub first: Entry,
+    pub second: Entry,
+    pub third: Entry,
+    pub fourth: Entry,
+}
+
+// The four blends over the unit square whose low corner is at knots (x, y), in table order. The last four found are kept, so that none is
+// stored by an index.
+pub(crate) fn four_over(table: Table, x: usize, y: usize) -> Four
+    requires { ⌜ (table .count ≤ mostBlends) × (length (only (overSquare x y) (blendsOf table)) ≡ 4) ⌝ }
+    ensures { λ r. ⌜ entries r ≡ entriesOver (overSquare x y) (blendsOf table) 0 ⌝ }
 {
-    let x = corner_of(w, u) + 1;
-    let y = corner_of(h, v) + 1;
-    let count = table.count;
-    let none = Weight {
-        blend: Shape {
-            l: 0,
-            m: 0,
-            r: 0,
-            b: 0,
-            n: 0,
-            t: 0,
-        },
-        numerator: 0,
-        denominator: 0,
+    let none = Entry {
+        blend: table.blends[0],
+        place: 0,
     };
-    let mut entries = [none; 4];
-    let mut found = 0;
+    let mut four = Four {
+        first: none,
+        second: none,
+        third: none,
+        fourth: none,
+    };
+    let mut found: usize = 0;
     let mut i = 0;
-    while i < count {
+    while found < 4 {
         let b = table.blends[i];
         if is_over(b, x, y) {
-            entries[found] = Weight {
-                blend: shape_of(b),
-                numerator: numerator_at(b, x, y, u + 1, v + 1),
-                denominator: denominator_at(b, x, y),
+            let second = four.second;
+            let third = four.third;
+            let fourth = four.fourth;
+            four = Four {
+                first: second,
+                second: third,
+                third: fourth,
+                fourth: Entry { blend: b, place: i },
             };
             found += 1;
         }
         i += 1;
     }
+    four
+}
+
+// The reading at the whole point (u, v): the weights of the blends over its unit square times their values, rounded down.
+pub(crate) fn reading_of(
+    table: Table,
+    values: [u16; Table::MOST_BLENDS],
+    w: usize,
+    h: usize,
+    u: usize,
+    v: usize,
+) -> usize
+    requires { ⌜ (table .count ≤ mostBlends) × (all (proper w h) (blendsOf table) ≡ true) ×
+        (length (only (overSquare (corner w u + 1) (corner h v + 1)) (blendsOf table)) ≡ 4) ×
+        (1 ≤ w) × (w ≤ largestSide) × (1 ≤ h) × (h ≤ largestSide) × (u ≤ w) × (v ≤ h) ⌝ }
+    ensures { λ r. ⌜ r ≡ readingAt (blendsOf table) (take (table .count) values) u v ⌝ }
+{
+    let x = low_knot(w, u);
+    let y = low_knot(h, v);
+    let m = u + 1;
+    let n = v + 1;
+    let four = four_over(table, x, y);
+    let i = four.first.place;
+    let j = four.second.place;
+    let k = four.third.place;
+    let l = four.fourth.place;
+    let none = Sum {
+        whole: 0,
+        top: 0,
+        bottom: 1,
+    };
+    let one = added(none, four.fourth.blend, values[l], x, y, m, n);
+    let two = added(one, four.third.blend, values[k], x, y, m, n);
+    let three = added(two, four.second.blend, values[j], x, y, m, n);
+    let sum = added(three, four.first.blend, values[i], x, y, m, n);
+    sum.whole + sum.top / sum.bottom
+}
+
+// The weights of the four blends over the unit square at a whole point, in table order.
+pub(crate) fn weights_of(table: Table, w: usize, h: usize, u: usize, v: usize) -> Weights
+    requires { ⌜ (table .count ≤ mostBlends) × (all (proper w h) (blendsOf table) ≡ true) ×
+        (length (only (overSquare (corner w u + 1) (corner h v + 1)) (blendsOf table)) ≡ 4) ×
+        (1 ≤ w) × (w ≤ largestSide) × (1 ≤ h) × (h ≤ largestSide) × (u ≤ w) × (v ≤ h) ⌝ }
+    ensures { λ r. ⌜ (r .number ≡ 0) × (r .entries ≡ map (weightOver w h u v) (only (overSquare (corner w u + 1) (corner h v + 1)) (blendsOf table))) ⌝ }
+{
+    let x = low_knot(w, u);
+    let y = low_knot(h, v);
+    let m = u + 1;
+    let n = v + 1;
+    let four = four_over(table, x, y);
+    let first = weight_at(four.first.blend, x, y, m, n);
+    let second = weight_at(four.second.blend, x, y, m, n);
+    let third = weight_at(four.third.blend, x, y, m, n);
+    let fourth = weight_at(four.fourth.blend, x, y, m, n);
     Weights {
         number: 0,
-        entries: entries,
+        entries: [first, second, third, fourth],
     }
 }

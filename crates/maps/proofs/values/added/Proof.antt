@@ -1,45 +1,48 @@
--- `maps::values::added` meets its contract.
+-- `maps::values::added` meets its contract: each of its numbers is at most one of the sum, which is small.
 use borrow.Author.Needs.{needs}
 use native.Mathlib.Omega.{arith}
-use native.Mathlib.Nat.{div-le-self, mod-lt, mul-le-mul}
-use Prim.Native.Nat.{_*_, _%_, _^_, _≤_}
+use native.Mathlib.Nat.{mul-le-mul}
+use mathlib.Core.Path.{ap, _∙_}
+use Prim.Native.Nat.{ℕ, _+_, _*_, _≤_}
+use Rattle.axis.specs.Fraction.{plus}
+use Rattle.maps.specs.declared.Weight.{Weight}
+use Rattle.maps.specs.Inner.{SumOf, exact}
+use Rattle.maps.proofs.Adding.{more, more-exact, more-small}
 use Rattle.maps.proofs.values.added.Statement.{statement}
 use Rattle.maps.proofs.values.added.Tie as tie
 
--- the products are at most a few times the largest product of four denominators
-top-most : (c : tie.Start) → c .args .s .top * c .args .den ≤ 4 * 16641 ^ 3 * 16641
-top-most c = let h : c .args .s .top ≤ 4 * 16641 ^ 3 = omega arith in mul-le-mul h (c .pre .1)
+product-most : (c : tie.After-weight-at) → c .weight-at .result .numerator * c .before .args .value ≤ 16641 * 65535
+product-most c = let short : c .before .args .value ≤ 65535 = omega arith in mul-le-mul (c .weight-at .ensures .1 .most) short
 
-rest-most : (c : tie.Start) → c .args .product % c .args .den * c .args .s .bottom ≤ 16641 * 16641 ^ 3
-rest-most c =
-    let h : c .args .product % c .args .den ≤ 16641 = omega (arith, mod-lt (c .args .product) (c .pre .0)) in
-    mul-le-mul h (c .pre .3)
+sum : (c : tie.After-weight-at) (n : ℕ) → let w = c .weight-at .result in let a = c .before .args in
+    SumOf n (a .s) → SumOf (n + 1) (more (a .s) (w .numerator * a .value) (w .denominator))
+sum c = let l = c .weight-at .ensures .1 in more-small (c .before .args .s) _ _ (l .positive) (l .low) (product-most c)
 
-div-t4 : tie.Need-div-t4
-div-t4 c = search needs
-
-add-t5 : tie.Need-add-t5
-add-t5 c = let a = c .before .args in omega (arith, div-le-self (a .product) (a .den))
-
-mul-t6 : tie.Need-mul-t6
-mul-t6 c = omega (arith, top-most (c .before .before))
-
-rem-t7 : tie.Need-rem-t7
-rem-t7 c = search needs
-
-mul-t8 : tie.Need-mul-t8
-mul-t8 c = omega (arith, rest-most (c .before .before .before))
-
-add-t9 : tie.Need-add-t9
-add-t9 c = omega (arith, top-most (c .before .before .before), rest-most (c .before .before .before))
-
-mul-t10 : tie.Need-mul-t10
-mul-t10 c =
-    let s = c .before .before .before .before in
-    omega (arith, mul-le-mul (s .pre .3) (s .pre .1))
+four : (c : tie.After-weight-at) → let w = c .weight-at .result in let a = c .before .args in
+    SumOf 4 (more (a .s) (w .numerator * a .value) (w .denominator))
+four c = sum c 3 (c .before .pre .0)
 
 returns : tie.Need-returns
-returns c = search needs
+returns c =
+    let k = c .before .before .before .before .before in
+    let a = k .before .args in
+    let w = k .weight-at in (
+      more-exact (a .s) (w .result .numerator * a .value) (w .result .denominator) ∙
+          ap (λ (r : Weight). plus (record { num = r .numerator * a .value; den = r .denominator }) (exact (a .s))) (w .ensures .0),
+      sum k,
+    )
 
 pub added-spec : {M : Type 1} → statement M
-added-spec = tie.close (tie.spec div-t4 add-t5 mul-t6 rem-t7 mul-t8 add-t9 mul-t10 returns)
+added-spec =
+    tie.close
+    (tie.spec
+    (λ c κs. search needs)
+    (λ c. omega (arith, product-most (c .before)))
+    (λ c. search needs)
+    (λ c. omega (arith, four (c .before .before) .most))
+    (λ c. let s = four (c .before .before .before) in omega arith)
+    (λ c. search needs)
+    (λ c. let s = four (c .before .before .before .before) in omega arith)
+    (λ c. let s = four (c .before .before .before .before) in omega arith)
+    (λ c. let s = four (c .before .before .before .before .before) in omega arith)
+    returns)

@@ -4,17 +4,11 @@ use borrow.Author.Tests.{eq-eqb, ne-eqb}
 use Rattle.maps.proofs.values.is_anchored.Statement.{statement}
 use Rattle.maps.proofs.values.is_anchored.Tie as tie
 
-wide-requires : tie.Need-wide-requires
-wide-requires c κs = search needs
-
 returns : tie.Need-returns
 returns c = rw (← c .before .wide .ensures, ne-eqb _ _ (c .if1 .taken))
-
-wide-requires-2 : tie.Need-wide-requires-2
-wide-requires-2 c κs = search needs
 
 returns-2 : tie.Need-returns-2
 returns-2 c = rw (← c .before .before .wide .ensures, eq-eqb _ _ (c .before .if1 .left), c .wide2 .ensures)
 
 pub is-anchored-spec : {M : Type 1} → statement M
-is-anchored-spec = tie.close (tie.spec wide-requires returns wide-requires-2 returns-2)
+is-anchored-spec = tie.close (tie.spec (λ c κs. search needs) returns (λ c κs. search needs) returns-2)

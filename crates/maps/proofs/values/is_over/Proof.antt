@@ -5,17 +5,11 @@ use mathlib.Core.Path.{sym, _∙_}
 use Rattle.maps.proofs.values.is_over.Statement.{statement}
 use Rattle.maps.proofs.values.is_over.Tie as tie
 
-spans-at-requires : tie.Need-spans-at-requires
-spans-at-requires c κs = search needs
-
 returns : tie.Need-returns
 returns c = rw (sym (c .before .spans-at .ensures) ∙ not-true _ (c .if1 .taken))
-
-spans-at-requires-2 : tie.Need-spans-at-requires-2
-spans-at-requires-2 c κs = search needs
 
 returns-2 : tie.Need-returns-2
 returns-2 c = rw (sym (c .before .before .spans-at .ensures) ∙ not-false _ (c .before .if1 .left), c .spans-at2 .ensures)
 
 pub is-over-spec : {M : Type 1} → statement M
-is-over-spec = tie.close (tie.spec spans-at-requires returns spans-at-requires-2 returns-2)
+is-over-spec = tie.close (tie.spec (λ c κs. search needs) returns (λ c κs. search needs) returns-2)
