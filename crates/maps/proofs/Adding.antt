@@ -57,12 +57,13 @@ value-positive w h (B ∷ bs) (c ∷ vs) e u v =
     let p = and-both (proper w h B) (all (proper w h) bs) e in
     mul-pos (mul-pos (omega arith) (weight-den w h B (p .0) u v 1 (omega arith))) (value-positive w h bs vs (p .1) u v)
 
-abbrev pub parts : ℕ → ℕ → ℕ → ℕ → List ℕ → List Entry → List Fraction
+-- the values of some entries times their weights
+abbrev parts : ℕ → ℕ → ℕ → ℕ → List ℕ → List Entry → List Fraction
 parts x y u v values = map (λ (a : Entry). portion x y u v (a .blend) (getD values (a .place) 0))
 
 -- At a corner (u, v) of the square from (x, y) the sum over all blends is that over the blends over the square, since the others weigh 0 there.
 module _ (x y u v : ℕ) (e : End x u) (f : End y v) (values : List ℕ) where
-  pub value-over : (bs : List Blend) (vs : List ℕ) (i : ℕ) → all (proper 128 128) bs ≡ true → length bs ≡ length vs →
+  value-over : (bs : List Blend) (vs : List ℕ) (i : ℕ) → all (proper 128 128) bs ≡ true → length bs ≡ length vs →
       ((k : ℕ) → k < length vs → getD vs k 0 ≡ getD values (i + k) 0) →
       Equal (value (paired bs vs) u v 1) (total (parts x y u v values (entriesOver (overSquare x y) bs i)))
   unfolding weightAt

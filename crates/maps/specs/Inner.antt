@@ -101,12 +101,13 @@ entriesOver test (B ∷ bs) i =
 abbrev pub entries : Four → List Entry
 entries f = f .first ∷ f .second ∷ f .third ∷ f .fourth ∷ []
 
--- a blend with its weight at a corner of a square
+-- a blend with its weight at a corner of a square, as `weightOver` has it at a point
 abbrev pub weighed : ℕ → ℕ → ℕ → ℕ → Blend → Weight
 weighed x y u v B =
     let f = weightAt x y u v B in
     record { blend = shape B; numerator = f .num; denominator = f .den }
 
+-- a weight of numbers small enough to be added up
 pub record Light (w : Weight) : Type 0 where
   pub positive : 0 < w .denominator
   pub low : w .denominator ≤ 16641

@@ -141,8 +141,8 @@ pub(crate) struct Four {
     pub fourth: Entry,
 }
 
-// The four blends over the unit square whose low corner is at knots (x, y), in table order. The last four found are kept, so that none is
-// stored by an index.
+// The four blends over the unit square whose low corner is at knots (x, y), in table order. The last four found are kept, so that callers
+// name each and index none.
 pub(crate) fn four_over(table: Table, x: usize, y: usize) -> Four
     requires { ⌜ (table .count ≤ mostBlends) × (length (only (overSquare x y) (blendsOf table)) ≡ 4) ⌝ }
     ensures { λ r. ⌜ entries r ≡ entriesOver (overSquare x y) (blendsOf table) 0 ⌝ }
@@ -178,7 +178,8 @@ pub(crate) fn four_over(table: Table, x: usize, y: usize) -> Four
     four
 }
 
-// The reading at the whole point (u, v): the weights of the blends over its unit square times their values, rounded down.
+// The reading at the whole point (u, v): the weights of the blends over its unit square times their values, rounded down. They are added
+// from the last to the first, as the sum over a list is.
 pub(crate) fn reading_of(
     table: Table,
     values: [u16; Table::MOST_BLENDS],
