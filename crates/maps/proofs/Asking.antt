@@ -9,11 +9,9 @@ use lib.Dec.{leb}
 use lib.ListN.{length, getD, take}
 use Rattle.axis.specs.Gap.{corner}
 use Rattle.axis.specs.Range.{all, only}
-use Rattle.axis.proofs.Members.{entry}
-use Rattle.axis.proofs.Tests.{and-both, all-at, cond-true, cond-false}
+use Rattle.axis.proofs.Tests.{and-both, cond-true, cond-false}
 use Rattle.mesh.specs.declared.Table.{Table}
 use Rattle.mesh.specs.Sound.{none, proper, overSquare, blendsOf}
-use Rattle.mesh.proofs.Cutting.{proper-most}
 use Rattle.maps.specs.declared.Map.{Map}
 use Rattle.maps.specs.Plain.{blends}
 use Rattle.maps.specs.Values.{readingAt}
@@ -37,13 +35,6 @@ module _ {m : Map} {t : Table} (g : GoodMap m t) where
       pub place-some : record { number = 0; blend = shape (getD (t .blends) i none); value = getD (m .values) i 0 } ≡ tablePlace m i
       unfolding tablePlace
       place-some = rw (live-blend g i lt, live-value g i lt) (sym (cond-false _ _ _ (passed g) ∙ cond-true _ _ _ (lt-ltb i _ within)))
-
-      pub place-proper : proper 128 128 (getD (t .blends) i none) ≡ true
-      place-proper =
-          let f = g .facts in
-          let ranged : all (proper (m .lines .w) (m .lines .h)) (blends (plain m)) ≡ true = rw (live-blends g) at (hand-proper (g .hand)) in
-          rw (live-blend g i lt)
-          (all-at (proper 128 128) (blends (plain m)) (proper-most (m .lines .w) (m .lines .h) (blends (plain m)) (f .across .1) (f .up .1) ranged) _ (entry (blends (plain m)) i none within))
 
   -- a point,
   module _ (u v : ℕ) where

@@ -27,7 +27,6 @@ ghost use Rattle.maps.specs.Inner.{entries, entriesOver, weighed, Light,
 
 // A blend in document 01's coordinates.
 pub(crate) fn shape_of(x: Blend) -> Shape
-    requires { ⌜ proper largestSide largestSide x ≡ true ⌝ }
     ensures { λ r. ⌜ r ≡ shape x ⌝ }
 {
     let a = x.across;

@@ -11,12 +11,6 @@ use Rattle.maps.proofs.Changing.{same-map, not-good, is-opened, refused
 use Rattle.maps.proofs.Map.exact_split.Statement.{statement}
 use Rattle.maps.proofs.Map.exact_split.Tie as tie
 
-open-requires : tie.Need-open-requires
-open-requires c κs = search needs
-
-without-table-requires : tie.Need-without-table-requires
-without-table-requires c κs = search needs
-
 returns : tie.Need-returns
 unfolding exactSplit
 returns c =
@@ -30,9 +24,6 @@ is-open c = let o = c .before .before .«open» in is-opened _ (o .result) (o .e
 exact-split-requires : tie.Need-exact-split-requires
 exact-split-requires c κs = is-open c
 
-without-table-requires-2 : tie.Need-without-table-requires-2
-without-table-requires-2 c κs = search needs
-
 returns-2 : tie.Need-returns-2
 returns-2 c =
     let o = c .before .before .before .before .«open» in
@@ -42,9 +33,9 @@ pub exact-split-spec : {M : Type 1} → statement M
 exact-split-spec =
     tie.close
     (tie.spec
-    open-requires
-    without-table-requires
+    (λ c κs. search needs)
+    (λ c κs. search needs)
     returns
     exact-split-requires
-    without-table-requires-2
+    (λ c κs. search needs)
     returns-2)

@@ -7,15 +7,6 @@ use Rattle.maps.specs.Calls.{freshMap}
 use Rattle.maps.proofs.Map.fresh.Statement.{statement}
 use Rattle.maps.proofs.Map.fresh.Tie as tie
 
-allowed-side-requires : tie.Need-allowed-side-requires
-allowed-side-requires c κs = tt
-
-allowed-side-requires-2 : tie.Need-allowed-side-requires-2
-allowed-side-requires-2 c κs = tt
-
-blank-requires : tie.Need-blank-requires
-blank-requires c κs = tt
-
 across : (c : tie.Then1) → allowedSide (c .before .before .args .w) ≡ true
 across c = sym (c .before .allowed-side .ensures) ∙ c .if1 .taken
 
@@ -23,9 +14,6 @@ returns : tie.Need-returns
 unfolding freshMap
 returns c =
     rw (across (c .before .before .before), sym (c .before .before .allowed-side2 .ensures) ∙ c .before .if2 .taken, c .blank .ensures)
-
-blank-requires-2 : tie.Need-blank-requires-2
-blank-requires-2 c κs = tt
 
 returns-2 : tie.Need-returns-2
 unfolding freshMap
@@ -39,9 +27,9 @@ pub fresh-spec : {M : Type 1} → statement M
 fresh-spec =
     tie.close
     (tie.spec
-    allowed-side-requires
-    allowed-side-requires-2
-    blank-requires
+    (λ c κs. tt)
+    (λ c κs. tt)
+    (λ c κs. tt)
     returns
-    blank-requires-2
+    (λ c κs. tt)
     returns-2)

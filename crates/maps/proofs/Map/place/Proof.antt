@@ -11,12 +11,6 @@ use Rattle.maps.proofs.Changing.{same-map, not-good, is-opened}
 use Rattle.maps.proofs.Map.place.Statement.{statement}
 use Rattle.maps.proofs.Map.place.Tie as tie
 
-open-requires : tie.Need-open-requires
-open-requires c κs = search needs
-
-no-place-requires : tie.Need-no-place-requires
-no-place-requires c κs = search needs
-
 returns : tie.Need-returns
 unfolding tablePlace
 returns c =
@@ -34,4 +28,4 @@ returns-2 c =
     let o = c .before .before .before .«open» in rw (same-map _ (o .result) (o .ensures)) at (c .place .ensures)
 
 pub place-spec : {M : Type 1} → statement M
-place-spec = tie.close (tie.spec open-requires no-place-requires returns place-requires returns-2)
+place-spec = tie.close (tie.spec (λ c κs. search needs) (λ c κs. search needs) returns place-requires returns-2)

@@ -10,9 +10,6 @@ use Rattle.maps.proofs.Changing.{same-map, not-good, is-opened}
 use Rattle.maps.proofs.Map.reading.Statement.{statement}
 use Rattle.maps.proofs.Map.reading.Tie as tie
 
-open-requires : tie.Need-open-requires
-open-requires c κs = search needs
-
 returns : tie.Need-returns
 unfolding reading
 returns c =
@@ -30,4 +27,4 @@ returns-2 c =
     let o = c .before .before .before .«open» in rw (same-map _ (o .result) (o .ensures)) at (c .reading .ensures)
 
 pub reading-spec : {M : Type 1} → statement M
-reading-spec = tie.close (tie.spec open-requires returns reading-requires returns-2)
+reading-spec = tie.close (tie.spec (λ c κs. search needs) returns reading-requires returns-2)

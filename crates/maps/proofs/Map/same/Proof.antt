@@ -7,14 +7,8 @@ use Rattle.maps.proofs.Agreeing.{first-bad, second-bad}
 use Rattle.maps.proofs.Map.same.Statement.{statement}
 use Rattle.maps.proofs.Map.same.Tie as tie
 
-open-requires : tie.Need-open-requires
-open-requires c κs = search needs
-
 returns : tie.Need-returns
 returns c = let o = c .before .before .«open» in first-bad _ _ (not-good _ (o .result) (o .ensures) (c .if1 .taken))
-
-open-requires-2 : tie.Need-open-requires-2
-open-requires-2 c κs = search needs
 
 returns-2 : tie.Need-returns-2
 returns-2 c = let o = c .before .before .open2 in second-bad _ _ (not-good _ (o .result) (o .ensures) (c .if2 .taken))
@@ -34,4 +28,4 @@ returns-3 c =
 
 pub same-spec : {M : Type 1} → statement M
 same-spec =
-    tie.close (tie.spec open-requires returns open-requires-2 returns-2 same-requires returns-3)
+    tie.close (tie.spec (λ c κs. search needs) returns (λ c κs. search needs) returns-2 same-requires returns-3)

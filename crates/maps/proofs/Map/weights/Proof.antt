@@ -11,12 +11,6 @@ use Rattle.maps.proofs.Changing.{same-map, not-good, is-opened}
 use Rattle.maps.proofs.Map.weights.Statement.{statement}
 use Rattle.maps.proofs.Map.weights.Tie as tie
 
-open-requires : tie.Need-open-requires
-open-requires c κs = search needs
-
-no-weights-requires : tie.Need-no-weights-requires
-no-weights-requires c κs = search needs
-
 returns : tie.Need-returns
 unfolding weights
 returns c =
@@ -35,4 +29,4 @@ returns-2 c =
 
 pub weights-spec : {M : Type 1} → statement M
 weights-spec =
-    tie.close (tie.spec open-requires no-weights-requires returns weights-requires returns-2)
+    tie.close (tie.spec (λ c κs. search needs) (λ c κs. search needs) returns weights-requires returns-2)

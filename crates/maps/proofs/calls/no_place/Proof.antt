@@ -3,11 +3,8 @@ use borrow.Author.Needs.{needs}
 use Rattle.maps.proofs.calls.no_place.Statement.{statement}
 use Rattle.maps.proofs.calls.no_place.Tie as tie
 
-no-shape-requires : tie.Need-no-shape-requires
-no-shape-requires c κs = search needs
-
 returns : tie.Need-returns
 returns c = rw (c .no-shape .ensures)
 
 pub no-place-spec : {M : Type 1} → statement M
-no-place-spec = tie.close (tie.spec no-shape-requires returns)
+no-place-spec = tie.close (tie.spec (λ c κs. search needs) returns)

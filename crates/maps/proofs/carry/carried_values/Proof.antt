@@ -42,9 +42,6 @@ valued c =
     old-valued (c .pre .0) (full c .0)
     (λ i. elem-fits w16 w16 (c .args .t2) _ i (c .good .1 .0 .1 .1) tt .fits)
 
-slice-aggregate-index-anchors : tie.Need-slice-aggregate-index-anchors Inv-loop μ-loop
-slice-aggregate-index-anchors c = search needs
-
 index-anchors-requires : tie.Need-index-anchors-requires Inv-loop μ-loop
 index-anchors-requires c κs =
     let s = c .before in
@@ -97,15 +94,6 @@ most c =
     let a = s .args in
     (omega (arith, noted-most _ (blendsOf (a .old)) (noted c) (next c) (on c), length-take (a .old .count) (a .old .blends)), count-most old)
 
-mul-x : tie.Need-mul-x Inv-loop μ-loop
-mul-x c = omega arith
-
-element-copy-out-x : tie.Need-element-copy-out-x Inv-loop μ-loop
-element-copy-out-x c = omega arith
-
-place-requires : tie.Need-place-requires Inv-loop μ-loop
-place-requires c κs = tt
-
 mul-place : tie.Need-mul-place Inv-loop μ-loop
 mul-place c = omega (arith, c .place .ensures, on (c .before .before) .in-square)
 
@@ -120,12 +108,6 @@ read c = rw (c .place .ensures)
 
 cast-place : tie.Need-cast-place Inv-loop μ-loop
 cast-place c = omega (arith, read c, most (c .before .before))
-
-wide-requires : tie.Need-wide-requires Inv-loop μ-loop
-wide-requires c κs = tt
-
-wide-requires-2 : tie.Need-wide-requires-2 Inv-loop μ-loop
-wide-requires-2 c κs = tt
 
 sub-reading-of : tie.Need-sub-reading-of Inv-loop μ-loop
 sub-reading-of c = omega (arith, c .before .wide .ensures, knots (c .before .before .before .before .before) .0)
@@ -172,12 +154,6 @@ cast-carried c =
     let is : c .reading-of .result ≡ readingAt (blends (old .of)) (old .of .values) (x .across .m - 1) (x .up .m - 1) = rw (blends-of old, values-of old) at (taken c) in
     omega (arith, is, reading-most (old .of) (valued s) (x .across .m - 1) (x .up .m - 1) u v)
 
-mul-carried : tie.Need-mul-carried Inv-loop μ-loop
-mul-carried c = omega arith
-
-array-write-carried : tie.Need-array-write-carried Inv-loop μ-loop
-array-write-carried c = omega arith
-
 sub-carried : tie.Need-sub-carried Inv-loop μ-loop
 sub-carried c = let ne = c .if1 .left in omega arith
 
@@ -186,18 +162,6 @@ mul-carried-2 c = omega (arith, read (c .before), most (c .before .before .befor
 
 array-read-carried : tie.Need-array-read-carried Inv-loop μ-loop
 array-read-carried c = omega (arith, read (c .before), most (c .before .before .before), c .if1 .left)
-
-mul-carried-3 : tie.Need-mul-carried-3 Inv-loop μ-loop
-mul-carried-3 c = omega arith
-
-array-write-carried-2 : tie.Need-array-write-carried-2 Inv-loop μ-loop
-array-write-carried-2 c = omega arith
-
-add-i : tie.Need-add-i Inv-loop μ-loop
-add-i c = omega arith
-
-loop-less : tie.Need-loop-less Inv-loop μ-loop
-loop-less c = omega arith
 
 -- the value of the next blend joins those in front
 fill : (c : tie.In-loop Inv-loop μ-loop) (v : ℕ) →
@@ -248,29 +212,29 @@ carried-values-spec =
     (tie.spec
     Inv-loop
     μ-loop
-    slice-aggregate-index-anchors
+    (λ c. search needs)
     index-anchors-requires
     loop-holds
-    mul-x
-    element-copy-out-x
-    place-requires
+    (λ c. omega arith)
+    (λ c. omega arith)
+    (λ c κs. tt)
     mul-place
     array-read-place
     cast-place
-    wide-requires
-    wide-requires-2
+    (λ c κs. tt)
+    (λ c κs. tt)
     sub-reading-of
     sub-reading-of-2
     reading-of-requires
     cast-carried
-    mul-carried
-    array-write-carried
+    (λ c. omega arith)
+    (λ c. omega arith)
     sub-carried
     mul-carried-2
     array-read-carried
-    mul-carried-3
-    array-write-carried-2
-    add-i
-    loop-less
+    (λ c. omega arith)
+    (λ c. omega arith)
+    (λ c. omega arith)
+    (λ c. omega arith)
     loop-again
     returns)

@@ -51,30 +51,12 @@ next-turn c =
     let up = q .up in
     (omega arith, p .1)
 
-mul-x : tie.Need-mul-x Inv-loop μ-loop
-mul-x c = omega arith
-
-element-copy-out-x : tie.Need-element-copy-out-x Inv-loop μ-loop
-element-copy-out-x c = omega arith
-
-place-requires : tie.Need-place-requires Inv-loop μ-loop
-place-requires c κs = tt
-
-add-i : tie.Need-add-i Inv-loop μ-loop
-add-i c = omega arith
-
-cast-index : tie.Need-cast-index Inv-loop μ-loop
-cast-index c = omega arith
-
 mul-index : tie.Need-mul-index Inv-loop μ-loop
 mul-index c = record { fits = omega (arith, c .place .ensures, next-turn (c .before .before) .0) }
 
 slice-write-index : tie.Need-slice-write-index Inv-loop μ-loop
 slice-write-index c =
     omega (arith, c .place .ensures, next-turn (c .before .before) .0, c .before .before .before .loop .inv .1)
-
-loop-less : tie.Need-loop-less Inv-loop μ-loop
-loop-less c = omega arith
 
 loop-again : tie.Need-loop-again Inv-loop μ-loop
 unfolding anchorIndex
@@ -103,14 +85,14 @@ index-anchors-spec =
     Inv-loop
     μ-loop
     loop-holds
-    mul-x
-    element-copy-out-x
-    place-requires
-    add-i
-    cast-index
+    (λ c. omega arith)
+    (λ c. omega arith)
+    (λ c κs. tt)
+    (λ c. omega arith)
+    (λ c. omega arith)
     mul-index
     slice-write-index
-    loop-less
+    (λ c. omega arith)
     loop-again
     same-length
     returns)

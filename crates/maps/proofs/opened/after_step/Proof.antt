@@ -9,9 +9,6 @@ use Rattle.maps.proofs.opened.after_step.Tie as tie
 good-self : (c : tie.Start) → GoodMap (c .args .o .map) (c .args .o .table)
 good-self c = open-map (c .args .o) (c .pre .0) _ (c .good .0)
 
-numbered-requires : tie.Need-numbered-requires
-numbered-requires c κs = search needs
-
 returns : tie.Need-returns
 returns c = let s = c .before .before .before in c .numbered .ensures ∙ step-refused (good-self s) (s .args .step) (c .before .if1 .taken)
 
@@ -41,7 +38,7 @@ pub after-step-spec : {M : Type 1} → statement M
 after-step-spec =
     tie.close
     (tie.spec
-    numbered-requires
+    (λ c κs. search needs)
     returns
     mul-split
     element-set-from-split

@@ -23,12 +23,6 @@ loop-holds c = refl
 mul-s : tie.Need-mul-s Inv-loop μ-loop
 mul-s c = record { fits = omega arith }
 
-array-copy-out-s : tie.Need-array-copy-out-s Inv-loop μ-loop
-array-copy-out-s c = omega arith
-
-no-split-requires : tie.Need-no-split-requires Inv-loop μ-loop
-no-split-requires c κs = tt
-
 sixty : (c : tie.Start Inv-loop μ-loop) → length (c .args .t1) ≡ 60
 sixty c = c .good .0 .1 .0 .1
 
@@ -48,9 +42,6 @@ returns c = sym (turn (c .before) ∙ rw (not-true (c .before .no-split .result)
 add-i : tie.Need-add-i Inv-loop μ-loop
 add-i c = record { fits = omega arith }
 
-loop-less : tie.Need-loop-less Inv-loop μ-loop
-loop-less c = omega arith
-
 loop-again : tie.Need-loop-again Inv-loop μ-loop
 loop-again c = turn (c .before) ∙ rw (not-false (c .before .no-split .result) (c .if1 .left))
 
@@ -67,10 +58,10 @@ no-splits-from-spec =
     μ-loop
     loop-holds
     mul-s
-    array-copy-out-s
-    no-split-requires
+    (λ c. omega arith)
+    (λ c κs. tt)
     returns
     add-i
-    loop-less
+    (λ c. omega arith)
     loop-again
     returns-2)

@@ -23,9 +23,6 @@ loop-holds c = refl
 mul-if1 : tie.Need-mul-if1 Inv-loop μ-loop
 mul-if1 c = record { fits = omega arith }
 
-array-read-if1 : tie.Need-array-read-if1 Inv-loop μ-loop
-array-read-if1 c = omega arith
-
 full : (c : tie.Start Inv-loop μ-loop) → length (c .args .t1) ≡ 1024
 full c = c .good .0 .1 .0 .1
 
@@ -44,9 +41,6 @@ returns c = sym (turn (c .before) ∙ rw (ne-eqb _ _ (c .if1 .taken)))
 add-i : tie.Need-add-i Inv-loop μ-loop
 add-i c = record { fits = omega arith }
 
-loop-less : tie.Need-loop-less Inv-loop μ-loop
-loop-less c = omega arith
-
 loop-again : tie.Need-loop-again Inv-loop μ-loop
 loop-again c = turn (c .before) ∙ rw (eq-eqb _ _ (c .if1 .left))
 
@@ -63,9 +57,9 @@ no-values-from-spec =
     μ-loop
     loop-holds
     mul-if1
-    array-read-if1
+    (λ c. omega arith)
     returns
     add-i
-    loop-less
+    (λ c. omega arith)
     loop-again
     returns-2)

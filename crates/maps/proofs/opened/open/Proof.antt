@@ -18,23 +18,14 @@ use Rattle.maps.proofs.Opening.{Passes, not-opened, is-opened, replay-s
 use Rattle.maps.proofs.opened.open.Statement.{statement}
 use Rattle.maps.proofs.opened.open.Tie as tie
 
-no-table-requires : tie.Need-no-table-requires
-no-table-requires c κs = search needs
-
 -- every refusal hands back the same
 refusal : (c : tie.After-no-table) → (Passes (c .before .args .map) → ⊥) →
     _≡_ {A = Opened} (record { number = 2; map = c .before .args .map; table = c .no-table .result }) (opened (c .before .args .map))
 refusal c f = rw (c .no-table .ensures) (sym (not-opened (c .before .args .map) f))
 
-replay-requires : tie.Need-replay-requires
-replay-requires c κs = search needs
-
 returns : tie.Need-returns
 returns c =
     refusal (c .before .before .before .before) (λ p. true-not-false _ (p .accepted?) (sym (replay-says _ (c .before .before .replay .ensures)) ∙ not-true _ (c .if1 .taken)))
-
-no-splits-from-requires : tie.Need-no-splits-from-requires
-no-splits-from-requires c κs = search needs
 
 returns-2 : tie.Need-returns-2
 returns-2 c =
@@ -44,9 +35,6 @@ returns-2 c =
 -- the table of a good record's lines
 whole : (c : tie.Else1) → c .before .before .replay .result .table ≡ table (liveOf (layoutOf (c .before .before .before .before .before .args .map .lines)))
 whole c = replay-table _ (c .before .before .replay .ensures) (not-false _ (c .if1 .left))
-
-no-values-from-requires : tie.Need-no-values-from-requires
-no-values-from-requires c κs = search needs
 
 -- the values after its count are the unused ones
 unused : (c : tie.After-no-values-from) →
@@ -80,11 +68,11 @@ pub open-spec : {M : Type 1} → statement M
 open-spec =
     tie.close
     (tie.spec
-    no-table-requires
-    replay-requires
+    (λ c κs. search needs)
+    (λ c κs. search needs)
     returns
-    no-splits-from-requires
+    (λ c κs. search needs)
     returns-2
-    no-values-from-requires
+    (λ c κs. search needs)
     returns-3
     returns-4)

@@ -5,17 +5,11 @@ use mathlib.Core.Path.{sym, _∙_}
 use Rattle.maps.proofs.sameness.same_blend.Statement.{statement}
 use Rattle.maps.proofs.sameness.same_blend.Tie as tie
 
-same-triple-requires : tie.Need-same-triple-requires
-same-triple-requires c κs = search needs
-
 returns : tie.Need-returns
 returns c = rw (sym (c .before .same-triple .ensures) ∙ not-true _ (c .if1 .taken))
-
-same-triple-requires-2 : tie.Need-same-triple-requires-2
-same-triple-requires-2 c κs = search needs
 
 returns-2 : tie.Need-returns-2
 returns-2 c = rw (sym (c .before .before .before .before .same-triple .ensures) ∙ not-false _ (c .before .before .before .if1 .left), c .same-triple2 .ensures)
 
 pub same-blend-spec : {M : Type 1} → statement M
-same-blend-spec = tie.close (tie.spec same-triple-requires returns same-triple-requires-2 returns-2)
+same-blend-spec = tie.close (tie.spec (λ c κs. search needs) returns (λ c κs. search needs) returns-2)

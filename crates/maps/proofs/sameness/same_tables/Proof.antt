@@ -52,26 +52,14 @@ loop-holds c = (omega arith, refl)
 mul-x : tie.Need-mul-x Inv-loop μ-loop
 mul-x c = record { fits = omega arith }
 
-element-copy-out-x : tie.Need-element-copy-out-x Inv-loop μ-loop
-element-copy-out-x c = omega arith
-
 mul-y : tie.Need-mul-y Inv-loop μ-loop
 mul-y c = record { fits = omega arith }
-
-element-copy-out-y : tie.Need-element-copy-out-y Inv-loop μ-loop
-element-copy-out-y c = omega arith
-
-same-blend-requires : tie.Need-same-blend-requires Inv-loop μ-loop
-same-blend-requires c κs = search needs
 
 returns-2 : tie.Need-returns-2 Inv-loop μ-loop
 returns-2 c = sym (turn (c .before .before .before .before) ∙ rw (sym (c .before .same-blend .ensures) ∙ not-true _ (c .if2 .taken)))
 
 add-i : tie.Need-add-i Inv-loop μ-loop
 add-i c = record { fits = omega arith }
-
-loop-less : tie.Need-loop-less Inv-loop μ-loop
-loop-less c = omega arith
 
 loop-again : tie.Need-loop-again Inv-loop μ-loop
 loop-again c = (omega arith, turn (c .before .before .before .before) ∙ rw (sym (c .before .same-blend .ensures) ∙ not-false _ (c .if2 .left)))
@@ -91,12 +79,12 @@ same-tables-spec =
     returns
     loop-holds
     mul-x
-    element-copy-out-x
+    (λ c. omega arith)
     mul-y
-    element-copy-out-y
-    same-blend-requires
+    (λ c. omega arith)
+    (λ c κs. search needs)
     returns-2
     add-i
-    loop-less
+    (λ c. omega arith)
     loop-again
     returns-3)

@@ -39,23 +39,14 @@ loop-holds c = (omega arith, refl)
 mul-if1 : tie.Need-mul-if1 Inv-loop μ-loop
 mul-if1 c = record { fits = omega arith }
 
-array-read-if1 : tie.Need-array-read-if1 Inv-loop μ-loop
-array-read-if1 c = omega arith
-
 mul-if1-2 : tie.Need-mul-if1-2 Inv-loop μ-loop
 mul-if1-2 c = record { fits = omega arith }
-
-array-read-if1-2 : tie.Need-array-read-if1-2 Inv-loop μ-loop
-array-read-if1-2 c = omega arith
 
 returns : tie.Need-returns Inv-loop μ-loop
 returns c = sym (turn (c .before) ∙ rw (ne-eqb _ _ (c .if1 .taken)))
 
 add-i : tie.Need-add-i Inv-loop μ-loop
 add-i c = record { fits = omega arith }
-
-loop-less : tie.Need-loop-less Inv-loop μ-loop
-loop-less c = omega arith
 
 loop-again : tie.Need-loop-again Inv-loop μ-loop
 loop-again c = (omega arith, turn (c .before) ∙ rw (eq-eqb _ _ (c .if1 .left)))
@@ -75,11 +66,11 @@ same-values-spec =
     μ-loop
     loop-holds
     mul-if1
-    array-read-if1
+    (λ c. omega arith)
     mul-if1-2
-    array-read-if1-2
+    (λ c. omega arith)
     returns
     add-i
-    loop-less
+    (λ c. omega arith)
     loop-again
     returns-2)

@@ -27,9 +27,6 @@ module _ (L : Lines) (t : Table) (s : Split) where
   step-judged e =
       ⊎-elim (λ o. cond-true _ _ _ o ∙ rw (e, o)) (λ o. cond-false _ _ _ o ∙ rw (e, o)) (either (soundWith (layoutOf L) s))
 
-given-number-requires : tie.Need-given-number-requires
-given-number-requires c κs = search needs
-
 returns : tie.Need-returns
 returns c = step-refused _ _ _ _ (c .before .given-number .ensures) (c .if1 .taken)
 
@@ -50,7 +47,7 @@ pub exact-step-spec : {M : Type 1} → statement M
 exact-step-spec =
     tie.close
     (tie.spec
-    given-number-requires
+    (λ c κs. search needs)
     returns
     sound-step-requires
     returns-2)

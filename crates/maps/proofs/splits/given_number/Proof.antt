@@ -15,9 +15,6 @@ use Rattle.maps.proofs.InHand.{hand-length, hand-cut}
 use Rattle.maps.proofs.splits.given_number.Statement.{statement}
 use Rattle.maps.proofs.splits.given_number.Tie as tie
 
-fits-sides-requires : tie.Need-fits-sides-requires
-fits-sides-requires c κs = search needs
-
 returns : tie.Need-returns
 unfolding given
 returns c = rw (sym (c .before .fits-sides .ensures) ∙ not-true _ (c .if1 .taken))
@@ -35,9 +32,6 @@ returns-2 c =
 few : (c : tie.Else2) → leb 60 (length (splitsOf (c .before .before .before .before .args .lines))) ≡ false
 few c = rw (hand-length (c .before .before .before .before .pre)) (lt-leb _ _ (c .if2 .left))
 
-shares-stretch-requires : tie.Need-shares-stretch-requires
-shares-stretch-requires c κs = search needs
-
 shared : (c : tie.After-shares-stretch) →
     let a = c .before .before .before .before .before .args in c .shares-stretch .result ≡ shares (meshOf (layoutOf (a .lines))) (a .s)
 shared c =
@@ -48,9 +42,6 @@ returns-3 : tie.Need-returns-3
 unfolding given
 returns-3 c =
     rw (fits (c .before .before .before .before), few (c .before .before), sym (shared (c .before)) ∙ c .if3 .taken)
-
-ends-on-lines-requires : tie.Need-ends-on-lines-requires
-ends-on-lines-requires c κs = search needs
 
 apart : (c : tie.Else3) →
     let a = c .before .before .before .before .before .before .args in shares (meshOf (layoutOf (a .lines))) (a .s) ≡ false
@@ -69,12 +60,6 @@ returns-4 c =
     let third = c .before .before in
     let second = third .before .before in
     rw (fits (second .before .before), few second, apart third, sym (reached (c .before)) ∙ not-true _ (c .if4 .taken))
-
-with-split-requires : tie.Need-with-split-requires
-with-split-requires c κs = search needs
-
-some-cut-requires : tie.Need-some-cut-requires
-some-cut-requires c κs = search needs
 
 -- behind the other four, the last test decides
 last : (c : tie.After-some-cut) →
@@ -103,14 +88,14 @@ pub given-number-spec : {M : Type 1} → statement M
 given-number-spec =
     tie.close
     (tie.spec
-    fits-sides-requires
+    (λ c κs. search needs)
     returns
     returns-2
-    shares-stretch-requires
+    (λ c κs. search needs)
     returns-3
-    ends-on-lines-requires
+    (λ c κs. search needs)
     returns-4
-    with-split-requires
-    some-cut-requires
+    (λ c κs. search needs)
+    (λ c κs. search needs)
     returns-5
     returns-6)

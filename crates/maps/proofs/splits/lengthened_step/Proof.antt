@@ -8,9 +8,6 @@ use Rattle.maps.specs.Inner.{lengthenedStep}
 use Rattle.maps.proofs.splits.lengthened_step.Statement.{statement}
 use Rattle.maps.proofs.splits.lengthened_step.Tie as tie
 
-given-number-requires : tie.Need-given-number-requires
-given-number-requires c κs = search needs
-
 returns : tie.Need-returns
 unfolding lengthenedStep
 returns c = let g = c .before .given-number .ensures in rw g (sym (cond-false _ _ _ (ne-eqb _ 0 (λ z. c .if1 .taken (g ∙ z)))))
@@ -24,4 +21,4 @@ returns-2 c = let e = c .before in c .longer-line .ensures ∙ sym (cond-true _ 
 
 pub lengthened-step-spec : {M : Type 1} → statement M
 lengthened-step-spec =
-    tie.close (tie.spec given-number-requires returns longer-line-requires returns-2)
+    tie.close (tie.spec (λ c κs. search needs) returns longer-line-requires returns-2)

@@ -41,9 +41,6 @@ search-holds : tie.Need-search-holds Inv-loop μ-loop Inv-search μ-search
 search-holds c =
     let start = c .before .before .before in search-starts (start .pre .0) (start .pre .1) (side (c .before))
 
-sub-from : tie.Need-sub-from Inv-loop μ-loop Inv-search μ-search
-sub-from c = omega arith
-
 first-start : (c : tie.Joined2 Inv-loop μ-loop Inv-search μ-search) →
     let at = c .before .before .before in c .if2 .from ≡ at .before .before .before .before .args .s .to - at .search .length
 first-start c = ⊎-elim (λ w. w .2) (λ w. omega (arith, w .0 .left, w .1)) (c .if2 .came)
@@ -119,7 +116,7 @@ longer-line-spec =
     μ-search
     sub-length
     search-holds
-    sub-from
+    (λ c. omega arith)
     loop-holds
     add-t13
     may-stand-requires

@@ -8,9 +8,6 @@ use Rattle.axis.proofs.Tests.{and-both}
 use Rattle.maps.proofs.splits.may_stand.Statement.{statement}
 use Rattle.maps.proofs.splits.may_stand.Tie as tie
 
-ends-on-lines-requires : tie.Need-ends-on-lines-requires
-ends-on-lines-requires c κs = search needs
-
 -- what the first test says
 first : (c : tie.After-ends-on-lines) → let a = c .before .args in
     c .ends-on-lines .result ≡ (inRange (a .lines .w) (a .lines .h) (a .c) && ended (meshOf (layoutOf (a .lines))) (a .c))
@@ -18,9 +15,6 @@ first c = rw (c .before .pre) at (c .ends-on-lines .ensures)
 
 returns : tie.Need-returns
 returns c = rw (sym (first (c .before)) ∙ not-true _ (c .if1 .taken))
-
-shares-stretch-requires : tie.Need-shares-stretch-requires
-shares-stretch-requires c κs = search needs
 
 returns-2 : tie.Need-returns-2
 returns-2 c =
@@ -31,4 +25,4 @@ returns-2 c =
 
 pub may-stand-spec : {M : Type 1} → statement M
 may-stand-spec =
-    tie.close (tie.spec ends-on-lines-requires returns shares-stretch-requires returns-2)
+    tie.close (tie.spec (λ c κs. search needs) returns (λ c κs. search needs) returns-2)

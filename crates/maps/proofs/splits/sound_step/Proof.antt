@@ -22,15 +22,6 @@ module _ (L : Lines) (t : Table) (s : Split) where
   unfolding judged
   step-unsound o = sym (cond-false _ _ _ o)
 
-with-split-requires : tie.Need-with-split-requires
-with-split-requires c κs = search needs
-
-refine-requires : tie.Need-refine-requires
-refine-requires c κs = search needs
-
-full-requires : tie.Need-full-requires
-full-requires c κs = search needs
-
 -- where a table holds the blends, their areas decide
 decided : (c : tie.After-full) → let a = c .before .before .before .before .before .args in c .full .result ≡ soundWith (layoutOf (a .lines)) (a .s)
 decided c =
@@ -60,4 +51,4 @@ returns-3 c =
 pub sound-step-spec : {M : Type 1} → statement M
 sound-step-spec =
     tie.close
-    (tie.spec with-split-requires refine-requires full-requires returns returns-2 returns-3)
+    (tie.spec (λ c κs. search needs) (λ c κs. search needs) (λ c κs. search needs) returns returns-2 returns-3)

@@ -4,15 +4,12 @@ use native.Mathlib.Omega.{arith}
 use mir.Syntax.{w16, w64}
 use mathlib.Core.Path.{_∙_}
 use Rattle.maps.proofs.Changing.{GoodMap, open-map, few}
-use Rattle.maps.proofs.Asking.{place-none, place-some, place-proper}
+use Rattle.maps.proofs.Asking.{place-none, place-some}
 use Rattle.maps.proofs.opened.Opened.place.Statement.{statement}
 use Rattle.maps.proofs.opened.Opened.place.Tie as tie
 
 good-self : (c : tie.Start) → GoodMap (c .args .self .map) (c .args .self .table)
 good-self c = open-map (c .args .self) (c .pre) _ (c .good .0)
-
-no-place-requires : tie.Need-no-place-requires
-no-place-requires c κs = search needs
 
 returns : tie.Need-returns
 returns c = c .no-place .ensures ∙ place-none (good-self (c .before .before .before)) _ (c .before .if1 .taken)
@@ -22,9 +19,6 @@ mul-x c = omega (arith, few (good-self (c .before .before)))
 
 element-copy-out-x : tie.Need-element-copy-out-x
 element-copy-out-x c = omega (arith, few (good-self (c .before .before)))
-
-shape-of-requires : tie.Need-shape-of-requires
-shape-of-requires c κs = let e = c .before .before in place-proper (good-self (e .before .before)) _ (e .if1 .left)
 
 mul-t6 : tie.Need-mul-t6
 mul-t6 c = let e = c .before .before .before in omega (arith, few (good-self (e .before .before)), e .if1 .left)
@@ -46,11 +40,11 @@ pub place-spec : {M : Type 1} → statement M
 place-spec =
     tie.close
     (tie.spec
-    no-place-requires
+    (λ c κs. search needs)
     returns
     mul-x
     element-copy-out-x
-    shape-of-requires
+    (λ c κs. search needs)
     mul-t6
     element-copy-out-t14
     cast-t15

@@ -11,9 +11,6 @@ use Rattle.maps.proofs.opened.Opened.reading.Tie as tie
 good-self : (c : tie.Start) → GoodMap (c .args .self .map) (c .args .self .table)
 good-self c = open-map (c .args .self) (c .pre) _ (c .good .0)
 
-in-domain-requires : tie.Need-in-domain-requires
-in-domain-requires c κs = search needs
-
 returns : tie.Need-returns
 returns c = reading-out (good-self (c .before .before .before)) _ _ (failed (c .before .in-domain .ensures) (c .if1 .taken))
 
@@ -26,4 +23,4 @@ returns-2 c =
     rw (c .reading-of .ensures) (reading-in (good-self (e .before .before .before)) _ _ (passed (e .before .in-domain .ensures) (e .if1 .left)))
 
 pub reading-spec : {M : Type 1} → statement M
-reading-spec = tie.close (tie.spec in-domain-requires returns reading-of-requires returns-2)
+reading-spec = tie.close (tie.spec (λ c κs. search needs) returns reading-of-requires returns-2)

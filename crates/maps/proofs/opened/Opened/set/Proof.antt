@@ -14,23 +14,11 @@ use Rattle.maps.proofs.opened.Opened.set.Tie as tie
 good-self : (c : tie.Start) → GoodMap (c .args .self .map) (c .args .self .table)
 good-self c = open-map (c .args .self) (c .pre) _ (c .good .0)
 
-numbered-requires : tie.Need-numbered-requires
-numbered-requires c κs = search needs
-
 returns : tie.Need-returns
 returns c = c .numbered .ensures ∙ set-beyond (good-self (c .before .before)) _ _ _ (λ x y. omega (arith, c .before .if1 .taken))
 
-numbered-requires-2 : tie.Need-numbered-requires-2
-numbered-requires-2 c κs = search needs
-
 returns-2 : tie.Need-returns-2
 returns-2 c = c .numbered2 .ensures ∙ set-beyond (good-self (c .before .before .before)) _ _ _ (λ x y. omega (arith, c .before .if2 .taken))
-
-add-place-of : tie.Need-add-place-of
-add-place-of c = search needs
-
-add-place-of-2 : tie.Need-add-place-of-2
-add-place-of-2 c = search needs
 
 place-of-requires : tie.Need-place-of-requires
 place-of-requires c κs = few (good-self (c .before .before .before))
@@ -39,9 +27,6 @@ place-of-requires c κs = few (good-self (c .before .before .before))
 found : (c : tie.After-place-of) →
     let a = c .before .before .before .before .args in c .place-of .result ≡ placeOf (blends (plain (a .self .map))) (a .m + 1) (a .n + 1)
 found c = rw (live-blends (good-self (c .before .before .before .before))) at (c .place-of .ensures)
-
-numbered-requires-3 : tie.Need-numbered-requires-3
-numbered-requires-3 c κs = search needs
 
 returns-3 : tie.Need-returns-3
 returns-3 c =
@@ -66,14 +51,14 @@ pub set-spec : {M : Type 1} → statement M
 set-spec =
     tie.close
     (tie.spec
-    numbered-requires
+    (λ c κs. search needs)
     returns
-    numbered-requires-2
+    (λ c κs. search needs)
     returns-2
-    add-place-of
-    add-place-of-2
+    (λ c. search needs)
+    (λ c. search needs)
     place-of-requires
-    numbered-requires-3
+    (λ c κs. search needs)
     returns-3
     mul-map
     element-write-map

@@ -12,12 +12,6 @@ use Rattle.maps.proofs.opened.Opened.weights.Tie as tie
 good-self : (c : tie.Start) → GoodMap (c .args .self .map) (c .args .self .table)
 good-self c = open-map (c .args .self) (c .pre) _ (c .good .0)
 
-in-domain-requires : tie.Need-in-domain-requires
-in-domain-requires c κs = search needs
-
-no-weights-requires : tie.Need-no-weights-requires
-no-weights-requires c κs = search needs
-
 returns : tie.Need-returns
 returns c = c .no-weights .ensures ∙ weights-out (good-self (c .before .before .before .before)) _ _ (failed (c .before .before .in-domain .ensures) (c .before .if1 .taken))
 
@@ -35,4 +29,4 @@ returns-2 c =
 pub weights-spec : {M : Type 1} → statement M
 weights-spec =
     tie.close
-    (tie.spec in-domain-requires no-weights-requires returns weights-of-requires returns-2)
+    (tie.spec (λ c κs. search needs) (λ c κs. search needs) returns weights-of-requires returns-2)
