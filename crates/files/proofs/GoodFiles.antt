@@ -9,7 +9,7 @@ use borrow.Author.Tests.{leb-true, eqb-true}
 use lib.Dec.{leb, eqb}
 use lib.ListN.{length, drop, take-append-drop}
 use Rattle.mesh.specs.declared.Split.{Split}
-use Rattle.mesh.specs.Lines.{Direction, upright, level, number, side, other, allowedSide, inRange}
+use Rattle.mesh.specs.Lines.{Direction, upright, level, number, side, other, allowedSide, inRange, layoutOf}
 use Rattle.axis.proofs.Tests.{either, and-both, all-at}
 use Rattle.mesh.proofs.Drawing.{in-range-says}
 use Rattle.maps.specs.declared.Map.{Map}

@@ -14,16 +14,10 @@ use Rattle.files.proofs.Reading.{Wrote, wrote, file-lengths, not-opened
 use Rattle.files.proofs.read_opened.Statement.{statement}
 use Rattle.files.proofs.read_opened.Tie as tie
 
-refused-requires : tie.Need-refused-requires
-refused-requires c κs = search needs
-
 returns : tie.Need-returns
 returns c =
     let bytes = c .before .before .before .args .bytes .now in
     c .refused .ensures ∙ sym (ap withTable (is-refused bytes (λ g e. let f = file-lengths bytes g e in omega (arith, f .least))))
-
-count-splits-requires : tie.Need-count-splits-requires
-count-splits-requires c κs = search needs
 
 mul-used : tie.Need-mul-used
 mul-used c = omega (arith, count-few (c .before .before .before .args .bytes .now) 8 60)
@@ -31,30 +25,15 @@ mul-used c = omega (arith, count-few (c .before .before .before .args .bytes .no
 add-used : tie.Need-add-used
 add-used c = omega (arith, count-few (c .before .before .before .args .bytes .now) 8 60)
 
-refused-requires-2 : tie.Need-refused-requires-2
-refused-requires-2 c κs = search needs
-
 returns-2 : tie.Need-returns-2
 returns-2 c =
     let bytes = c .before .before .before .before .before .args .bytes .now in
     c .refused2 .ensures ∙ sym (ap withTable (is-refused bytes (λ g e. let f = file-lengths bytes g e in omega (arith, f .least))))
 
-refused-requires-3 : tie.Need-refused-requires-3
-refused-requires-3 c κs = search needs
-
 returns-3 : tie.Need-returns-3
 returns-3 c =
     let bytes = c .before .before .before .before .before .before .args .bytes .now in
     c .refused3 .ensures ∙ sym (ap withTable (is-refused bytes (λ g e. let f = file-lengths bytes g e in omega (arith, f .most))))
-
-taken-requires : tie.Need-taken-requires
-taken-requires c κs = search needs
-
-open-requires : tie.Need-open-requires
-open-requires c κs = search needs
-
-refused-requires-4 : tie.Need-refused-requires-4
-refused-requires-4 c κs = search needs
 
 returns-4 : tie.Need-returns-4
 returns-4 c =
@@ -63,9 +42,6 @@ returns-4 c =
     c .refused4 .ensures ∙
     sym (ap withTable (not-opened (start .args .bytes .now) (taken .taken .result) (taken .taken .ensures)
     (not-good _ (c .before .before .before .«open» .result) (c .before .before .before .«open» .ensures) (c .before .if4 .taken))))
-
-slice-aggregate-write-opened : tie.Need-slice-aggregate-write-opened
-slice-aggregate-write-opened c = search needs
 
 write-opened-requires : tie.Need-write-opened-requires
 write-opened-requires c κs =
@@ -77,11 +53,8 @@ write-opened-requires c κs =
 wrote-opened : (c : tie.After-write-opened) →
     let o = c .before .before .before .before in
     let m = o .before .taken .result in
-    (c .write-opened .result ≡ written m (replicate 10972 0)) × (c .write-opened .last .0 ≡ after m (replicate 10972 0))
+    (c .write-opened .result ≡ written m (replicate 10972 0)) × (c .write-opened .last .1 .0 ≡ after m (replicate 10972 0))
 wrote-opened c = let o = c .before .before .before .before .«open» in rw (same-map _ (o .result) (o .ensures)) at (c .write-opened .ensures)
-
-refused-requires-5 : tie.Need-refused-requires-5
-refused-requires-5 c κs = search needs
 
 returns-5 : tie.Need-returns-5
 returns-5 c =
@@ -93,7 +66,7 @@ returns-5 c =
 
 filed : (c : tie.Else5) →
     let put = c .before .before .before in
-    Wrote (put .before .before .before .before .before .taken .result) (put .write-opened .result .length) (put .write-opened .last .0)
+    Wrote (put .before .before .before .before .before .taken .result) (put .write-opened .result .length) (put .write-opened .last .1 .0)
 filed c =
     let put = c .before .before .before in
     let w = wrote-opened put in
@@ -104,12 +77,6 @@ array-share-prefix-buffer c = filed c .fits
 
 slice-aggregate-equal : tie.Need-slice-aggregate-equal
 slice-aggregate-equal c = sym (length-take-le _ _ (filed (c .before) .fits))
-
-equal-requires : tie.Need-equal-requires
-equal-requires c κs = search needs
-
-refused-requires-6 : tie.Need-refused-requires-6
-refused-requires-6 c κs = search needs
 
 returns-6 : tie.Need-returns-6
 returns-6 c =
@@ -134,26 +101,26 @@ pub read-opened-spec : {M : Type 1} → statement M
 read-opened-spec =
     tie.close
     (tie.spec
-    refused-requires
+    (λ c κs. search needs)
     returns
-    count-splits-requires
+    (λ c κs. search needs)
     mul-used
     add-used
-    refused-requires-2
+    (λ c κs. search needs)
     returns-2
-    refused-requires-3
+    (λ c κs. search needs)
     returns-3
-    taken-requires
-    open-requires
-    refused-requires-4
+    (λ c κs. search needs)
+    (λ c κs. search needs)
+    (λ c κs. search needs)
     returns-4
-    slice-aggregate-write-opened
+    (λ c. search needs)
     write-opened-requires
-    refused-requires-5
+    (λ c κs. search needs)
     returns-5
     array-share-prefix-buffer
     slice-aggregate-equal
-    equal-requires
-    refused-requires-6
+    (λ c κs. search needs)
+    (λ c κs. search needs)
     returns-6
     returns-7)

@@ -8,12 +8,6 @@ use Rattle.maps.specs.Opened.{opened, withTable}
 use Rattle.files.proofs.refused.Statement.{statement}
 use Rattle.files.proofs.refused.Tie as tie
 
-fresh-requires : tie.Need-fresh-requires
-fresh-requires c κs = search needs
-
-open-requires : tie.Need-open-requires
-open-requires c κs = search needs
-
 returns : tie.Need-returns
 unfolding freshMap opened
 returns c =
@@ -22,4 +16,4 @@ returns c =
     ap (λ (x : Changed). withTable (changed 11 (x .map))) (c .before .fresh .ensures)
 
 pub refused-spec : {M : Type 1} → statement M
-refused-spec = tie.close (tie.spec fresh-requires open-requires returns)
+refused-spec = tie.close (tie.spec (λ c κs. search needs) (λ c κs. search needs) returns)

@@ -5,9 +5,6 @@ use Rattle.files.proofs.Filing.{write-bad}
 use Rattle.files.proofs.write.Statement.{statement}
 use Rattle.files.proofs.write.Tie as tie
 
-open-requires : tie.Need-open-requires
-open-requires c κs = search needs
-
 returns : tie.Need-returns
 returns c =
     let o = c .before .before in
@@ -16,11 +13,8 @@ returns c =
 write-opened-requires : tie.Need-write-opened-requires
 write-opened-requires c κs = let o = c .before .before .before .«open» in is-opened _ (o .result) (o .ensures) (c .before .if1 .left)
 
-same-length : tie.Need-same-length
-same-length c = search needs
-
 returns-2 : tie.Need-returns-2
 returns-2 c = let put = c .before .before in let o = put .before .before .before .before .«open» in rw (same-map _ (o .result) (o .ensures)) at (put .write-opened .ensures)
 
 pub write-spec : {M : Type 1} → statement M
-write-spec = tie.close (tie.spec open-requires returns write-opened-requires same-length returns-2)
+write-spec = tie.close (tie.spec (λ c κs. search needs) returns write-opened-requires (λ c. search needs) returns-2)

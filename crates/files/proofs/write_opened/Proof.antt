@@ -33,9 +33,6 @@ put-file-requires c κs =
     let r = is-ready (c .before .before .before .before .before .before .before) in
     (r .listed, r .few, c .before .if1 .left)
 
-same-length : tie.Need-same-length
-same-length c = search needs
-
 returns-2 : tie.Need-returns-2
 returns-2 c =
     let start = c .before .before .before .before .before .before .before .before .before .before in
@@ -53,5 +50,5 @@ write-opened-spec =
     add-length-2
     returns
     put-file-requires
-    same-length
+    (λ c. search needs)
     returns-2)

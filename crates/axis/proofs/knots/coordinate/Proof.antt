@@ -12,12 +12,6 @@ use Rattle.axis.proofs.knots.coordinate.Tie as tie
 returns : tie.Need-returns
 returns c = rw (c .if1 .taken)
 
-sub-result : tie.Need-sub-result
-sub-result c = search needs
-
-cast-result : tie.Need-cast-result
-cast-result c = search needs
-
 -- a knot after the first is one more than its coordinate
 less-one : (k : ℕ) → (k ≡ 0 → ⊥) → pos (k - 1) ≡ predℤ (pos k)
 less-one zero ne = absurd (ne refl)
@@ -27,4 +21,4 @@ returns-2 : tie.Need-returns-2
 returns-2 c = toZ-pos w64 (omega arith) ∙ less-one _ (c .if1 .left)
 
 pub coordinate-spec : {M : Type 1} → statement M
-coordinate-spec = tie.close (tie.spec returns sub-result cast-result returns-2)
+coordinate-spec = tie.close (tie.spec returns (λ c. search needs) (λ c. search needs) returns-2)

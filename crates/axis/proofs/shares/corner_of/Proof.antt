@@ -5,9 +5,6 @@ use borrow.Author.Tests.{eq-eqb, ne-eqb}
 use Rattle.axis.proofs.shares.corner_of.Statement.{statement}
 use Rattle.axis.proofs.shares.corner_of.Tie as tie
 
-less-requires : tie.Need-less-requires
-less-requires c κs = search needs
-
 returns : tie.Need-returns
 returns c = rw (eq-eqb _ _ (c .before .if1 .taken)) (c .less .ensures)
 
@@ -15,4 +12,4 @@ returns-2 : tie.Need-returns-2
 returns-2 c = rw (ne-eqb _ _ (c .if1 .left))
 
 pub corner-of-spec : {M : Type 1} → statement M
-corner-of-spec = tie.close (tie.spec less-requires returns returns-2)
+corner-of-spec = tie.close (tie.spec (λ c κs. search needs) returns returns-2)

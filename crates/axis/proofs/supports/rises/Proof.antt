@@ -19,12 +19,6 @@ returns c = rw (le-ltb _ _ (c .if1 .taken))
 returns-2 : tie.Need-returns-2
 returns-2 c = rw (lt-ltb _ _ (c .before .before .if1 .left), le-ltb _ _ (c .if2 .taken))
 
-wide-requires : tie.Need-wide-requires
-wide-requires c κs = search needs
-
-less-requires : tie.Need-less-requires
-less-requires c κs = search needs
-
 returns-3 : tie.Need-returns-3
 returns-3 c =
     let e = c .before .before in
@@ -32,4 +26,4 @@ returns-3 c =
     rw (c .less .ensures, c .before .wide .ensures, lt-ltb _ _ (e .before .before .if1 .left), lt-ltb _ _ (e .if2 .left)) (two-less (a .x .r) (a .side))
 
 pub rises-spec : {M : Type 1} → statement M
-rises-spec = tie.close (tie.spec returns returns-2 wide-requires less-requires returns-3)
+rises-spec = tie.close (tie.spec returns returns-2 (λ c κs. search needs) (λ c κs. search needs) returns-3)

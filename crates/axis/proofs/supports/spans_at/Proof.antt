@@ -5,16 +5,10 @@ use borrow.Author.Tests.{lt-leb, le-leb}
 use Rattle.axis.proofs.supports.spans_at.Statement.{statement}
 use Rattle.axis.proofs.supports.spans_at.Tie as tie
 
-wide-requires : tie.Need-wide-requires
-wide-requires c κs = search needs
-
 returns : tie.Need-returns
 returns c =
     let a = c .before .before .args in
     rw (lt-leb (a .t .l) (a .x) (omega arith))
-
-wide-requires-2 : tie.Need-wide-requires-2
-wide-requires-2 c κs = search needs
 
 returns-2 : tie.Need-returns-2
 returns-2 c =
@@ -22,4 +16,4 @@ returns-2 c =
     rw (le-leb (a .t .l) (a .x) (omega arith), c .wide2 .ensures)
 
 pub spans-at-spec : {M : Type 1} → statement M
-spans-at-spec = tie.close (tie.spec wide-requires returns wide-requires-2 returns-2)
+spans-at-spec = tie.close (tie.spec (λ c κs. search needs) returns (λ c κs. search needs) returns-2)

@@ -18,17 +18,8 @@ use Rattle.calls.proofs.show.number.Reads as number-reads
 use Rattle.calls.proofs.show.text.Reads as text-reads
 
 -- src/show.rt:19:14
-slice-aggregate-text : tie.Need-slice-aggregate-text
-slice-aggregate-text c = search needs
-
 -- src/show.rt:19:9
-text-requires : tie.Need-text-requires
-text-requires c κs = search needs
-
 -- src/show.rt:20:9
-returns : tie.Need-returns
-returns c = search needs
-
 -- src/show.rt:22:12
 not-below : (z : ℤ) → ltZ z (pos 0) ≡ false → T (nonNeg z)
 not-below (pos a) e = tt
@@ -43,14 +34,9 @@ cast-number c =
     )
 
 -- src/show.rt:22:5
-number-requires : tie.Need-number-requires
-number-requires c κs = search needs
-
 -- src/show.rt:17:1
-returns-2 : tie.Need-returns-2
-returns-2 c = search needs
 
 pub coordinate-spec : {M : Type 1} → statement M
 coordinate-spec =
     tie.close
-    (tie.spec slice-aggregate-text text-requires returns cast-number number-requires returns-2)
+    (tie.spec (λ c. search needs) (λ c κs. search needs) (λ c. search needs) cast-number (λ c κs. search needs) (λ c. search needs))

@@ -5,18 +5,6 @@ use Rattle.files.proofs.Whole.{Sized, some-size, no-size, payload-part}
 use Rattle.files.proofs.bytes.payload.Statement.{statement}
 use Rattle.files.proofs.bytes.payload.Tie as tie
 
-size-at-requires : tie.Need-size-at-requires
-size-at-requires c κs = search needs
-
-sub-result : tie.Need-sub-result
-sub-result c = search needs
-
-part-result-start : tie.Need-part-result-start
-part-result-start c = search needs
-
-part-result-end : tie.Need-part-result-end
-part-result-end c = search needs
-
 returns : tie.Need-returns
 returns c =
     let e = no-size _ _ _ (c .before .before .size-at .ensures) (c .before .if1 .taken) in
@@ -51,10 +39,10 @@ pub payload-spec : {M : Type 1} → statement M
 payload-spec =
     tie.close
     (tie.spec
-    size-at-requires
-    sub-result
-    part-result-start
-    part-result-end
+    (λ c κs. search needs)
+    (λ c. search needs)
+    (λ c. search needs)
+    (λ c. search needs)
     returns
     add-from
     add-to

@@ -13,14 +13,8 @@ returns c = size-none _ _ (λ w. omega (arith, w .start))
 returns-2 : tie.Need-returns-2
 returns-2 c = size-none _ _ (λ w. omega (arith, w .start))
 
-word-at-requires : tie.Need-word-at-requires
-word-at-requires c κs = search needs
-
 returns-3 : tie.Need-returns-3
 returns-3 c = size-none _ _ (λ w. omega (arith, w .size, c .before .word-at .ensures .0))
-
-sub-if4 : tie.Need-sub-if4
-sub-if4 c = search needs
 
 returns-4 : tie.Need-returns-4
 returns-4 c = size-none _ _ (λ w. omega (arith, w .end, c .before .before .word-at .ensures .0))
@@ -33,4 +27,4 @@ returns-5 c =
 
 pub size-at-spec : {M : Type 1} → statement M
 size-at-spec =
-    tie.close (tie.spec returns returns-2 word-at-requires returns-3 sub-if4 returns-4 returns-5)
+    tie.close (tie.spec returns returns-2 (λ c κs. search needs) returns-3 (λ c. search needs) returns-4 returns-5)

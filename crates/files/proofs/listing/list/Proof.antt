@@ -6,14 +6,8 @@ use Rattle.files.proofs.TableText.{text-short, text-put, lists-refusal,
 use Rattle.files.proofs.listing.list.Statement.{statement}
 use Rattle.files.proofs.listing.list.Tie as tie
 
-read-opened-requires : tie.Need-read-opened-requires
-read-opened-requires c κs = search needs
-
 list-opened-requires : tie.Need-list-opened-requires
 list-opened-requires c κs = read-opens _ (c .before .before .before .read-opened .ensures)
-
-same-length : tie.Need-same-length
-same-length c = search needs
 
 returns : tie.Need-returns
 returns c =
@@ -24,12 +18,6 @@ returns c =
 
 returns-2 : tie.Need-returns-2
 returns-2 c = text-short _ _ (c .if2 .taken)
-
-put-refusal-requires : tie.Need-put-refusal-requires
-put-refusal-requires c κs = search needs
-
-same-length-2 : tie.Need-same-length-2
-same-length-2 c = search needs
 
 returns-3 : tie.Need-returns-3
 returns-3 c =
@@ -44,11 +32,11 @@ pub list-spec : {M : Type 1} → statement M
 list-spec =
     tie.close
     (tie.spec
-    read-opened-requires
+    (λ c κs. search needs)
     list-opened-requires
-    same-length
+    (λ c. search needs)
     returns
     returns-2
-    put-refusal-requires
-    same-length-2
+    (λ c κs. search needs)
+    (λ c. search needs)
     returns-3)

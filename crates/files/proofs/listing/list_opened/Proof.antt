@@ -18,9 +18,6 @@ put-table-requires c κs =
     let s = room .before .before in
     (ready (good-self s) .listed, room .if1 .left)
 
-same-length : tie.Need-same-length
-same-length c = search needs
-
 returns-2 : tie.Need-returns-2
 returns-2 c =
     let put = c .before .before in
@@ -29,4 +26,4 @@ returns-2 c =
     text-put _ _ (room .if1 .left) (rw (← opened-text (good-self s)) (put .put-table .ensures))
 
 pub list-opened-spec : {M : Type 1} → statement M
-list-opened-spec = tie.close (tie.spec returns put-table-requires same-length returns-2)
+list-opened-spec = tie.close (tie.spec returns put-table-requires (λ c. search needs) returns-2)

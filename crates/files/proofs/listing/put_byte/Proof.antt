@@ -6,18 +6,9 @@ use lib.Seq.{sets-eq}
 use Rattle.files.proofs.listing.put_byte.Statement.{statement}
 use Rattle.files.proofs.listing.put_byte.Tie as tie
 
-slice-write-out : tie.Need-slice-write-out
-slice-write-out c = search needs
-
-add-result : tie.Need-add-result
-add-result c = search needs
-
-same-length : tie.Need-same-length
-same-length c = search needs
-
 returns : tie.Need-returns
 returns c =
     record { is = sets-eq (c .args .byte ∷ []) (c .args .out .now) (c .args .at) (c .pre); ends = refl }
 
 pub put-byte-spec : {M : Type 1} → statement M
-put-byte-spec = tie.close (tie.spec slice-write-out add-result same-length returns)
+put-byte-spec = tie.close (tie.spec (λ c. search needs) (λ c. search needs) (λ c. search needs) returns)

@@ -20,9 +20,6 @@ put-byte-requires-2 c κs =
     let a = start .args in
     next-room (a .out .now) (a .at) (45 ∷ []) (49 ∷ []) (rw (outer-coordinate (a .knot) (at .if1 .taken)) at (start .pre)) (put .put-byte .ensures)
 
-same-length : tie.Need-same-length
-same-length c = search needs
-
 returns : tie.Need-returns
 returns c =
     let last = c .before .before in
@@ -32,20 +29,11 @@ returns c =
     let a = start .args in
     rw (outer-coordinate (a .knot) (at .if1 .taken)) (puts-then (a .out .now) (a .at) (45 ∷ []) (49 ∷ []) (rw (outer-coordinate (a .knot) (at .if1 .taken)) at (start .pre)) (put .put-byte .ensures) (last .put-byte2 .ensures))
 
-sub-wide : tie.Need-sub-wide
-sub-wide c = search needs
-
-wide-requires : tie.Need-wide-requires
-wide-requires c κs = search needs
-
 put-digits-requires : tie.Need-put-digits-requires
 put-digits-requires c κs =
     let at = c .before .before in
     let start = at .before .before in
     rw (c .wide .ensures) (rw (inner-coordinate (start .args .knot) (at .if1 .left)) at (start .pre))
-
-same-length-2 : tie.Need-same-length-2
-same-length-2 c = search needs
 
 returns-2 : tie.Need-returns-2
 returns-2 c =
@@ -60,10 +48,10 @@ put-coordinate-spec =
     (tie.spec
     put-byte-requires
     put-byte-requires-2
-    same-length
+    (λ c. search needs)
     returns
-    sub-wide
-    wide-requires
+    (λ c. search needs)
+    (λ c κs. search needs)
     put-digits-requires
-    same-length-2
+    (λ c. search needs)
     returns-2)

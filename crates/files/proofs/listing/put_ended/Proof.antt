@@ -19,9 +19,6 @@ put-byte-requires c κs =
     let a = start .args in
     next-room (a .out .now) (a .at) (digits (a .n)) (10 ∷ []) (start .pre) (put .put-digits .ensures)
 
-same-length : tie.Need-same-length
-same-length c = search needs
-
 returns : tie.Need-returns
 returns c =
     let last = c .before .before in
@@ -31,4 +28,4 @@ returns c =
     puts-then (a .out .now) (a .at) (digits (a .n)) (10 ∷ []) (start .pre) (put .put-digits .ensures) (last .put-byte .ensures)
 
 pub put-ended-spec : {M : Type 1} → statement M
-put-ended-spec = tie.close (tie.spec put-digits-requires put-byte-requires same-length returns)
+put-ended-spec = tie.close (tie.spec put-digits-requires put-byte-requires (λ c. search needs) returns)

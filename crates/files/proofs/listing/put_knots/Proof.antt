@@ -29,9 +29,6 @@ put-spaced-requires-3 c κs =
     let a = start .args in
     third-room (a .out .now) (a .at) (spaced (a .triple .l)) (spaced (a .triple .m)) (spaced (a .triple .r)) (start .pre) (first .put-spaced .ensures) (second .put-spaced2 .ensures)
 
-same-length : tie.Need-same-length
-same-length c = search needs
-
 returns : tie.Need-returns
 unfolding knots
 returns c =
@@ -45,4 +42,4 @@ returns c =
 pub put-knots-spec : {M : Type 1} → statement M
 put-knots-spec =
     tie.close
-    (tie.spec put-spaced-requires put-spaced-requires-2 put-spaced-requires-3 same-length returns)
+    (tie.spec put-spaced-requires put-spaced-requires-2 put-spaced-requires-3 (λ c. search needs) returns)

@@ -29,9 +29,6 @@ put-ended-requires c κs =
     let a = start .args in
     third-room (a .out .now) (a .at) (knots (a .blend .across)) (knots (a .blend .up)) (ended (a .value)) (start .pre) (first .put-knots .ensures) (second .put-knots2 .ensures)
 
-same-length : tie.Need-same-length
-same-length c = search needs
-
 returns : tie.Need-returns
 unfolding line
 returns c =
@@ -45,4 +42,4 @@ returns c =
 pub put-line-spec : {M : Type 1} → statement M
 put-line-spec =
     tie.close
-    (tie.spec put-knots-requires put-knots-requires-2 put-ended-requires same-length returns)
+    (tie.spec put-knots-requires put-knots-requires-2 put-ended-requires (λ c. search needs) returns)

@@ -7,9 +7,6 @@ use Rattle.files.specs.Listing.{refusal}
 use Rattle.files.proofs.listing.put_refusal.Statement.{statement}
 use Rattle.files.proofs.listing.put_refusal.Tie as tie
 
-slice-write-out : tie.Need-slice-write-out
-slice-write-out c = search needs
-
 slice-write-out-2 : tie.Need-slice-write-out-2
 slice-write-out-2 c = simp length-set (omega (arith, c .pre))
 
@@ -37,12 +34,6 @@ slice-write-out-9 c = simp length-set (omega (arith, c .pre))
 slice-write-out-10 : tie.Need-slice-write-out-10
 slice-write-out-10 c = simp length-set (omega (arith, c .pre))
 
-slice-write-out-11 : tie.Need-slice-write-out-11
-slice-write-out-11 c = search needs
-
-same-length : tie.Need-same-length
-same-length c = search needs
-
 returns : tie.Need-returns
 returns c = sets-eq refusal (c .args .out .now) 0 (c .pre)
 
@@ -50,7 +41,7 @@ pub put-refusal-spec : {M : Type 1} → statement M
 put-refusal-spec =
     tie.close
     (tie.spec
-    slice-write-out
+    (λ c. search needs)
     slice-write-out-2
     slice-write-out-3
     slice-write-out-4
@@ -60,6 +51,6 @@ put-refusal-spec =
     slice-write-out-8
     slice-write-out-9
     slice-write-out-10
-    slice-write-out-11
-    same-length
+    (λ c. search needs)
+    (λ c. search needs)
     returns)

@@ -19,9 +19,6 @@ put-byte-requires c κs =
     let a = start .args in
     next-room (a .out .now) (a .at) (coordinate (a .knot)) (32 ∷ []) (start .pre) (put .put-coordinate .ensures)
 
-same-length : tie.Need-same-length
-same-length c = search needs
-
 returns : tie.Need-returns
 returns c =
     let last = c .before .before in
@@ -32,4 +29,4 @@ returns c =
 
 pub put-spaced-spec : {M : Type 1} → statement M
 put-spaced-spec =
-    tie.close (tie.spec put-coordinate-requires put-byte-requires same-length returns)
+    tie.close (tie.spec put-coordinate-requires put-byte-requires (λ c. search needs) returns)

@@ -82,9 +82,6 @@ array-read-wide : tie.Need-array-read-wide Inv-loop μ-loop
 array-read-wide c =
     let start = c .before .before .before .before .before .before .before .before in omega (arith, start .pre .0 .few)
 
-wide-requires : tie.Need-wide-requires Inv-loop μ-loop
-wide-requires c κs = search needs
-
 put-line-requires : tie.Need-put-line-requires Inv-loop μ-loop
 put-line-requires c κs =
     let wide = c .before in
@@ -93,12 +90,6 @@ put-line-requires c κs =
     let start = first .before .before .before in
     rw (in-hand wide) at
     (rows-room line 42 _ _ _ (room first) (at .loop .inv) (term none 0) (rw (counted start) (wide .before .before .loop-test .taken)) (short wide))
-
-add-i : tie.Need-add-i Inv-loop μ-loop
-add-i c = omega arith
-
-loop-less : tie.Need-loop-less Inv-loop μ-loop
-loop-less c = omega arith
 
 loop-again : tie.Need-loop-again Inv-loop μ-loop
 loop-again c =
@@ -138,10 +129,10 @@ put-table-spec =
     element-copy-out-blend
     mul-wide
     array-read-wide
-    wide-requires
+    (λ c κs. search needs)
     put-line-requires
-    add-i
-    loop-less
+    (λ c. omega arith)
+    (λ c. omega arith)
     loop-again
     same-length
     returns)

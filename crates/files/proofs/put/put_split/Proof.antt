@@ -5,15 +5,6 @@ use Rattle.files.proofs.Putting.{words-fit}
 use Rattle.files.proofs.put.put_split.Statement.{statement}
 use Rattle.files.proofs.put.put_split.Tie as tie
 
-slice-aggregate-put-words : tie.Need-slice-aggregate-put-words
-slice-aggregate-put-words c = search needs
-
-put-words-requires : tie.Need-put-words-requires
-put-words-requires c κs = search needs
-
-same-length : tie.Need-same-length
-same-length c = search needs
-
 returns : tie.Need-returns
 returns c =
     let put = c .before .before in
@@ -21,4 +12,4 @@ returns c =
 
 pub put-split-spec : {M : Type 1} → statement M
 put-split-spec =
-    tie.close (tie.spec slice-aggregate-put-words put-words-requires same-length returns)
+    tie.close (tie.spec (λ c. search needs) (λ c κs. search needs) (λ c. search needs) returns)

@@ -27,28 +27,10 @@ room c = rw (counted c) (c .pre .1)
 loop-holds : tie.Need-loop-holds Inv-loop μ-loop
 loop-holds c = some-none splitEntry 12 _ _ 8
 
-mul-split : tie.Need-mul-split Inv-loop μ-loop
-mul-split c = omega arith
-
-array-copy-out-split : tie.Need-array-copy-out-split Inv-loop μ-loop
-array-copy-out-split c = omega arith
-
-mul-put-split : tie.Need-mul-put-split Inv-loop μ-loop
-mul-put-split c = omega arith
-
-add-put-split : tie.Need-add-put-split Inv-loop μ-loop
-add-put-split c = omega arith
-
 put-split-requires : tie.Need-put-split-requires Inv-loop μ-loop
 put-split-requires c κs =
     let start = c .before .before .before .before .before in
     some-room splitEntry 12 _ _ 8 split-long (room start) (c .before .before .before .loop .inv) (omega (arith, counted start))
-
-add-i : tie.Need-add-i Inv-loop μ-loop
-add-i c = omega arith
-
-loop-less : tie.Need-loop-less Inv-loop μ-loop
-loop-less c = omega arith
 
 loop-again : tie.Need-loop-again Inv-loop μ-loop
 loop-again c =
@@ -73,13 +55,13 @@ put-splits-spec =
     Inv-loop
     μ-loop
     loop-holds
-    mul-split
-    array-copy-out-split
-    mul-put-split
-    add-put-split
+    (λ c. omega arith)
+    (λ c. omega arith)
+    (λ c. omega arith)
+    (λ c. omega arith)
     put-split-requires
-    add-i
-    loop-less
+    (λ c. omega arith)
+    (λ c. omega arith)
     loop-again
     same-length
     returns)

@@ -41,27 +41,6 @@ rises c =
 loop-holds : tie.Need-loop-holds Inv-loop μ-loop
 loop-holds c = some-none valueEntry 10 _ _ _
 
-mul-blend : tie.Need-mul-blend Inv-loop μ-loop
-mul-blend c = omega arith
-
-element-copy-out-blend : tie.Need-element-copy-out-blend Inv-loop μ-loop
-element-copy-out-blend c = omega arith
-
-mul-wide : tie.Need-mul-wide Inv-loop μ-loop
-mul-wide c = omega arith
-
-array-read-wide : tie.Need-array-read-wide Inv-loop μ-loop
-array-read-wide c = omega arith
-
-wide-requires : tie.Need-wide-requires Inv-loop μ-loop
-wide-requires c κs = search needs
-
-mul-put-value : tie.Need-mul-put-value Inv-loop μ-loop
-mul-put-value c = omega arith
-
-add-put-value : tie.Need-add-put-value Inv-loop μ-loop
-add-put-value c = omega arith
-
 sub-put-value : tie.Need-sub-put-value Inv-loop μ-loop
 sub-put-value c = let p = rises (c .before .before .before .before) in omega (arith, p .across .low)
 
@@ -73,12 +52,6 @@ put-value-requires c κs =
     let at = c .before .before .before .before .before .before in
     let start = at .before .before in
     some-room valueEntry 10 _ _ _ value-long (room start) (at .loop .inv) (omega (arith, counted start))
-
-add-i : tie.Need-add-i Inv-loop μ-loop
-add-i c = omega arith
-
-loop-less : tie.Need-loop-less Inv-loop μ-loop
-loop-less c = omega arith
 
 loop-again : tie.Need-loop-again Inv-loop μ-loop
 loop-again c =
@@ -106,18 +79,18 @@ put-values-spec =
     Inv-loop
     μ-loop
     loop-holds
-    mul-blend
-    element-copy-out-blend
-    mul-wide
-    array-read-wide
-    wide-requires
-    mul-put-value
-    add-put-value
+    (λ c. omega arith)
+    (λ c. omega arith)
+    (λ c. omega arith)
+    (λ c. omega arith)
+    (λ c κs. search needs)
+    (λ c. omega arith)
+    (λ c. omega arith)
     sub-put-value
     sub-put-value-2
     put-value-requires
-    add-i
-    loop-less
+    (λ c. omega arith)
+    (λ c. omega arith)
     loop-again
     same-length
     returns)

@@ -16,27 +16,6 @@ abbrev μ-loop : tie.MeasureT-loop
 loop-holds : tie.Need-loop-holds Inv-loop μ-loop
 loop-holds c = (filled-none _ noSplit 60, omega arith)
 
-mul-split-at : tie.Need-mul-split-at Inv-loop μ-loop
-mul-split-at c = omega arith
-
-add-split-at : tie.Need-add-split-at Inv-loop μ-loop
-add-split-at c = omega arith
-
-split-at-requires : tie.Need-split-at-requires Inv-loop μ-loop
-split-at-requires c κs = omega arith
-
-mul-splits : tie.Need-mul-splits Inv-loop μ-loop
-mul-splits c = omega arith
-
-array-set-from-splits : tie.Need-array-set-from-splits Inv-loop μ-loop
-array-set-from-splits c = omega arith
-
-add-i : tie.Need-add-i Inv-loop μ-loop
-add-i c = omega arith
-
-loop-less : tie.Need-loop-less Inv-loop μ-loop
-loop-less c = omega arith
-
 loop-again : tie.Need-loop-again Inv-loop μ-loop
 loop-again c = (filled-more _ noSplit 60 (c .before .before .loop .inv .0) (omega arith) _ (c .split-at .ensures), omega arith)
 
@@ -50,12 +29,12 @@ take-splits-spec =
     Inv-loop
     μ-loop
     loop-holds
-    mul-split-at
-    add-split-at
-    split-at-requires
-    mul-splits
-    array-set-from-splits
-    add-i
-    loop-less
+    (λ c. omega arith)
+    (λ c. omega arith)
+    (λ c κs. omega arith)
+    (λ c. omega arith)
+    (λ c. omega arith)
+    (λ c. omega arith)
+    (λ c. omega arith)
     loop-again
     returns)

@@ -5,25 +5,10 @@ use Rattle.files.proofs.Taking.{count-few, told-map}
 use Rattle.files.proofs.take.taken.Statement.{statement}
 use Rattle.files.proofs.take.taken.Tie as tie
 
-word-at-requires : tie.Need-word-at-requires
-word-at-requires c κs = search needs
-
-word-at-requires-2 : tie.Need-word-at-requires-2
-word-at-requires-2 c κs = search needs
-
 take-splits-requires : tie.Need-take-splits-requires
 take-splits-requires c κs =
     let start = c .before .before .before in
     (omega (arith, count-few (start .args .bytes .now) 8 60), omega arith)
-
-mul-at : tie.Need-mul-at
-mul-at c = search needs
-
-add-at : tie.Need-add-at
-add-at c = search needs
-
-take-values-requires : tie.Need-take-values-requires
-take-values-requires c κs = search needs
 
 returns : tie.Need-returns
 returns c =
@@ -38,10 +23,10 @@ pub taken-spec : {M : Type 1} → statement M
 taken-spec =
     tie.close
     (tie.spec
-    word-at-requires
-    word-at-requires-2
+    (λ c κs. search needs)
+    (λ c κs. search needs)
     take-splits-requires
-    mul-at
-    add-at
-    take-values-requires
+    (λ c. search needs)
+    (λ c. search needs)
+    (λ c κs. search needs)
     returns)

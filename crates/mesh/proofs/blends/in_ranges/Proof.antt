@@ -9,9 +9,6 @@ use Rattle.mesh.proofs.Drawing.{allowed-says}
 use Rattle.mesh.proofs.blends.in_ranges.Statement.{statement}
 use Rattle.mesh.proofs.blends.in_ranges.Tie as tie
 
-allowed-lines-requires : tie.Need-allowed-lines-requires
-allowed-lines-requires c κs = search needs
-
 returns : tie.Need-returns
 returns c = rw (failed (c .before .allowed-lines .ensures) (c .if1 .taken))
 
@@ -31,4 +28,4 @@ returns-3 c = rw (lines-ok (c .before .before), le-leb _ _ (c .before .if2 .left
 
 pub in-ranges-spec : {M : Type 1} → statement M
 in-ranges-spec =
-    tie.close (tie.spec allowed-lines-requires returns returns-2 proper-table-requires returns-3)
+    tie.close (tie.spec (λ c κs. search needs) returns returns-2 proper-table-requires returns-3)

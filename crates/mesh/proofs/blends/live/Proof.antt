@@ -41,16 +41,10 @@ module _ (L : Lines) where
   sixty : allowed L ≡ true → length (splitsOf L) ≤ 60
   sixty e = let s = allowed-says L e in omega (arith, length-take (L .count) (L .splits))
 
-refusal-requires : tie.Need-refusal-requires
-refusal-requires c κs = search needs
-
 -- every refusal hands back the same
 unsound : (c : tie.After-refusal) (r : Found) → r ≡ record { ok = false; table = table [] } →
     record { ok = false; table = c .refusal .result .table } ≡ r
 unsound c r e = ap (λ (x : Found). record { ok = false; table = x .table }) (c .refusal .ensures) ∙ sym e
-
-allowed-lines-requires : tie.Need-allowed-lines-requires
-allowed-lines-requires c κs = search needs
 
 returns : tie.Need-returns
 returns c =
@@ -61,9 +55,6 @@ in-range c = passed (c .before .allowed-lines .ensures) (c .if1 .left)
 
 first-four-requires : tie.Need-first-four-requires
 first-four-requires c κs = let sides = allowed-says _ (in-range c) in (sides .across .1, sides .up .1)
-
-refine-requires : tie.Need-refine-requires
-refine-requires c κs = search needs
 
 -- what is found are the live blends, as a table holds them
 found : (c : tie.After-refine) → let L = c .before .before .before .before .before .before .args .lines in
@@ -81,9 +72,6 @@ returns-2 c =
     let ok = in-range e in
     unsound (e .before .before .before) _
     (not-sound L ok (unfit-unsound (allowed-says L ok) (splitsOf L) (sixty L ok) (found r) (not-true _ (c .if2 .taken))))
-
-full-requires : tie.Need-full-requires
-full-requires c κs = search needs
 
 -- the areas of those that a table holds decide
 decided : (c : tie.After-full) → let L = c .before .before .before .before .before .before .before .before .before .before .args .lines in
@@ -113,12 +101,12 @@ pub live-spec : {M : Type 1} → statement M
 live-spec =
     tie.close
     (tie.spec
-    refusal-requires
-    allowed-lines-requires
+    (λ c κs. search needs)
+    (λ c κs. search needs)
     returns
     first-four-requires
-    refine-requires
+    (λ c κs. search needs)
     returns-2
-    full-requires
+    (λ c κs. search needs)
     returns-3
     returns-4)

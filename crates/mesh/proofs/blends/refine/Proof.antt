@@ -13,12 +13,6 @@ use Rattle.mesh.proofs.Refining.{Ranged, ranged-says, ranged-most, out-
 use Rattle.mesh.proofs.blends.refine.Statement.{statement}
 use Rattle.mesh.proofs.blends.refine.Tie as tie
 
-in-ranges-requires : tie.Need-in-ranges-requires
-in-ranges-requires c κs = search needs
-
-refusal-requires : tie.Need-refusal-requires
-refusal-requires c κs = search needs
-
 returns : tie.Need-returns
 returns c = c .refusal .ensures ∙ out-refused _ _ (failed (c .before .before .in-ranges .ensures) (c .before .if1 .taken))
 
@@ -26,23 +20,8 @@ returns c = c .refusal .ensures ∙ out-refused _ _ (failed (c .before .before .
 ranged-ok : (c : tie.Else1) → Ranged (c .before .before .args .lines) (c .before .before .args .old)
 ranged-ok c = ranged-says _ _ (passed (c .before .in-ranges .ensures) (c .if1 .left))
 
-slice-aggregate-draw-mesh : tie.Need-slice-aggregate-draw-mesh
-slice-aggregate-draw-mesh c = search needs
-
-slice-aggregate-draw-mesh-2 : tie.Need-slice-aggregate-draw-mesh-2
-slice-aggregate-draw-mesh-2 c = search needs
-
 draw-mesh-requires : tie.Need-draw-mesh-requires
 draw-mesh-requires c κs = (ranged-ok (c .before .before) .ok, refl, refl)
-
-slice-aggregate-cut-all : tie.Need-slice-aggregate-cut-all
-slice-aggregate-cut-all c = search needs
-
-slice-aggregate-cut-all-2 : tie.Need-slice-aggregate-cut-all-2
-slice-aggregate-cut-all-2 c = search needs
-
-slice-aggregate-cut-all-3 : tie.Need-slice-aggregate-cut-all-3
-slice-aggregate-cut-all-3 c = search needs
 
 cut-all-requires : tie.Need-cut-all-requires
 cut-all-requires c κs =
@@ -65,20 +44,8 @@ cut c =
       all-kept = c .cut-all .ensures ∙ ap (λ (M : Mesh). keepAll empty (leavesOf M bs)) (drawn .draw-mesh .ensures .2);
     }
 
-array-read-if2 : tie.Need-array-read-if2
-array-read-if2 c = search needs
-
-refusal-requires-2 : tie.Need-refusal-requires-2
-refusal-requires-2 c κs = search needs
-
 returns-2 : tie.Need-returns-2
 returns-2 c = c .refusal2 .ensures ∙ met-refused (cut (c .before .before .before)) (c .before .if2 .taken)
-
-slice-aggregate-read-out : tie.Need-slice-aggregate-read-out
-slice-aggregate-read-out c = search needs
-
-slice-aggregate-read-out-2 : tie.Need-slice-aggregate-read-out-2
-slice-aggregate-read-out-2 c = search needs
 
 read-out-requires : tie.Need-read-out-requires
 read-out-requires c κs =
@@ -93,20 +60,20 @@ pub refine-spec : {M : Type 1} → statement M
 refine-spec =
     tie.close
     (tie.spec
-    in-ranges-requires
-    refusal-requires
+    (λ c κs. search needs)
+    (λ c κs. search needs)
     returns
-    slice-aggregate-draw-mesh
-    slice-aggregate-draw-mesh-2
+    (λ c. search needs)
+    (λ c. search needs)
     draw-mesh-requires
-    slice-aggregate-cut-all
-    slice-aggregate-cut-all-2
-    slice-aggregate-cut-all-3
+    (λ c. search needs)
+    (λ c. search needs)
+    (λ c. search needs)
     cut-all-requires
-    array-read-if2
-    refusal-requires-2
+    (λ c. search needs)
+    (λ c κs. search needs)
     returns-2
-    slice-aggregate-read-out
-    slice-aggregate-read-out-2
+    (λ c. search needs)
+    (λ c. search needs)
     read-out-requires
     returns-3)

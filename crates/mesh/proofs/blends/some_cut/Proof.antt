@@ -10,9 +10,6 @@ use Rattle.mesh.proofs.Refining.{Ranged, ranged-says, ranged-most, out-
 use Rattle.mesh.proofs.blends.some_cut.Statement.{statement}
 use Rattle.mesh.proofs.blends.some_cut.Tie as tie
 
-in-ranges-requires : tie.Need-in-ranges-requires
-in-ranges-requires c κs = search needs
-
 returns : tie.Need-returns
 returns c = out-uncut _ _ (failed (c .before .in-ranges .ensures) (c .if1 .taken))
 
@@ -20,20 +17,8 @@ returns c = out-uncut _ _ (failed (c .before .in-ranges .ensures) (c .if1 .taken
 ranged-ok : (c : tie.Else1) → Ranged (c .before .before .args .lines) (c .before .before .args .old)
 ranged-ok c = ranged-says _ _ (passed (c .before .in-ranges .ensures) (c .if1 .left))
 
-slice-aggregate-draw-mesh : tie.Need-slice-aggregate-draw-mesh
-slice-aggregate-draw-mesh c = search needs
-
-slice-aggregate-draw-mesh-2 : tie.Need-slice-aggregate-draw-mesh-2
-slice-aggregate-draw-mesh-2 c = search needs
-
 draw-mesh-requires : tie.Need-draw-mesh-requires
 draw-mesh-requires c κs = (ranged-ok (c .before .before) .ok, refl, refl)
-
-slice-aggregate-any-cut : tie.Need-slice-aggregate-any-cut
-slice-aggregate-any-cut c = search needs
-
-slice-aggregate-any-cut-2 : tie.Need-slice-aggregate-any-cut-2
-slice-aggregate-any-cut-2 c = search needs
 
 any-cut-requires : tie.Need-any-cut-requires
 any-cut-requires c κs =
@@ -52,12 +37,12 @@ pub some-cut-spec : {M : Type 1} → statement M
 some-cut-spec =
     tie.close
     (tie.spec
-    in-ranges-requires
+    (λ c κs. search needs)
     returns
-    slice-aggregate-draw-mesh
-    slice-aggregate-draw-mesh-2
+    (λ c. search needs)
+    (λ c. search needs)
     draw-mesh-requires
-    slice-aggregate-any-cut
-    slice-aggregate-any-cut-2
+    (λ c. search needs)
+    (λ c. search needs)
     any-cut-requires
     returns-2)

@@ -38,12 +38,6 @@ by-next : (c : tie.In-loop Inv-loop μ-loop) (b : Bool) →
     isCut M (getD (a .t3 .blends) (l .i) none) ≡ b → (b || any (isCut M) (drop (l .i + 1) (blendsOf (a .t3)))) ≡ any (isCut M) (blendsOf (a .t3))
 by-next c b e = rw (← e) (rw (next c .turn) at (c .before .loop .inv .1))
 
-mul-x : tie.Need-mul-x Inv-loop μ-loop
-mul-x c = omega arith
-
-element-copy-out-x : tie.Need-element-copy-out-x Inv-loop μ-loop
-element-copy-out-x c = omega arith
-
 sub-first-line : tie.Need-sub-first-line Inv-loop μ-loop
 sub-first-line c = let p = next (c .before .before .before .before) .proper in omega arith
 
@@ -73,12 +67,6 @@ returns-2 c =
     let t = c .before .before .before .before .before .before .before .before .before in
     by-next t true (some-line _ _ level (λ e. c .if2 .taken (c .before .first-line2 .ensures ∙ e)))
 
-add-i : tie.Need-add-i Inv-loop μ-loop
-add-i c = omega arith
-
-loop-less : tie.Need-loop-less Inv-loop μ-loop
-loop-less c = omega arith
-
 loop-again : tie.Need-loop-again Inv-loop μ-loop
 unfolding bytesMesh
 loop-again c =
@@ -101,15 +89,15 @@ any-cut-spec =
     Inv-loop
     μ-loop
     loop-holds
-    mul-x
-    element-copy-out-x
+    (λ c. omega arith)
+    (λ c. omega arith)
     sub-first-line
     first-line-requires
     returns
     sub-first-line-2
     first-line-requires-2
     returns-2
-    add-i
-    loop-less
+    (λ c. omega arith)
+    (λ c. omega arith)
     loop-again
     returns-3)

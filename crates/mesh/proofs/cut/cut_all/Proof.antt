@@ -26,12 +26,6 @@ next c =
     let s = c .before .before .before .before .before in
     next-blend (s .args .t3) _ (s .good .1 .1 .0) (s .pre .3) (s .pre .4) (omega arith)
 
-mul-x : tie.Need-mul-x Inv-loop μ-loop
-mul-x c = omega arith
-
-element-copy-out-x : tie.Need-element-copy-out-x Inv-loop μ-loop
-element-copy-out-x c = omega arith
-
 cut-across-requires : tie.Need-cut-across-requires Inv-loop μ-loop
 cut-across-requires c κs =
     let l = c .before .before .before .loop in
@@ -42,12 +36,6 @@ cut-across-requires c κs =
       next (c .before .before) .proper,
       λ e. absurd (true-not-false _ e refl),
     )
-
-add-i : tie.Need-add-i Inv-loop μ-loop
-add-i c = omega arith
-
-loop-less : tie.Need-loop-less Inv-loop μ-loop
-loop-less c = omega arith
 
 loop-again : tie.Need-loop-again Inv-loop μ-loop
 loop-again c =
@@ -71,11 +59,11 @@ cut-all-spec =
     Inv-loop
     μ-loop
     loop-holds
-    mul-x
-    element-copy-out-x
+    (λ c. omega arith)
+    (λ c. omega arith)
     cut-across-requires
-    add-i
-    loop-less
+    (λ c. omega arith)
+    (λ c. omega arith)
     loop-again
     same-length
     returns)

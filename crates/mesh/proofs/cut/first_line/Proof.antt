@@ -6,17 +6,11 @@ use Rattle.mesh.proofs.Cutting.{over}
 use Rattle.mesh.proofs.cut.first_line.Statement.{statement}
 use Rattle.mesh.proofs.cut.first_line.Tie as tie
 
-nearest-below-requires : tie.Need-nearest-below-requires
-nearest-below-requires c κs = search needs
-
 returns : tie.Need-returns
 returns c =
     let a = c .before .before .before .args in
     let low = c .before .nearest-below .ensures in
     rw (nearest-under (over (a .steps .now) (a .b) (a .n)) (a .x) (λ e. c .if1 .taken (low ∙ e))) low
-
-nearest-above-requires : tie.Need-nearest-above-requires
-nearest-above-requires c κs = search needs
 
 returns-2 : tie.Need-returns-2
 returns-2 c =
@@ -26,4 +20,4 @@ returns-2 c =
 
 pub first-line-spec : {M : Type 1} → statement M
 first-line-spec =
-    tie.close (tie.spec nearest-below-requires returns nearest-above-requires returns-2)
+    tie.close (tie.spec (λ c κs. search needs) returns (λ c κs. search needs) returns-2)

@@ -17,14 +17,8 @@ Inv-loop steps b n l z₀ z =
 abbrev μ-loop : tie.MeasureT-loop
 μ-loop steps b n l z₀ z = z
 
-sub-z : tie.Need-sub-z Inv-loop μ-loop
-sub-z c = search needs
-
 loop-holds : tie.Need-loop-holds Inv-loop μ-loop
 loop-holds c = (omega arith, refl)
-
-covers-requires : tie.Need-covers-requires Inv-loop μ-loop
-covers-requires c κs = search needs
 
 returns : tie.Need-returns Inv-loop μ-loop
 returns c =
@@ -34,12 +28,6 @@ returns c =
     let whole : a .x .m - 1 - a .x .l ≡ a .x .m - a .x .l - 1 = omega arith in
     let hit : over (a .steps .now) (a .b) (a .n) (l .z) ≡ true = sym (c .before .covers .ensures) ∙ c .if1 .taken in
     rw (← whole, ← l .inv .1, turn, hit)
-
-sub-z-2 : tie.Need-sub-z-2 Inv-loop μ-loop
-sub-z-2 c = search needs
-
-loop-less : tie.Need-loop-less Inv-loop μ-loop
-loop-less c = search needs
 
 loop-again : tie.Need-loop-again Inv-loop μ-loop
 loop-again c =
@@ -62,11 +50,11 @@ nearest-below-spec =
     (tie.spec
     Inv-loop
     μ-loop
-    sub-z
+    (λ c. search needs)
     loop-holds
-    covers-requires
+    (λ c κs. search needs)
     returns
-    sub-z-2
-    loop-less
+    (λ c. search needs)
+    (λ c. search needs)
     loop-again
     returns-2)

@@ -4,17 +4,11 @@ use borrow.Author.Tests.{eq-eqb, ne-eqb}
 use Rattle.mesh.proofs.points.before_end.Statement.{statement}
 use Rattle.mesh.proofs.points.before_end.Tie as tie
 
-add-result : tie.Need-add-result
-add-result c = search needs
-
 returns : tie.Need-returns
 returns c = rw (eq-eqb _ _ (c .if1 .taken))
-
-add-result-2 : tie.Need-add-result-2
-add-result-2 c = search needs
 
 returns-2 : tie.Need-returns-2
 returns-2 c = rw (ne-eqb _ _ (c .before .if1 .left))
 
 pub before-end-spec : {M : Type 1} → statement M
-before-end-spec = tie.close (tie.spec add-result returns add-result-2 returns-2)
+before-end-spec = tie.close (tie.spec (λ c. search needs) returns (λ c. search needs) returns-2)

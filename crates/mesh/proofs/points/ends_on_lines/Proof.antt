@@ -9,9 +9,6 @@ use Rattle.mesh.proofs.SingleSteps.{Small, both-kept, ended-by}
 use Rattle.mesh.proofs.points.ends_on_lines.Statement.{statement}
 use Rattle.mesh.proofs.points.ends_on_lines.Tie as tie
 
-both-in-range-requires : tie.Need-both-in-range-requires
-both-in-range-requires c κs = search needs
-
 returns : tie.Need-returns
 returns c = refused (c .before .both-in-range .ensures) _ (c .if1 .taken)
 
@@ -57,7 +54,7 @@ pub ends-on-lines-spec : {M : Type 1} → statement M
 ends-on-lines-spec =
     tie.close
     (tie.spec
-    both-in-range-requires
+    (λ c κs. search needs)
     returns
     sub-across
     add-k

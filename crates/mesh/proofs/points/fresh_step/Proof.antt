@@ -6,9 +6,6 @@ use mathlib.Core.Bool.{and-false, and-true}
 use Rattle.mesh.proofs.points.fresh_step.Statement.{statement}
 use Rattle.mesh.proofs.points.fresh_step.Tie as tie
 
-add-if1 : tie.Need-add-if1
-add-if1 c = search needs
-
 returns : tie.Need-returns
 returns c = simp (le-ltb _ _ (c .if1 .taken), and-false)
 
@@ -19,17 +16,11 @@ returns-3 : tie.Need-returns-3
 returns-3 c =
     simp (ne-eqb _ _ (c .before .if2 .left), eq-eqb _ _ (c .if3 .taken), lt-ltb _ _ (c .before .before .if1 .left))
 
-add-if4 : tie.Need-add-if4
-add-if4 c = search needs
-
 returns-4 : tie.Need-returns-4
 returns-4 c =
     let e = c .before .before in
     simp
     (ne-eqb _ _ (e .if2 .left), ne-eqb _ _ (c .before .if3 .left), eq-eqb _ _ (c .if4 .taken), lt-ltb _ _ (e .before .if1 .left))
-
-add-result : tie.Need-add-result
-add-result c = search needs
 
 returns-5 : tie.Need-returns-5
 returns-5 c =
@@ -40,4 +31,4 @@ returns-5 c =
 
 pub fresh-step-spec : {M : Type 1} → statement M
 fresh-step-spec =
-    tie.close (tie.spec add-if1 returns returns-2 returns-3 add-if4 returns-4 add-result returns-5)
+    tie.close (tie.spec (λ c. search needs) returns returns-2 returns-3 (λ c. search needs) returns-4 (λ c. search needs) returns-5)

@@ -4,9 +4,6 @@ use Rattle.axis.proofs.Tests.{refused, passed, second}
 use Rattle.mesh.proofs.points.on_line.Statement.{statement}
 use Rattle.mesh.proofs.points.on_line.Tie as tie
 
-allowed-lines-requires : tie.Need-allowed-lines-requires
-allowed-lines-requires c κs = search needs
-
 returns : tie.Need-returns
 returns c = refused (c .before .allowed-lines .ensures) _ (c .if1 .taken)
 
@@ -17,4 +14,4 @@ returns-2 : tie.Need-returns-2
 returns-2 c = second (c .before .before .allowed-lines .ensures) (c .before .if1 .left) (c .point-on .ensures)
 
 pub on-line-spec : {M : Type 1} → statement M
-on-line-spec = tie.close (tie.spec allowed-lines-requires returns point-on-requires returns-2)
+on-line-spec = tie.close (tie.spec (λ c κs. search needs) returns point-on-requires returns-2)

@@ -8,9 +8,6 @@ use Rattle.mesh.specs.Lines.{direction, layoutOf, meshOf, onLine}
 use Rattle.mesh.proofs.points.point_on.Statement.{statement}
 use Rattle.mesh.proofs.points.point_on.Tie as tie
 
-step-on-requires : tie.Need-step-on-requires
-step-on-requires c κs = search needs
-
 returns : tie.Need-returns
 unfolding onLine
 returns c = rw (sym (c .before .step-on .ensures) ∙ c .if1 .taken)
@@ -23,12 +20,6 @@ returns-2 : tie.Need-returns-2
 unfolding onLine
 returns-2 c = rw (off (c .before), le-ltb 0 (c .before .before .before .args .k) (omega arith))
 
-sub-step-on : tie.Need-sub-step-on
-sub-step-on c = omega arith
-
-step-on-requires-2 : tie.Need-step-on-requires-2
-step-on-requires-2 c κs = search needs
-
 returns-3 : tie.Need-returns-3
 unfolding onLine
 returns-3 c =
@@ -38,4 +29,4 @@ returns-3 c =
 pub point-on-spec : {M : Type 1} → statement M
 point-on-spec =
     tie.close
-    (tie.spec step-on-requires returns returns-2 sub-step-on step-on-requires-2 returns-3)
+    (tie.spec (λ c κs. search needs) returns returns-2 (λ c. omega arith) (λ c κs. search needs) returns-3)

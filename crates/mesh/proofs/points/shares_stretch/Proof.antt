@@ -19,9 +19,6 @@ Inv-loop lines z number k₀ left₀ k left =
 abbrev μ-loop : tie.MeasureT-loop
 μ-loop lines z number k₀ left₀ k left = left
 
-both-in-range-requires : tie.Need-both-in-range-requires Inv-loop μ-loop
-both-in-range-requires c κs = search needs
-
 returns : tie.Need-returns Inv-loop μ-loop
 returns c = refused (c .before .both-in-range .ensures) _ (c .if1 .taken)
 
@@ -62,15 +59,6 @@ returns-2 c =
     let e = c .before .before .before .before .before .before .before in
     second (e .before .both-in-range .ensures) (e .if1 .left) (sym (turn (c .before) ∙ rw (c .if2 .taken)))
 
-add-k-2 : tie.Need-add-k-2 Inv-loop μ-loop
-add-k-2 c = omega arith
-
-sub-left-2 : tie.Need-sub-left-2 Inv-loop μ-loop
-sub-left-2 c = omega arith
-
-loop-less : tie.Need-loop-less Inv-loop μ-loop
-loop-less c = omega arith
-
 loop-again : tie.Need-loop-again Inv-loop μ-loop
 unfolding shares
 loop-again c =
@@ -91,7 +79,7 @@ shares-stretch-spec =
     (tie.spec
     Inv-loop
     μ-loop
-    both-in-range-requires
+    (λ c κs. search needs)
     returns
     add-z
     add-k
@@ -99,8 +87,8 @@ shares-stretch-spec =
     loop-holds
     step-on-requires
     returns-2
-    add-k-2
-    sub-left-2
-    loop-less
+    (λ c. omega arith)
+    (λ c. omega arith)
+    (λ c. omega arith)
     loop-again
     returns-3)

@@ -12,9 +12,6 @@ use Rattle.mesh.proofs.points.split_step.Tie as tie
 returns : tie.Need-returns
 returns c = rw (ne-eqb _ _ (c .if1 .taken))
 
-add-if2 : tie.Need-add-if2
-add-if2 c = search needs
-
 returns-2 : tie.Need-returns-2
 returns-2 c = rw (eq-eqb _ _ (c .before .before .if1 .left), ne-eqb _ _ (c .if2 .taken))
 
@@ -23,9 +20,6 @@ placed : (c : tie.Else2) →
     let a = c .before .before .before .before .args in
     (eqb (a .s .direction) (a .number) ≡ true) × (eqb (a .z) (a .s .position + 1) ≡ true)
 placed c = (eq-eqb _ _ (c .before .before .if1 .left), eq-eqb _ _ (c .if2 .left))
-
-before-end-requires : tie.Need-before-end-requires
-before-end-requires c κs = search needs
 
 returns-3 : tie.Need-returns-3
 returns-3 c =
@@ -37,9 +31,6 @@ returns-4 c =
     let e = placed (c .before .before .before .before) in
     let a = c .before .before .before .before .before .before .before .before .args in
     rw (e .0, e .1, ne-eqb _ _ (c .before .before .if3 .left), lt-leb (a .s .from + 1) (a .k) (omega arith))
-
-before-end-requires-2 : tie.Need-before-end-requires-2
-before-end-requires-2 c κs = search needs
 
 returns-5 : tie.Need-returns-5
 returns-5 c =
@@ -53,10 +44,10 @@ split-step-spec =
     tie.close
     (tie.spec
     returns
-    add-if2
+    (λ c. search needs)
     returns-2
-    before-end-requires
+    (λ c κs. search needs)
     returns-3
     returns-4
-    before-end-requires-2
+    (λ c κs. search needs)
     returns-5)

@@ -6,12 +6,6 @@ use Rattle.axis.proofs.Tests.{cond-true, cond-false}
 use Rattle.mesh.proofs.read.first_row.Statement.{statement}
 use Rattle.mesh.proofs.read.first_row.Tie as tie
 
-shared-slice-read-if1 : tie.Need-shared-slice-read-if1
-shared-slice-read-if1 c = search needs
-
-add-result : tie.Need-add-result
-add-result c = search needs
-
 returns : tie.Need-returns
 returns c = sym (cond-true _ _ _ (eq-eqb _ _ (c .if1 .taken)))
 
@@ -19,4 +13,4 @@ returns-2 : tie.Need-returns-2
 returns-2 c = sym (cond-false _ _ _ (ne-eqb _ _ (c .if1 .left)))
 
 pub first-row-spec : {M : Type 1} → statement M
-first-row-spec = tie.close (tie.spec shared-slice-read-if1 add-result returns returns-2)
+first-row-spec = tie.close (tie.spec (λ c. search needs) (λ c. search needs) returns returns-2)

@@ -23,16 +23,10 @@ Inv-loop places marks w h blends₀ count₀ m₀ blends count m =
 abbrev μ-loop : tie.MeasureT-loop
 μ-loop places marks w h blends₀ count₀ m₀ blends count m = w + 2 - m
 
-nothing-requires : tie.Need-nothing-requires Inv-loop2 μ-loop2 Inv-loop μ-loop
-nothing-requires c κs = search needs
-
 loop-holds : tie.Need-loop-holds Inv-loop2 μ-loop2 Inv-loop μ-loop
 loop-holds c =
     let a = c .before .before .before .args in
     (omega arith, rw (c .nothing .ensures, ← walk-rows (a .w) (a .h) (a .places .now)) (read-none (walk (a .w) (a .h) (a .places .now))))
-
-add-loop : tie.Need-add-loop Inv-loop2 μ-loop2 Inv-loop μ-loop
-add-loop c = search needs
 
 first-row-requires : tie.Need-first-row-requires Inv-loop2 μ-loop2 Inv-loop μ-loop
 first-row-requires c κs = let p = c .before .before .before .before .before .pre in (p .1, omega arith, p .3)
@@ -47,24 +41,6 @@ loop2-holds c =
     (omega arith) (c .first-row .ensures) in
     (r .0, rw (r .1) at (l .inv .1))
 
-add-loop2 : tie.Need-add-loop2 Inv-loop2 μ-loop2 Inv-loop μ-loop
-add-loop2 c = search needs
-
-mul-c : tie.Need-mul-c Inv-loop2 μ-loop2 Inv-loop μ-loop
-mul-c c = search needs
-
-add-c : tie.Need-add-c Inv-loop2 μ-loop2 Inv-loop μ-loop
-add-c c = search needs
-
-mul-c-2 : tie.Need-mul-c-2 Inv-loop2 μ-loop2 Inv-loop μ-loop
-mul-c-2 c = search needs
-
-shared-slice-read-c : tie.Need-shared-slice-read-c Inv-loop2 μ-loop2 Inv-loop μ-loop
-shared-slice-read-c c = search needs
-
-refusal-requires : tie.Need-refusal-requires Inv-loop2 μ-loop2 Inv-loop μ-loop
-refusal-requires c κs = search needs
-
 returns : tie.Need-returns Inv-loop2 μ-loop2 Inv-loop μ-loop
 returns c =
     let a = c .before .before .before .before .before .before .before .before .before .before .before .before .args in
@@ -74,23 +50,8 @@ returns c =
     (read-full (c .before .if2 .taken)
     (rw (place-holds (a .w) (a .h) (a .places .now) m (l .n) (omega arith) (c .before .before .if1 .taken)) at (l .inv .1)))
 
-unpack-requires : tie.Need-unpack-requires Inv-loop2 μ-loop2 Inv-loop μ-loop
-unpack-requires c κs = search needs
-
-mul-blends : tie.Need-mul-blends Inv-loop2 μ-loop2 Inv-loop μ-loop
-mul-blends c = search needs
-
 array-set-from-blends : tie.Need-array-set-from-blends Inv-loop2 μ-loop2 Inv-loop μ-loop
 array-set-from-blends c = let l = c .before .before .before .before .before .loop2 .inv .1 .fits in omega arith
-
-add-count : tie.Need-add-count Inv-loop2 μ-loop2 Inv-loop μ-loop
-add-count c = search needs
-
-add-n : tie.Need-add-n Inv-loop2 μ-loop2 Inv-loop μ-loop
-add-n c = search needs
-
-loop2-less : tie.Need-loop2-less Inv-loop2 μ-loop2 Inv-loop μ-loop
-loop2-less c = search needs
 
 loop2-again : tie.Need-loop2-again Inv-loop2 μ-loop2 Inv-loop μ-loop
 loop2-again c =
@@ -106,12 +67,6 @@ loop2-again c =
           (λ t. rw (t .1, t .2) (rw (place-empty (a .w) (a .h) (a .places .now) m (l .n) (omega arith) (t .0 .left)) at (l .inv .1)))
           (c .if1 .came),
     )
-
-add-m : tie.Need-add-m Inv-loop2 μ-loop2 Inv-loop μ-loop
-add-m c = search needs
-
-loop-less : tie.Need-loop-less Inv-loop2 μ-loop2 Inv-loop μ-loop
-loop-less c = search needs
 
 loop-again : tie.Need-loop-again Inv-loop2 μ-loop2 Inv-loop μ-loop
 loop-again c =
@@ -134,26 +89,26 @@ read-out-spec =
     μ-loop2
     Inv-loop
     μ-loop
-    nothing-requires
+    (λ c κs. search needs)
     loop-holds
-    add-loop
+    (λ c. search needs)
     first-row-requires
     loop2-holds
-    add-loop2
-    mul-c
-    add-c
-    mul-c-2
-    shared-slice-read-c
-    refusal-requires
+    (λ c. search needs)
+    (λ c. search needs)
+    (λ c. search needs)
+    (λ c. search needs)
+    (λ c. search needs)
+    (λ c κs. search needs)
     returns
-    unpack-requires
-    mul-blends
+    (λ c κs. search needs)
+    (λ c. search needs)
     array-set-from-blends
-    add-count
-    add-n
-    loop2-less
+    (λ c. search needs)
+    (λ c. search needs)
+    (λ c. search needs)
     loop2-again
-    add-m
-    loop-less
+    (λ c. search needs)
+    (λ c. search needs)
     loop-again
     returns-2)

@@ -27,19 +27,10 @@ next c =
     let s = c .before .before .before .before .before in
     next-blend (s .args .t5) _ (s .good .1 .1 .1 .1 .0) (s .pre .4) (s .pre .5) (omega arith)
 
-mul-x : tie.Need-mul-x Inv-loop μ-loop
-mul-x c = omega arith
-
-element-copy-out-x : tie.Need-element-copy-out-x Inv-loop μ-loop
-element-copy-out-x c = omega arith
-
 cuts-blend-requires : tie.Need-cuts-blend-requires Inv-loop μ-loop
 cuts-blend-requires c κs =
     let p = c .before .before .before .before .before .before .pre in
     (p .0, p .1, p .3, next (c .before) .proper)
-
-place-requires : tie.Need-place-requires Inv-loop μ-loop
-place-requires c κs = tt
 
 -- its anchor has a place
 in-square : (c : tie.After-place Inv-loop μ-loop) → c .place .result < 17161
@@ -59,12 +50,6 @@ slice-write-places c =
     let q = in-loop .before .before .before .before .before .pre .2 in
     let p = in-square c in
     omega arith
-
-add-i : tie.Need-add-i Inv-loop μ-loop
-add-i c = omega arith
-
-loop-less : tie.Need-loop-less Inv-loop μ-loop
-loop-less c = omega arith
 
 loop-again : tie.Need-loop-again Inv-loop μ-loop
 loop-again c =
@@ -95,14 +80,14 @@ clear-cut-spec =
     Inv-loop
     μ-loop
     loop-holds
-    mul-x
-    element-copy-out-x
+    (λ c. omega arith)
+    (λ c. omega arith)
     cuts-blend-requires
-    place-requires
+    (λ c κs. tt)
     mul-places
     slice-write-places
-    add-i
-    loop-less
+    (λ c. omega arith)
+    (λ c. omega arith)
     loop-again
     same-length
     returns)

@@ -29,12 +29,6 @@ next c =
     let s = c .before .before .before .before .before in
     next-blend (s .args .t5) _ (s .good .1 .1 .1 .1 .0) (s .pre .4) (s .pre .5) (omega arith)
 
-mul-x : tie.Need-mul-x Inv-loop μ-loop
-mul-x c = omega arith
-
-element-copy-out-x : tie.Need-element-copy-out-x Inv-loop μ-loop
-element-copy-out-x c = omega arith
-
 cuts-blend-requires : tie.Need-cuts-blend-requires Inv-loop μ-loop
 cuts-blend-requires c κs =
     let p = c .before .before .before .before .before .before .pre in
@@ -50,12 +44,6 @@ cut-across-requires c κs =
       next in-loop .proper,
       λ e. absurd (true-not-false _ e refl),
     )
-
-add-i : tie.Need-add-i Inv-loop μ-loop
-add-i c = omega arith
-
-loop-less : tie.Need-loop-less Inv-loop μ-loop
-loop-less c = omega arith
 
 loop-again : tie.Need-loop-again Inv-loop μ-loop
 loop-again c =
@@ -86,12 +74,12 @@ cut-those-spec =
     Inv-loop
     μ-loop
     loop-holds
-    mul-x
-    element-copy-out-x
+    (λ c. omega arith)
+    (λ c. omega arith)
     cuts-blend-requires
     cut-across-requires
-    add-i
-    loop-less
+    (λ c. omega arith)
+    (λ c. omega arith)
     loop-again
     same-length
     returns)

@@ -6,15 +6,9 @@ use Rattle.mesh.specs.Bytes.{bytesMesh}
 use Rattle.mesh.proofs.replay.cuts_blend.Statement.{statement}
 use Rattle.mesh.proofs.replay.cuts_blend.Tie as tie
 
-cuts-triple-requires : tie.Need-cuts-triple-requires
-cuts-triple-requires c κs = search needs
-
 returns : tie.Need-returns
 unfolding cuts bytesMesh
 returns c = rw (eq-eqb _ _ (c .before .if1 .taken)) (c .cuts-triple .ensures)
-
-cuts-triple-requires-2 : tie.Need-cuts-triple-requires-2
-cuts-triple-requires-2 c κs = search needs
 
 returns-2 : tie.Need-returns-2
 unfolding cuts bytesMesh
@@ -22,4 +16,4 @@ returns-2 c = rw (ne-eqb _ _ (c .before .if1 .left)) (c .cuts-triple2 .ensures)
 
 pub cuts-blend-spec : {M : Type 1} → statement M
 cuts-blend-spec =
-    tie.close (tie.spec cuts-triple-requires returns cuts-triple-requires-2 returns-2)
+    tie.close (tie.spec (λ c κs. search needs) returns (λ c κs. search needs) returns-2)

@@ -16,12 +16,6 @@ returns-3 c =
     let a = c .before .before .before .before .before .before .before .args in
     rw (lt-ltb (a .x .l) (a .z) (omega arith), lt-ltb (a .z) (a .x .r) (omega arith), eq-eqb _ _ (c .if3 .taken))
 
-sub-covers : tie.Need-sub-covers
-sub-covers c = search needs
-
-covers-requires : tie.Need-covers-requires
-covers-requires c κs = search needs
-
 returns-4 : tie.Need-returns-4
 returns-4 c =
     let a = c .before .before .before .before .before .before .before .before .before .args in
@@ -30,4 +24,4 @@ returns-4 c =
 
 pub cuts-triple-spec : {M : Type 1} → statement M
 cuts-triple-spec =
-    tie.close (tie.spec returns returns-2 returns-3 sub-covers covers-requires returns-4)
+    tie.close (tie.spec returns returns-2 returns-3 (λ c. search needs) (λ c κs. search needs) returns-4)

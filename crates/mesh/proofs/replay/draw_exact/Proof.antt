@@ -11,9 +11,6 @@ use Rattle.mesh.proofs.Recutting.{both-drawn}
 use Rattle.mesh.proofs.replay.draw_exact.Statement.{statement}
 use Rattle.mesh.proofs.replay.draw_exact.Tie as tie
 
-in-range-requires : tie.Need-in-range-requires
-in-range-requires c κs = tt
-
 returns : tie.Need-returns
 returns c =
     let p = c .before .before .before .before .pre in
@@ -29,12 +26,6 @@ may-be-drawn-requires c κs =
     let a = start .args in
     let small = in-range-small (a .w) (a .h) (a .s) (in-range e) (start .pre .2) (start .pre .3) in
     (start .pre .0, start .pre .1, small .position, small .rises, small .to)
-
-same-length : tie.Need-same-length
-same-length c = search needs
-
-same-length-2 : tie.Need-same-length-2
-same-length-2 c = search needs
 
 returns-2 : tie.Need-returns-2
 returns-2 c =
@@ -66,12 +57,6 @@ draw-split-requires-2 c κs =
       λ q. let r = in-range-says (a .w) (a .h) level (a .s) (in-range e) q in (omega (arith, start .pre .3), r .1, r .2),
     )
 
-same-length-3 : tie.Need-same-length-3
-same-length-3 c = search needs
-
-same-length-4 : tie.Need-same-length-4
-same-length-4 c = search needs
-
 returns-3 : tie.Need-returns-3
 returns-3 c =
     let two = c .before .before in
@@ -92,14 +77,14 @@ pub draw-exact-spec : {M : Type 1} → statement M
 draw-exact-spec =
     tie.close
     (tie.spec
-    in-range-requires
+    (λ c κs. tt)
     returns
     may-be-drawn-requires
-    same-length
-    same-length-2
+    (λ c. search needs)
+    (λ c. search needs)
     returns-2
     draw-split-requires
     draw-split-requires-2
-    same-length-3
-    same-length-4
+    (λ c. search needs)
+    (λ c. search needs)
     returns-3)

@@ -8,15 +8,6 @@ use Rattle.mesh.proofs.Bytes.{mark-off}
 use Rattle.mesh.proofs.replay.mark.Statement.{statement}
 use Rattle.mesh.proofs.replay.mark.Tie as tie
 
-add-at : tie.Need-add-at
-add-at c = search needs
-
-slice-write-marks : tie.Need-slice-write-marks
-slice-write-marks c = search needs
-
-same-length : tie.Need-same-length
-same-length c = search needs
-
 returns : tie.Need-returns
 returns c =
     let start = c .before .before .before in
@@ -29,4 +20,4 @@ returns-2 : tie.Need-returns-2
 returns-2 c = (c .before .before .pre .0, λ z e. (e, λ q. absurd (c .if1 .left q)))
 
 pub mark-spec : {M : Type 1} → statement M
-mark-spec = tie.close (tie.spec add-at slice-write-marks same-length returns returns-2)
+mark-spec = tie.close (tie.spec (λ c. search needs) (λ c. search needs) (λ c. search needs) returns returns-2)

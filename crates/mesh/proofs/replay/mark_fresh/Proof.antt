@@ -6,26 +6,11 @@ use Rattle.mesh.proofs.Bytes.{fresh-marks}
 use Rattle.mesh.proofs.replay.mark_fresh.Statement.{statement}
 use Rattle.mesh.proofs.replay.mark_fresh.Tie as tie
 
-add-far : tie.Need-add-far
-add-far c = search needs
-
-add-beyond : tie.Need-add-beyond
-add-beyond c = search needs
-
-slice-write-marks : tie.Need-slice-write-marks
-slice-write-marks c = search needs
-
-slice-write-marks-2 : tie.Need-slice-write-marks-2
-slice-write-marks-2 c = search needs
-
 slice-write-marks-3 : tie.Need-slice-write-marks-3
 slice-write-marks-3 c = rw (length-set, length-set) (omega arith)
 
 slice-write-marks-4 : tie.Need-slice-write-marks-4
 slice-write-marks-4 c = rw (length-set, length-set, length-set) (omega arith)
-
-same-length : tie.Need-same-length
-same-length c = search needs
 
 returns : tie.Need-returns
 returns c = fresh-marks (c .args .marks .now) (c .args .w) (c .pre .0) (c .pre .1)
@@ -33,4 +18,4 @@ returns c = fresh-marks (c .args .marks .now) (c .args .w) (c .pre .0) (c .pre .
 pub mark-fresh-spec : {M : Type 1} → statement M
 mark-fresh-spec =
     tie.close
-    (tie.spec add-far add-beyond slice-write-marks slice-write-marks-2 slice-write-marks-3 slice-write-marks-4 same-length returns)
+    (tie.spec (λ c. search needs) (λ c. search needs) (λ c. search needs) (λ c. search needs) slice-write-marks-3 slice-write-marks-4 (λ c. search needs) returns)

@@ -17,15 +17,6 @@ use Rattle.mesh.proofs.Recutting.{recut-done, met-none}
 use Rattle.mesh.proofs.replay.recut.Statement.{statement}
 use Rattle.mesh.proofs.replay.recut.Tie as tie
 
-clear-cut-requires : tie.Need-clear-cut-requires
-clear-cut-requires c κs = search needs
-
-refusal-requires : tie.Need-refusal-requires
-refusal-requires c κs = search needs
-
-same-length : tie.Need-same-length
-same-length c = search needs
-
 -- a refusal holds nothing
 unfit : (r : Found) → r ≡ refused → r .ok ≡ true → ⊥
 unfit r e f = true-not-false _ f (ap (λ (x : Found). x .ok) e)
@@ -34,18 +25,6 @@ returns : tie.Need-returns
 returns c =
     let none = failed (c .before .before .before .before .clear-cut .ensures .0) (c .before .if1 .taken) in
     (c .refusal .ensures ∙ sym (cond-false _ _ _ (and-first _ _ none)), λ f. absurd (unfit _ (c .refusal .ensures) f))
-
-cut-those-requires : tie.Need-cut-those-requires
-cut-those-requires c κs = search needs
-
-slice-read-if2 : tie.Need-slice-read-if2
-slice-read-if2 c = search needs
-
-refusal-requires-2 : tie.Need-refusal-requires-2
-refusal-requires-2 c κs = search needs
-
-same-length-2 : tie.Need-same-length-2
-same-length-2 c = search needs
 
 -- the line cuts some blend
 some : (c : tie.Else1) →
@@ -85,9 +64,6 @@ read-out-requires c κs =
           (start .pre .9 (sym (ap (λ (P : List ℕ). getD P 0 0) (done cut)) ∙ apart .if2 .left)),
     )
 
-same-length-3 : tie.Need-same-length-3
-same-length-3 c = search needs
-
 returns-3 : tie.Need-returns-3
 returns-3 c =
     let apart = c .before .before in
@@ -102,15 +78,15 @@ pub recut-spec : {M : Type 1} → statement M
 recut-spec =
     tie.close
     (tie.spec
-    clear-cut-requires
-    refusal-requires
-    same-length
+    (λ c κs. search needs)
+    (λ c κs. search needs)
+    (λ c. search needs)
     returns
-    cut-those-requires
-    slice-read-if2
-    refusal-requires-2
-    same-length-2
+    (λ c κs. search needs)
+    (λ c. search needs)
+    (λ c κs. search needs)
+    (λ c. search needs)
     returns-2
     read-out-requires
-    same-length-3
+    (λ c. search needs)
     returns-3)

@@ -26,22 +26,13 @@ Inv-loop lines stopped w h count uprights₀ levels₀ marks₀ table₀ places�
 abbrev μ-loop : tie.MeasureT-loop
 μ-loop lines stopped w h count uprights₀ levels₀ marks₀ table₀ places₀ i₀ uprights levels marks table places i = count - i
 
-refusal-requires : tie.Need-refusal-requires Inv-loop μ-loop
-refusal-requires c κs = tt
-
 -- every refusal hands back the same
 stop : (c : tie.After-refusal Inv-loop μ-loop) → replayed (c .before .args .t1) ≡ stopped →
     _≡_ {A = Found} (record { ok = false; table = c .refusal .result .table }) (replayed (c .before .args .t1))
 stop c e = ap (λ (x : Found). record { ok = false; table = x .table }) (c .refusal .ensures) ∙ sym e
 
-allowed-side-requires : tie.Need-allowed-side-requires Inv-loop μ-loop
-allowed-side-requires c κs = tt
-
 returns : tie.Need-returns Inv-loop μ-loop
 returns c = stop (c .before .before .before) (out-across _ (failed (c .before .allowed-side .ensures) (c .if1 .taken)))
-
-allowed-side-requires-2 : tie.Need-allowed-side-requires-2 Inv-loop μ-loop
-allowed-side-requires-2 c κs = tt
 
 returns-2 : tie.Need-returns-2 Inv-loop μ-loop
 returns-2 c = stop (c .before .before .before .before .before) (out-up _ (failed (c .before .allowed-side2 .ensures) (c .if2 .taken)))
@@ -54,35 +45,17 @@ sides c =
 returns-3 : tie.Need-returns-3 Inv-loop μ-loop
 returns-3 c = stop (c .before .before .before .before .before .before) (out-count _ (c .if3 .taken))
 
-slice-aggregate-draw-fresh : tie.Need-slice-aggregate-draw-fresh Inv-loop μ-loop
-slice-aggregate-draw-fresh c = search needs
-
 draw-fresh-requires : tie.Need-draw-fresh-requires Inv-loop μ-loop
 draw-fresh-requires c κs = let s = sides (c .before .before) in (refl, s .across .1, s .up .1)
 
-slice-aggregate-draw-fresh-2 : tie.Need-slice-aggregate-draw-fresh-2 Inv-loop μ-loop
-slice-aggregate-draw-fresh-2 c = search needs
-
 draw-fresh-requires-2 : tie.Need-draw-fresh-requires-2 Inv-loop μ-loop
 draw-fresh-requires-2 c κs = let s = sides (c .before .before .before .before .before) in (refl, s .up .1, s .across .1)
-
-slice-aggregate-mark-fresh : tie.Need-slice-aggregate-mark-fresh Inv-loop μ-loop
-slice-aggregate-mark-fresh c = search needs
 
 mark-fresh-requires : tie.Need-mark-fresh-requires Inv-loop μ-loop
 mark-fresh-requires c κs = let s = sides (c .before .before .before .before .before .before .before .before) in (length-replicate {A = ℕ} 131 0, s .across .1)
 
 first-four-requires : tie.Need-first-four-requires Inv-loop μ-loop
 first-four-requires c κs = let s = sides (c .before .before .before .before .before .before .before .before .before .before) in (s .across .1, s .up .1)
-
-slice-aggregate-cut-all : tie.Need-slice-aggregate-cut-all Inv-loop μ-loop
-slice-aggregate-cut-all c = search needs
-
-slice-aggregate-cut-all-2 : tie.Need-slice-aggregate-cut-all-2 Inv-loop μ-loop
-slice-aggregate-cut-all-2 c = search needs
-
-slice-aggregate-cut-all-3 : tie.Need-slice-aggregate-cut-all-3 Inv-loop μ-loop
-slice-aggregate-cut-all-3 c = search needs
 
 -- the fresh map's lines are drawn
 drawn : (c : tie.After-draw-fresh2 Inv-loop μ-loop) →
@@ -259,9 +232,6 @@ returns-5 c =
     refuse in-loop (replay-stop (l .inv) lt
     (unfit-refused (l .inv .sides) (l .inv .standing) _ (replay-room (l .inv) lt) (may (found .before .before .before .before .before .before .before .before .before)) (answer found) (not-true _ (c .if5 .taken))))
 
-full-requires : tie.Need-full-requires Inv-loop μ-loop
-full-requires c κs = tt
-
 -- it is accepted where the areas say so
 decided : (c : tie.After-full Inv-loop μ-loop) →
     let in-loop = c .before .before .before .before .before .before .before .before .before .before .before .before .before .before .before .before .before .before .before .before .before in
@@ -282,9 +252,6 @@ returns-6 c =
 
 add-i : tie.Need-add-i Inv-loop μ-loop
 add-i c = let r = c .before .before .before .before .before .before .before .before .before .before .before .before .before .before .before .before .before .before .before .before .before .before .before .loop .inv in omega arith
-
-loop-less : tie.Need-loop-less Inv-loop μ-loop
-loop-less c = omega arith
 
 loop-again : tie.Need-loop-again Inv-loop μ-loop
 loop-again c =
@@ -312,22 +279,22 @@ replay-spec =
     (tie.spec
     Inv-loop
     μ-loop
-    refusal-requires
-    allowed-side-requires
+    (λ c κs. tt)
+    (λ c κs. tt)
     returns
-    allowed-side-requires-2
+    (λ c κs. tt)
     returns-2
     returns-3
-    slice-aggregate-draw-fresh
+    (λ c. search needs)
     draw-fresh-requires
-    slice-aggregate-draw-fresh-2
+    (λ c. search needs)
     draw-fresh-requires-2
-    slice-aggregate-mark-fresh
+    (λ c. search needs)
     mark-fresh-requires
     first-four-requires
-    slice-aggregate-cut-all
-    slice-aggregate-cut-all-2
-    slice-aggregate-cut-all-3
+    (λ c. search needs)
+    (λ c. search needs)
+    (λ c. search needs)
     cut-all-requires
     loop-holds
     mul-s
@@ -346,9 +313,9 @@ replay-spec =
     slice-aggregate-recut-4
     recut-requires
     returns-5
-    full-requires
+    (λ c κs. tt)
     returns-6
     add-i
-    loop-less
+    (λ c. omega arith)
     loop-again
     returns-7)

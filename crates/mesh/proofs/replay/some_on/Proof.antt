@@ -17,17 +17,8 @@ Inv-loop steps z from n row k₀ left₀ k left =
 abbrev μ-loop : tie.MeasureT-loop
 μ-loop steps z from n row k₀ left₀ k left = left
 
-mul-row : tie.Need-mul-row Inv-loop μ-loop
-mul-row c = search needs
-
 loop-holds : tie.Need-loop-holds Inv-loop μ-loop
 loop-holds c = (refl, refl)
-
-add-if1 : tie.Need-add-if1 Inv-loop μ-loop
-add-if1 c = omega arith
-
-shared-slice-read-if1 : tie.Need-shared-slice-read-if1 Inv-loop μ-loop
-shared-slice-read-if1 c = omega arith
 
 returns : tie.Need-returns Inv-loop μ-loop
 returns c =
@@ -35,15 +26,6 @@ returns c =
     let a = c .before .before .before .before .args in
     let on = step-on (a .steps .now) (a .z) (l .k) (omega arith) (omega arith) (c .if1 .taken) in
     sym (sym (l .inv .1) ∙ some-turn (l .k) (l .left) (stepOn (a .steps .now) (a .z)) (omega arith) ∙ rw on)
-
-add-k : tie.Need-add-k Inv-loop μ-loop
-add-k c = omega arith
-
-sub-left : tie.Need-sub-left Inv-loop μ-loop
-sub-left c = omega arith
-
-loop-less : tie.Need-loop-less Inv-loop μ-loop
-loop-less c = omega arith
 
 loop-again : tie.Need-loop-again Inv-loop μ-loop
 loop-again c =
@@ -65,13 +47,13 @@ some-on-spec =
     (tie.spec
     Inv-loop
     μ-loop
-    mul-row
+    (λ c. search needs)
     loop-holds
-    add-if1
-    shared-slice-read-if1
+    (λ c. omega arith)
+    (λ c. omega arith)
     returns
-    add-k
-    sub-left
-    loop-less
+    (λ c. omega arith)
+    (λ c. omega arith)
+    (λ c. omega arith)
     loop-again
     returns-2)

@@ -21,15 +21,9 @@ Inv-loop lines w h count i₀ i = (i ≤ count) × (allowed lines ≡ all (inRan
 abbrev μ-loop : tie.MeasureT-loop
 μ-loop lines w h count i₀ i = count - i
 
-allowed-side-requires : tie.Need-allowed-side-requires Inv-loop μ-loop
-allowed-side-requires c κs = search needs
-
 returns : tie.Need-returns Inv-loop μ-loop
 unfolding allowed
 returns c = rw (failed (c .before .allowed-side .ensures) (c .if1 .taken))
-
-allowed-side-requires-2 : tie.Need-allowed-side-requires-2 Inv-loop μ-loop
-allowed-side-requires-2 c κs = search needs
 
 across : (c : tie.Else1 Inv-loop μ-loop) → allowedSide (c .before .before .args .t1 .w) ≡ true
 across c = passed (c .before .allowed-side .ensures) (c .if1 .left)
@@ -54,15 +48,6 @@ loop-holds c =
     let a = c .before .before .before .before .before .args in
     (omega arith, rw (across (c .before .before .before), up (c .before), le-leb (a .t1 .count) 60 (omega arith)))
 
-mul-s : tie.Need-mul-s Inv-loop μ-loop
-mul-s c = omega arith
-
-element-copy-out-s : tie.Need-element-copy-out-s Inv-loop μ-loop
-element-copy-out-s c = omega arith
-
-in-range-requires : tie.Need-in-range-requires Inv-loop μ-loop
-in-range-requires c κs = search needs
-
 -- the answer for one split, and for those that are left after it
 turn : (c : tie.After-in-range Inv-loop μ-loop) →
     let lines = c .before .before .before .before .before .before .before .before .before .args .t1 in
@@ -77,12 +62,6 @@ turn c =
 
 returns-4 : tie.Need-returns-4 Inv-loop μ-loop
 returns-4 c = sym (turn (c .before) ∙ rw (not-true (c .before .in-range .result) (c .if4 .taken)))
-
-add-i : tie.Need-add-i Inv-loop μ-loop
-add-i c = omega arith
-
-loop-less : tie.Need-loop-less Inv-loop μ-loop
-loop-less c = omega arith
 
 loop-again : tie.Need-loop-again Inv-loop μ-loop
 loop-again c = (omega arith, turn (c .before) ∙ rw (not-false (c .before .in-range .result) (c .if4 .left)))
@@ -99,17 +78,17 @@ allowed-lines-spec =
     (tie.spec
     Inv-loop
     μ-loop
-    allowed-side-requires
+    (λ c κs. search needs)
     returns
-    allowed-side-requires-2
+    (λ c κs. search needs)
     returns-2
     returns-3
     loop-holds
-    mul-s
-    element-copy-out-s
-    in-range-requires
+    (λ c. omega arith)
+    (λ c. omega arith)
+    (λ c κs. search needs)
     returns-4
-    add-i
-    loop-less
+    (λ c. omega arith)
+    (λ c. omega arith)
     loop-again
     returns-5)

@@ -17,26 +17,8 @@ Inv-loop steps z b n row k₀ left₀ k left =
 abbrev μ-loop : tie.MeasureT-loop
 μ-loop steps z b n row k₀ left₀ k left = left
 
-wide-requires : tie.Need-wide-requires Inv-loop μ-loop
-wide-requires c κs = search needs
-
-mul-row : tie.Need-mul-row Inv-loop μ-loop
-mul-row c = search needs
-
-wide-requires-2 : tie.Need-wide-requires-2 Inv-loop μ-loop
-wide-requires-2 c κs = search needs
-
-wide-requires-3 : tie.Need-wide-requires-3 Inv-loop μ-loop
-wide-requires-3 c κs = search needs
-
 loop-holds : tie.Need-loop-holds Inv-loop μ-loop
 loop-holds c = rw (c .before .wide2 .ensures, c .wide3 .ensures) (refl, refl)
-
-add-if1 : tie.Need-add-if1 Inv-loop μ-loop
-add-if1 c = search needs
-
-shared-slice-read-if1 : tie.Need-shared-slice-read-if1 Inv-loop μ-loop
-shared-slice-read-if1 c = search needs
 
 returns : tie.Need-returns Inv-loop μ-loop
 returns c =
@@ -46,15 +28,6 @@ returns c =
     let off = step-off (a .steps .now) (a .z) (l .k) (omega arith) (omega arith) (rw (w .wide .ensures) at (c .if1 .taken)) in
     let turn = every-turn (l .k) (l .left) (stepOn (a .steps .now) (a .z)) (omega arith) in
     sym (sym (l .inv .1) ∙ turn ∙ rw off)
-
-add-k : tie.Need-add-k Inv-loop μ-loop
-add-k c = search needs
-
-sub-left : tie.Need-sub-left Inv-loop μ-loop
-sub-left c = search needs
-
-loop-less : tie.Need-loop-less Inv-loop μ-loop
-loop-less c = search needs
 
 loop-again : tie.Need-loop-again Inv-loop μ-loop
 loop-again c =
@@ -77,16 +50,16 @@ covers-spec =
     (tie.spec
     Inv-loop
     μ-loop
-    wide-requires
-    mul-row
-    wide-requires-2
-    wide-requires-3
+    (λ c κs. search needs)
+    (λ c. search needs)
+    (λ c κs. search needs)
+    (λ c κs. search needs)
     loop-holds
-    add-if1
-    shared-slice-read-if1
+    (λ c. search needs)
+    (λ c. search needs)
     returns
-    add-k
-    sub-left
-    loop-less
+    (λ c. search needs)
+    (λ c. search needs)
+    (λ c. search needs)
     loop-again
     returns-2)

@@ -15,27 +15,9 @@ abbrev μ-loop : tie.MeasureT-loop
 loop-holds : tie.Need-loop-holds Inv-loop μ-loop
 loop-holds c = (omega arith, omega arith, drawn-none _ _ _ (c .pre .0))
 
-mul-steps : tie.Need-mul-steps Inv-loop μ-loop
-mul-steps c = omega arith
-
-add-steps : tie.Need-add-steps Inv-loop μ-loop
-add-steps c = omega arith
-
-slice-write-steps : tie.Need-slice-write-steps Inv-loop μ-loop
-slice-write-steps c = omega arith
-
-add-k : tie.Need-add-k Inv-loop μ-loop
-add-k c = omega arith
-
-loop-less : tie.Need-loop-less Inv-loop μ-loop
-loop-less c = omega arith
-
 loop-again : tie.Need-loop-again Inv-loop μ-loop
 loop-again c =
     (omega arith, omega arith, drawn-more (c .before .loop .inv .2) (omega arith) (omega arith) (omega arith))
-
-same-length : tie.Need-same-length Inv-loop μ-loop
-same-length c = omega arith
 
 returns : tie.Need-returns Inv-loop μ-loop
 returns c = drawn-until (c .before .loop .inv .2) (omega arith) (omega arith)
@@ -47,11 +29,11 @@ draw-spec =
     Inv-loop
     μ-loop
     loop-holds
-    mul-steps
-    add-steps
-    slice-write-steps
-    add-k
-    loop-less
+    (λ c. omega arith)
+    (λ c. omega arith)
+    (λ c. omega arith)
+    (λ c. omega arith)
+    (λ c. omega arith)
     loop-again
-    same-length
+    (λ c. omega arith)
     returns)

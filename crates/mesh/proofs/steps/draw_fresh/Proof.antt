@@ -6,29 +6,8 @@ use Rattle.mesh.proofs.Drawing.{empty-square, fresh-drawn}
 use Rattle.mesh.proofs.steps.draw_fresh.Statement.{statement}
 use Rattle.mesh.proofs.steps.draw_fresh.Tie as tie
 
-add-to : tie.Need-add-to
-add-to c = search needs
-
-add-far : tie.Need-add-far
-add-far c = search needs
-
-add-beyond : tie.Need-add-beyond
-add-beyond c = search needs
-
 draw-requires : tie.Need-draw-requires
 draw-requires c κs = (empty-square (c .before .before .pre .0), omega arith, omega arith)
-
-draw-requires-2 : tie.Need-draw-requires-2
-draw-requires-2 c κs = search needs
-
-draw-requires-3 : tie.Need-draw-requires-3
-draw-requires-3 c κs = search needs
-
-draw-requires-4 : tie.Need-draw-requires-4
-draw-requires-4 c κs = search needs
-
-same-length : tie.Need-same-length
-same-length c = search needs
 
 returns : tie.Need-returns
 unfolding freshMesh
@@ -46,12 +25,12 @@ pub draw-fresh-spec : {M : Type 1} → statement M
 draw-fresh-spec =
     tie.close
     (tie.spec
-    add-to
-    add-far
-    add-beyond
+    (λ c. search needs)
+    (λ c. search needs)
+    (λ c. search needs)
     draw-requires
-    draw-requires-2
-    draw-requires-3
-    draw-requires-4
-    same-length
+    (λ c κs. search needs)
+    (λ c κs. search needs)
+    (λ c κs. search needs)
+    (λ c. search needs)
     returns)

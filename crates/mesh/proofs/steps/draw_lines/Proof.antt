@@ -15,12 +15,6 @@ Inv-loop direction steps₀ lines w h crossed run count i₀ steps i = Drawing l
 abbrev μ-loop : tie.MeasureT-loop
 μ-loop direction steps₀ lines w h crossed run count i₀ steps i = count - i
 
-side-of-requires : tie.Need-side-of-requires Inv-loop μ-loop
-side-of-requires c κs = search needs
-
-side-of-requires-2 : tie.Need-side-of-requires-2 Inv-loop μ-loop
-side-of-requires-2 c κs = search needs
-
 draw-fresh-requires : tie.Need-draw-fresh-requires Inv-loop μ-loop
 draw-fresh-requires c κs =
     let start = c .before .before .before .before in
@@ -46,12 +40,6 @@ loop-holds c =
     (λ d same. fresh .draw-fresh .ensures .1 d (L .w) (L .h)
     (crossed .side-of .ensures .1 d same) (along run d same))
 
-mul-split : tie.Need-mul-split Inv-loop μ-loop
-mul-split c = omega arith
-
-element-copy-out-split : tie.Need-element-copy-out-split Inv-loop μ-loop
-element-copy-out-split c = omega arith
-
 draw-split-requires : tie.Need-draw-split-requires Inv-loop μ-loop
 draw-split-requires c κs =
     let l = c .before .before .before .loop in
@@ -70,12 +58,6 @@ draw-split-requires c κs =
           let up = along run (dir .0) (dir .1) in
           omega arith,
     )
-
-add-i : tie.Need-add-i Inv-loop μ-loop
-add-i c = omega arith
-
-loop-less : tie.Need-loop-less Inv-loop μ-loop
-loop-less c = omega arith
 
 loop-again : tie.Need-loop-again Inv-loop μ-loop
 loop-again c =
@@ -102,15 +84,15 @@ draw-lines-spec =
     (tie.spec
     Inv-loop
     μ-loop
-    side-of-requires
-    side-of-requires-2
+    (λ c κs. search needs)
+    (λ c κs. search needs)
     draw-fresh-requires
     loop-holds
-    mul-split
-    element-copy-out-split
+    (λ c. omega arith)
+    (λ c. omega arith)
     draw-split-requires
-    add-i
-    loop-less
+    (λ c. omega arith)
+    (λ c. omega arith)
     loop-again
     same-length
     returns)

@@ -4,18 +4,6 @@ use Rattle.mesh.proofs.Refining.{drawn-mesh}
 use Rattle.mesh.proofs.steps.draw_mesh.Statement.{statement}
 use Rattle.mesh.proofs.steps.draw_mesh.Tie as tie
 
-draw-lines-requires : tie.Need-draw-lines-requires
-draw-lines-requires c κs = search needs
-
-draw-lines-requires-2 : tie.Need-draw-lines-requires-2
-draw-lines-requires-2 c κs = search needs
-
-same-length : tie.Need-same-length
-same-length c = search needs
-
-same-length-2 : tie.Need-same-length-2
-same-length-2 c = search needs
-
 returns : tie.Need-returns
 returns c =
     let two = c .before .before in
@@ -27,4 +15,4 @@ returns c =
 pub draw-mesh-spec : {M : Type 1} → statement M
 draw-mesh-spec =
     tie.close
-    (tie.spec draw-lines-requires draw-lines-requires-2 same-length same-length-2 returns)
+    (tie.spec (λ c κs. search needs) (λ c κs. search needs) (λ c. search needs) (λ c. search needs) returns)

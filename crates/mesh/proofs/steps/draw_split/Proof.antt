@@ -25,9 +25,6 @@ last-knot-requires c κs = let r = ranges (c .before .before) in omega arith
 draw-requires : tie.Need-draw-requires
 draw-requires c κs = let r = ranges (c .before .before .before .before) in omega arith
 
-same-length : tie.Need-same-length
-same-length c = search needs
-
 returns : tie.Need-returns
 returns c =
     let drawn = c .before .before in
@@ -58,6 +55,6 @@ draw-split-spec =
     first-knot-requires
     last-knot-requires
     draw-requires
-    same-length
+    (λ c. search needs)
     returns
     returns-2)

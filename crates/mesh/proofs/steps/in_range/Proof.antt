@@ -5,15 +5,9 @@ use Rattle.mesh.specs.Lines.{inRange}
 use Rattle.mesh.proofs.steps.in_range.Statement.{statement}
 use Rattle.mesh.proofs.steps.in_range.Tie as tie
 
-split-fits-requires : tie.Need-split-fits-requires
-split-fits-requires c κs = search needs
-
 returns : tie.Need-returns
 unfolding inRange
 returns c = rw (c .split-fits .ensures, eq-eqb _ _ (c .before .if1 .taken))
-
-split-fits-requires-2 : tie.Need-split-fits-requires-2
-split-fits-requires-2 c κs = search needs
 
 returns-2 : tie.Need-returns-2
 unfolding inRange
@@ -26,4 +20,4 @@ returns-3 c = rw (ne-eqb _ _ (c .before .before .if1 .left), ne-eqb _ _ (c .if2 
 
 pub in-range-spec : {M : Type 1} → statement M
 in-range-spec =
-    tie.close (tie.spec split-fits-requires returns split-fits-requires-2 returns-2 returns-3)
+    tie.close (tie.spec (λ c κs. search needs) returns (λ c κs. search needs) returns-2 returns-3)

@@ -6,45 +6,6 @@ use Rattle.mesh.proofs.Refining.{four-set}
 use Rattle.mesh.proofs.tables.first_four.Statement.{statement}
 use Rattle.mesh.proofs.tables.first_four.Tie as tie
 
-refusal-requires : tie.Need-refusal-requires
-refusal-requires c κs = search needs
-
-low-requires : tie.Need-low-requires
-low-requires c κs = search needs
-
-low-requires-2 : tie.Need-low-requires-2
-low-requires-2 c κs = search needs
-
-element-set-from-t : tie.Need-element-set-from-t
-element-set-from-t c = search needs
-
-low-requires-3 : tie.Need-low-requires-3
-low-requires-3 c κs = search needs
-
-high-requires : tie.Need-high-requires
-high-requires c κs = search needs
-
-element-set-from-t-2 : tie.Need-element-set-from-t-2
-element-set-from-t-2 c = search needs
-
-high-requires-2 : tie.Need-high-requires-2
-high-requires-2 c κs = search needs
-
-low-requires-4 : tie.Need-low-requires-4
-low-requires-4 c κs = search needs
-
-element-set-from-t-3 : tie.Need-element-set-from-t-3
-element-set-from-t-3 c = search needs
-
-high-requires-3 : tie.Need-high-requires-3
-high-requires-3 c κs = search needs
-
-high-requires-4 : tie.Need-high-requires-4
-high-requires-4 c κs = search needs
-
-element-set-from-t-4 : tie.Need-element-set-from-t-4
-element-set-from-t-4 c = search needs
-
 returns : tie.Need-returns
 returns c =
     let h3 = c .before in
@@ -62,17 +23,17 @@ pub first-four-spec : {M : Type 1} → statement M
 first-four-spec =
     tie.close
     (tie.spec
-    refusal-requires
-    low-requires
-    low-requires-2
-    element-set-from-t
-    low-requires-3
-    high-requires
-    element-set-from-t-2
-    high-requires-2
-    low-requires-4
-    element-set-from-t-3
-    high-requires-3
-    high-requires-4
-    element-set-from-t-4
+    (λ c κs. search needs)
+    (λ c κs. search needs)
+    (λ c κs. search needs)
+    (λ c. search needs)
+    (λ c κs. search needs)
+    (λ c κs. search needs)
+    (λ c. search needs)
+    (λ c κs. search needs)
+    (λ c κs. search needs)
+    (λ c. search needs)
+    (λ c κs. search needs)
+    (λ c κs. search needs)
+    (λ c. search needs)
     returns)

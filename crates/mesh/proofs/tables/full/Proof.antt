@@ -46,21 +46,6 @@ returns-3 c =
     let a = c .before .before .before .args in
     rw (lt-leb (a .t1 .count) 1024 (omega arith), and-false (leb (a .w) 128 && leb (a .h) 128))
 
-loop-holds : tie.Need-loop-holds Inv-loop μ-loop
-loop-holds c = search needs
-
-mul-x : tie.Need-mul-x Inv-loop μ-loop
-mul-x c = search needs
-
-element-copy-out-x : tie.Need-element-copy-out-x Inv-loop μ-loop
-element-copy-out-x c = search needs
-
-steps-in-requires : tie.Need-steps-in-requires Inv-loop μ-loop
-steps-in-requires c κs = search needs
-
-steps-in-requires-2 : tie.Need-steps-in-requires-2 Inv-loop μ-loop
-steps-in-requires-2 c κs = search needs
-
 -- what a turn adds, and where it leaves the rest
 added : (c : tie.After-steps-in2 Inv-loop μ-loop) →
     let a = c .before .before .before .before .before .before .before .before .args in
@@ -86,12 +71,6 @@ mul-sum c = record { fits = omega (arith, added-most c) }
 
 add-sum : tie.Need-add-sum Inv-loop μ-loop
 add-sum c = record { fits = omega (arith, added-most c) }
-
-add-k : tie.Need-add-k Inv-loop μ-loop
-add-k c = search needs
-
-loop-less : tie.Need-loop-less Inv-loop μ-loop
-loop-less c = search needs
 
 loop-again : tie.Need-loop-again Inv-loop μ-loop
 loop-again c = (omega (arith, added-most c), omega (arith, turn c))
@@ -125,15 +104,15 @@ full-spec =
     returns
     returns-2
     returns-3
-    loop-holds
-    mul-x
-    element-copy-out-x
-    steps-in-requires
-    steps-in-requires-2
+    (λ c. search needs)
+    (λ c. search needs)
+    (λ c. search needs)
+    (λ c κs. search needs)
+    (λ c κs. search needs)
     mul-sum
     add-sum
-    add-k
-    loop-less
+    (λ c. search needs)
+    (λ c. search needs)
     loop-again
     mul-result
     mul-result-2

@@ -4,12 +4,9 @@ use Rattle.mesh.specs.Bytes.{unpacked}
 use Rattle.mesh.proofs.tables.nothing.Statement.{statement}
 use Rattle.mesh.proofs.tables.nothing.Tie as tie
 
-unpack-requires : tie.Need-unpack-requires
-unpack-requires c κs = search needs
-
 returns : tie.Need-returns
 unfolding unpacked
 returns c = c .unpack .ensures
 
 pub nothing-spec : {M : Type 1} → statement M
-nothing-spec = tie.close (tie.spec unpack-requires returns)
+nothing-spec = tie.close (tie.spec (λ c κs. search needs) returns)

@@ -4,12 +4,9 @@ use Rattle.mesh.specs.Sound.{table}
 use Rattle.mesh.proofs.tables.refusal.Statement.{statement}
 use Rattle.mesh.proofs.tables.refusal.Tie as tie
 
-nothing-requires : tie.Need-nothing-requires
-nothing-requires c κs = search needs
-
 returns : tie.Need-returns
 unfolding table
 returns c = rw (c .nothing .ensures)
 
 pub refusal-spec : {M : Type 1} → statement M
-refusal-spec = tie.close (tie.spec nothing-requires returns)
+refusal-spec = tie.close (tie.spec (λ c κs. search needs) returns)
