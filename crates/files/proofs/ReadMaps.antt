@@ -1,22 +1,18 @@
 -- The map that reading hands back, the fresh 1 by 1 map where the bytes are no file: a good record, with its table.
-use Prim.Native.Nat.{ℕ, zero, _-_}
-use native.Mathlib.Omega.{arith}
-use mathlib.Core.Path.{_≡_, refl, ap, _∙_}
+use Prim.Native.Nat.{ℕ}
+use mathlib.Core.Path.{_≡_, refl, ap}
 use mathlib.Core.Logic.{⊎-elim}
 use mathlib.Core.Bool.{true, false}
 use mathlib.Core.List.{List}
 use lib.Dec.{eqb}
-use lib.ListN.{length, replicate, length-append, length-replicate}
 use borrow.Author.Tests.{eqb-true}
 use Rattle.axis.proofs.Tests.{either, true-not-false}
-use Rattle.maps.specs.declared.Map.{Map}
 use Rattle.maps.specs.declared.Changed.{Changed}
 use Rattle.maps.specs.declared.WithTable.{WithTable}
 use Rattle.maps.specs.Plain.{Plain, freshPlain}
-use Rattle.maps.specs.Record.{noSplit, recordOf, plain, good, opened}
-use Rattle.maps.specs.Calls.{changed, withTable}
-use Rattle.maps.proofs.Good.{Holds, replays-short, record-good, fresh-holds}
-use Rattle.maps.proofs.Recording.{GoodMap, opened-map}
+use Rattle.maps.specs.Record.{recordOf, plain, good, opened}
+use Rattle.maps.specs.Calls.{withTable}
+use Rattle.maps.proofs.Good.{Holds, record-good, fresh-holds}
 use Rattle.files.specs.File.{guessed}
 use Rattle.files.specs.Calls.{readFile}
 use Rattle.files.proofs.RoundTrip.{held-values, accepted-file, all-values, is-read, is-refused}
@@ -49,16 +45,6 @@ read-holds bytes =
     ))
     (either (eqb (readFile bytes .number) 0))
 
--- a record's arrays have all their places
-module _ {P : Plain} (p : Holds P) where
-  all-places : length (recordOf P .splits) ≡ 60
-  unfolding recordOf
-  all-places = rw (length-append, length-replicate) (omega (arith, p .lines .few))
-
-  all-room : length (recordOf P .values) ≡ 1024
-  unfolding recordOf
-  all-room = rw (length-append, length-replicate) (omega (arith, p .counted, replays-short (p .lines)))
-
 -- so a table that comes with the map is that of a good record
 module _ (bytes : List ℕ) {file : WithTable} (is : file ≡ withTable (readFile bytes)) where
   pub read-good : good (file .map) ≡ true
@@ -66,12 +52,3 @@ module _ (bytes : List ℕ) {file : WithTable} (is : file ≡ withTable (readFil
 
   pub read-table : file .table ≡ opened (file .map) .table
   read-table = rw is
-
-  pub read-places : length (file .map .splits) ≡ 60
-  read-places = let h = read-holds bytes in rw (is, h .2) (all-places (h .1))
-
-  pub read-room : length (file .map .values) ≡ 1024
-  read-room = let h = read-holds bytes in rw (is, h .2) (all-room (h .1))
-
-  pub read-map : GoodMap (file .map) (file .table)
-  read-map = opened-map (file .map) (file .table) read-places read-room read-good read-table

@@ -1,4 +1,5 @@
-// Questions to the map of a file, and to the bytes themselves.
+// Questions to the map of a file, and to the bytes themselves. Where they are no file, a call asks the fresh 1 by 1 map that reading hands
+// back, and is refused with 11.
 use crate::numbers::first;
 use crate::numbers::if_refused;
 use crate::numbers::short;

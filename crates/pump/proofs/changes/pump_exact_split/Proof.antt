@@ -2,7 +2,8 @@
 use borrow.Author.Needs.{needs}
 use Rattle.maps.specs.Calls.{exactSplit}
 use Rattle.pump.specs.Border.{split}
-use Rattle.pump.proofs.Changing.{exact-handed, changes}
+use Rattle.pump.proofs.Known.{exact-handed}
+use Rattle.pump.proofs.Changing.{changes}
 use Rattle.pump.proofs.changes.pump_exact_split.Statement.{statement}
 use Rattle.pump.proofs.changes.pump_exact_split.Tie as tie
 

@@ -2,7 +2,8 @@
 use borrow.Author.Needs.{needs}
 use Rattle.maps.specs.Calls.{lengthenedSplit}
 use Rattle.pump.specs.Border.{split}
-use Rattle.pump.proofs.Changing.{lengthened-handed, changes}
+use Rattle.pump.proofs.Known.{lengthened-handed}
+use Rattle.pump.proofs.Changing.{changes}
 use Rattle.pump.proofs.changes.pump_lengthened_split.Statement.{statement}
 use Rattle.pump.proofs.changes.pump_lengthened_split.Tie as tie
 

@@ -1,7 +1,8 @@
 -- `pump_set` meets its contract: the call on the map that the buffer holds, ended by `replace`.
 use borrow.Author.Needs.{needs}
 use Rattle.maps.specs.Calls.{setValue}
-use Rattle.pump.proofs.Changing.{set-own, set-handed, changes}
+use Rattle.pump.proofs.Known.{set-own, set-handed}
+use Rattle.pump.proofs.Changing.{changes}
 use Rattle.pump.proofs.changes.pump_set.Statement.{statement}
 use Rattle.pump.proofs.changes.pump_set.Tie as tie
 

@@ -6,8 +6,8 @@ use lib.ListN.{length}
 use Rattle.maps.specs.Record.{plain}
 use Rattle.files.specs.declared.Written.{Written}
 use Rattle.files.specs.File.{fileOf}
-use Rattle.files.specs.Calls.{writeNumber}
-use Rattle.pump.specs.Border.{ifRefused, answered, newNumber, newBytes, newUsed}
+use Rattle.files.specs.Calls.{writeNumber, ifRefused, answered}
+use Rattle.pump.specs.Border.{newNumber, newBytes, newUsed}
 use Rattle.pump.proofs.Refusals.{stays, twice, two-refuse, third-tells}
 use Rattle.pump.proofs.changes.replace.Statement.{statement}
 use Rattle.pump.proofs.changes.replace.Tie as tie

@@ -8,7 +8,7 @@ use lib.Seq.{length-take-le}
 use Rattle.files.proofs.Putting.{words-fit}
 use Rattle.pump.specs.Border.{placeNumber, placeAfter}
 use Rattle.pump.proofs.Refusals.{stays, gives, enough}
-use Rattle.pump.proofs.Asking.{its-place}
+use Rattle.pump.proofs.Known.{its-place}
 use Rattle.pump.proofs.questions.pump_place.Statement.{statement}
 use Rattle.pump.proofs.questions.pump_place.Tie as tie
 

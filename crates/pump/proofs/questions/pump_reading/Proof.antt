@@ -2,7 +2,7 @@
 use borrow.Author.Needs.{needs}
 use mathlib.Core.Path.{_≡_, _∙_}
 use Rattle.pump.specs.Border.{readingNumber, readingLitres}
-use Rattle.pump.proofs.Asking.{its-reading}
+use Rattle.pump.proofs.Known.{its-reading}
 use Rattle.pump.proofs.questions.pump_reading.Statement.{statement}
 use Rattle.pump.proofs.questions.pump_reading.Tie as tie
 

@@ -2,7 +2,7 @@
 use borrow.Author.Needs.{needs}
 use mathlib.Core.Path.{_≡_, _∙_}
 use Rattle.pump.specs.Border.{sameNumber, sameYes}
-use Rattle.pump.proofs.Asking.{its-same}
+use Rattle.pump.proofs.Known.{its-same}
 use Rattle.pump.proofs.questions.pump_same.Statement.{statement}
 use Rattle.pump.proofs.questions.pump_same.Tie as tie
 
@@ -33,7 +33,7 @@ returns c =
     let right = asked .before .before .before in
     let left = right .before in
     let a = left .before .before .before .args in
-    let is = its-same _ (left .read-with-table .ensures) _ (right .read-with-table2 .ensures) (asked .same-in .ensures) in
+    let is = its-same _ _ (left .read-with-table .ensures) (right .read-with-table2 .ensures) (asked .same-in .ensures) in
     let e : number .first .result ≡ sameNumber (a .one .now) (a .two .now) = number .first .ensures ∙ rw (is, left .read-with-table .ensures, right .read-with-table2 .ensures) in
     (e, c .if-refused .ensures ∙ rw (told .one-or-none .ensures, e, is))
 

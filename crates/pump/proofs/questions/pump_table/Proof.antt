@@ -6,10 +6,10 @@ use lib.ListN.{length}
 use Rattle.maps.specs.declared.WithTable.{WithTable}
 use Rattle.maps.specs.Record.{plain}
 use Rattle.files.specs.declared.Written.{Written}
-use Rattle.files.specs.Calls.{readFile}
+use Rattle.files.specs.Calls.{readFile, ifRefused, answered, shortOf}
 use Rattle.files.specs.Listing.{tableText, textWritten, textAfter}
 use Rattle.files.proofs.ReadMaps.{read-good, read-table}
-use Rattle.pump.specs.Border.{ifRefused, answered, shortOf, tableNumber, tableAfter, tableCount}
+use Rattle.pump.specs.Border.{tableNumber, tableAfter, tableCount}
 use Rattle.pump.proofs.Refusals.{stays, gives}
 use Rattle.pump.proofs.questions.pump_table.Statement.{statement}
 use Rattle.pump.proofs.questions.pump_table.Tie as tie

@@ -6,7 +6,7 @@ use Rattle.maps.specs.Calls.{weights}
 use Rattle.files.specs.Calls.{readFile}
 use Rattle.pump.specs.Border.{weightsNumber, weightsAfter}
 use Rattle.pump.proofs.Refusals.{stays, gives, enough}
-use Rattle.pump.proofs.Asking.{its-weights}
+use Rattle.pump.proofs.Known.{its-weights}
 use Rattle.pump.proofs.questions.pump_weights.Statement.{statement}
 use Rattle.pump.proofs.questions.pump_weights.Tie as tie
 
