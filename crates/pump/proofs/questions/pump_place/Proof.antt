@@ -64,7 +64,6 @@ returns-2 c =
     let told = yes .before in
     let asked = told .before .before in
     let known = asked .before .before in
-    let a = known .before .before .before .args in
     let room = enough (known .read-with-table .result .number) (asked .place-in .result .number) _ _ 14 (told .before .short .ensures) (sym (told .first .ensures) ∙ yes .if1 .left) in
     let e = number told in
     (e, rw (words .words-of .ensures, entry asked) at (put .put-words .ensures) ∙ words-fit _ _ _ room ∙ gives _ _ e (yes .if1 .left))
