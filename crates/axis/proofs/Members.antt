@@ -20,6 +20,7 @@ module _ {ℓ κ} {A : Type ℓ} {B : Type κ} where
   map-mem f (x ∷ xs) y m =
       ⊎-elim (λ q. (x, List·Memᴰ·head refl, q)) (λ k. let r = map-mem f xs y k in (r .0, List·Memᴰ·tail (r .1), r .2)) (List·Memᴰ·cases-cons m)
 
+
 -- Lists by place: what stands at a place is in the list,
 pub entry {ℓ} : {A : Type ℓ} (xs : List A) (i : ℕ) (d : A) → i < length xs → List·Memᴰ (getD xs i d) xs
 entry [] i d lt = absurd (omega arith)

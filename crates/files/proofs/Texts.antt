@@ -9,7 +9,6 @@ use borrow.Author.Tests.{ltb-false, lt-ltb, le-ltb, eqb-true, eq-eqb}
 use lib.Dec.{ltb, eqb}
 use lib.ListN.{length, length-append}
 use Rattle.axis.proofs.Tests.{either, false-of}
-use Rattle.files.specs.File.{put}
 use Rattle.files.specs.Inner.{Puts}
 use Rattle.files.specs.Listing.{digitsBy, digits, coordinate}
 use Rattle.files.proofs.Putting.{put-then, put-length}

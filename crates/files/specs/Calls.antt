@@ -13,23 +13,29 @@ use Rattle.maps.specs.Calls.{changed}
 use Rattle.files.specs.declared.Written.{Written}
 use Rattle.files.specs.File.{fileOf, guessed, wordAt}
 
+-- of two things, the one that stays after a refusal, and the one that an accepted call gives
+abbrev pub ifRefused {ℓ} : {A : Type ℓ} → ℕ → A → A → A
+ifRefused number stays given = cond (leb 1 number) stays given
+
+-- 12 where a buffer is shorter than what is to be written
+abbrev pub shortOf : ℕ → List ℕ → ℕ
+shortOf size buffer = cond (ltb (length buffer) size) 12 0
+
+-- "Bytes after a written file stay." A refusal "touches no lent byte": lent bytes with an answer put in front, or as they were.
+abbrev pub answered : ℕ → List ℕ → List ℕ → List ℕ
+answered number answer bytes = ifRefused number bytes (answer ++ drop (length answer) bytes)
+
 -- Write: 2 for a record that is not good, 12 where the buffer is shorter than the file.
 unfoldable pub writeNumber : Map → List ℕ → ℕ
-writeNumber m buffer =
-    cond (not (good m)) 2
-    (cond (ltb (length buffer) (length (fileOf (plain m)))) 12
-    0)
+writeNumber m buffer = cond (not (good m)) 2 (shortOf (length (fileOf (plain m))) buffer)
 
 abbrev pub written : Map → List ℕ → Written
 written m buffer =
     let n = writeNumber m buffer in
-    record { number = n; length = cond (leb 1 n) 0 (length (fileOf (plain m))) }
+    record { number = n; length = ifRefused n 0 (length (fileOf (plain m))) }
 
--- "Bytes after a written file stay." A refusal "touches no lent byte".
 abbrev pub after : Map → List ℕ → List ℕ
-after m buffer =
-    let file = fileOf (plain m) in
-    cond (leb 1 (writeNumber m buffer)) buffer (file ++ drop (length file) buffer)
+after m buffer = answered (writeNumber m buffer) (fileOf (plain m)) buffer
 
 -- Read: the map whose file the bytes are, with 0; else 11 with the fresh 1 by 1 map.
 unfoldable pub readFile : List ℕ → Changed

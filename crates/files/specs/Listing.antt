@@ -2,8 +2,8 @@
 use Prim.Native.Nat.{ℕ, zero, suc, _-_, _+_, _/_, _%_}
 use mathlib.Core.Bool.{cond}
 use mathlib.Core.List.{List, [], _∷_, _++_}
-use lib.Dec.{leb, ltb, eqb}
-use lib.ListN.{length, drop}
+use lib.Dec.{ltb, eqb}
+use lib.ListN.{length}
 use Rattle.axis.specs.declared.Triple.{Triple}
 use Rattle.axis.specs.Range.{joined}
 use Rattle.mesh.specs.Weight.{Term}
@@ -11,7 +11,7 @@ use Rattle.maps.specs.Plain.{Plain, blends}
 use Rattle.maps.specs.Record.{plain}
 use Rattle.maps.specs.Values.{paired}
 use Rattle.files.specs.declared.Written.{Written}
-use Rattle.files.specs.Calls.{readFile}
+use Rattle.files.specs.Calls.{ifRefused, shortOf, answered, readFile}
 
 -- A number in base ten, the highest digit first. The first argument bounds how many digits may follow: no more than the number counts.
 unfoldable pub digitsBy : ℕ → ℕ → List ℕ
@@ -51,11 +51,8 @@ unfoldable pub listing : List ℕ → List ℕ
 listing bytes = cond (eqb (readFile bytes .number) 0) (tableText (plain (readFile bytes .map))) refusal
 
 -- A text into a lent buffer: 12 where it is shorter than 65,536 bytes, which no text reaches; else the text, and the bytes after it stay.
-abbrev pub textNumber : List ℕ → ℕ
-textNumber out = cond (ltb (length out) 65536) 12 0
-
 unfoldable pub textWritten : List ℕ → List ℕ → Written
-textWritten text out = let n = textNumber out in record { number = n; length = cond (leb 1 n) 0 (length text) }
+textWritten text out = let n = shortOf 65536 out in record { number = n; length = ifRefused n 0 (length text) }
 
 unfoldable pub textAfter : List ℕ → List ℕ → List ℕ
-textAfter text out = cond (leb 1 (textNumber out)) out (text ++ drop (length text) out)
+textAfter text out = answered (shortOf 65536 out) text out

@@ -1,6 +1,6 @@
 // Numbers of 16 bits in bytes, and the walk from record to record.
 ghost use mathlib.Core.Path.{_≡_};
-ghost use Prim.Native.Nat.{ℕ, _+_, _≤_, _<_};
+ghost use Prim.Native.Nat.{_+_, _≤_, _<_};
 ghost use lib.ListN.{length};
 ghost use Rattle.files.specs.File.{word, wordAt, put, putWords};
 ghost use mathlib.Core.Bool.{cond};

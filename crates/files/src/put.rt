@@ -5,7 +5,7 @@ use maps::Map;
 use mesh::Split;
 use mesh::Table;
 ghost use mathlib.Core.Path.{_≡_};
-ghost use Prim.Native.Nat.{ℕ, _+_, _-_, _*_, _≤_};
+ghost use Prim.Native.Nat.{_+_, _-_, _*_, _≤_};
 ghost use lib.ListN.{length, take};
 ghost use Rattle.axis.specs.Range.{joined};
 ghost use Rattle.files.specs.File.{put, splitEntry, valueEntry};

@@ -3,7 +3,7 @@ use Prim.Native.Nat.{ℕ, suc, _+_, _-_, _≤_, _<_}
 use native.Mathlib.Omega.{arith}
 use mathlib.Core.Path.{_≡_, refl, sym, ap, _∙_}
 use mathlib.Core.Logic.{⊎-elim}
-use mathlib.Core.Bool.{true, false, cond, not, _&&_}
+use mathlib.Core.Bool.{Bool, true, false, cond, not}
 use mathlib.Core.List.{List, [], _∷_, _++_, append-assoc}
 use borrow.Author.Tests.{eqb-true, eqb-false, ltb-true, ltb-false, le-ltb, lt-ltb}
 use lib.Dec.{ltb, eqb}
@@ -300,31 +300,28 @@ module _ {m : Map} {t : Table} (g : GoodMap m t) (s : Split) where
       (λ (e : eqb n 0 ≡ false). rw e (λ z. absurd (eqb-false n 0 e z))) (either (eqb n 0))
 
 -- A changing call on a good record leaves a good one.
-module _ (m : Map) (places : length (m .lines .splits) ≡ 60) (room : length (m .values) ≡ 1024) (y : good m ≡ true) where
-  facts : GoodFacts m
-  facts = good-facts m places room y
-
-  either-good : (b : mathlib.Core.Bool.Bool) (x : Changed) (n : ℕ) → (b ≡ true → good (x .map) ≡ true) → good (cond b x (changed n m) .map) ≡ true
+module _ {m : Map} {t : Table} (g : GoodMap m t) where
+  either-good : (b : Bool) (x : Changed) (n : ℕ) → (b ≡ true → good (x .map) ≡ true) → good (cond b x (changed n m) .map) ≡ true
   either-good true x n f = f refl
-  either-good false x n f = y
+  either-good false x n f = g .is-good
 
   drawn-good : (s : Split) → exactNumber (plain m .lines) s ≡ 0 → good (recordOf (drawn (plain m) s)) ≡ true
-  drawn-good s z = record-good (drawn-holds (facts .holds) s z) .0
+  drawn-good s z = record-good (drawn-holds (g .facts .holds) s z) .0
 
   pub set-good : (i j v : ℕ) → good (setValue m i j v .map) ≡ true
   unfolding setValue
   set-good i j v =
-      rw y (either-good (ltb (placeOf (blends (plain m)) (i + 1) (j + 1)) (length (blends (plain m)))) _ 9 (λ e. record-good (set-holds (facts .holds) i j v) .0))
+      rw (g .is-good) (either-good (ltb (placeOf (blends (plain m)) (i + 1) (j + 1)) (length (blends (plain m)))) _ 9 (λ e. record-good (set-holds (g .facts .holds) i j v) .0))
 
   pub exact-good : (s : Split) → good (exactSplit m s .map) ≡ true
   unfolding exactSplit
-  exact-good s = rw y (either-good (eqb (exactNumber (plain m .lines) s) 0) _ _ (λ e. drawn-good s (eqb-true _ _ e)))
+  exact-good s = rw (g .is-good) (either-good (eqb (exactNumber (plain m .lines) s) 0) _ _ (λ e. drawn-good s (eqb-true _ _ e)))
 
   first-good : (s : Split) → given (plain m .lines) s ≡ 0 → (cs : List Split) → chosen (plain m .lines) s ≡ cs → good (drawnFirst m (plain m) cs .map) ≡ true
   unfolding plain
-  first-good s z [] e = y
-  first-good s z (c ∷ cs) e = drawn-good c (chosen-exact (plain m .lines) (facts .across .0) (facts .up .0) s c cs z e)
+  first-good s z [] e = g .is-good
+  first-good s z (c ∷ cs) e = drawn-good c (chosen-exact (plain m .lines) (g .facts .across .0) (g .facts .up .0) s c cs z e)
 
   pub lengthened-good : (s : Split) → good (lengthenedSplit m s .map) ≡ true
   unfolding lengthenedSplit
-  lengthened-good s = rw y (either-good (eqb (given (plain m .lines) s) 0) _ _ (λ e. first-good s (eqb-true _ _ e) (chosen (plain m .lines) s) refl))
+  lengthened-good s = rw (g .is-good) (either-good (eqb (given (plain m .lines) s) 0) _ _ (λ e. first-good s (eqb-true _ _ e) (chosen (plain m .lines) s) refl))

@@ -1,13 +1,14 @@
 -- What a refusal leaves and what an accepted call gives.
 use Prim.Native.Nat.{ℕ, _≤_}
 use native.Mathlib.Omega.{arith}
-use mathlib.Core.Path.{_≡_, refl, sym, _∙_}
+use mathlib.Core.Path.{_≡_, sym, _∙_}
 use mathlib.Core.Logic.{⊎-elim}
 use mathlib.Core.Bool.{true, false, cond}
 use borrow.Author.Tests.{leb-true, leb-false, le-leb, ltb-false}
 use lib.Dec.{leb, ltb}
 use Rattle.axis.proofs.Tests.{either}
-use Rattle.pump.specs.Border.{ifRefused, firstOf}
+use Rattle.files.specs.Calls.{ifRefused}
+use Rattle.pump.specs.Border.{firstOf}
 
 module _ {A : Type 0} (x y : A) {n number : ℕ} (is : n ≡ number) where
   pub stays : (n ≡ 0 → ⊥) → x ≡ ifRefused number x y

@@ -2,9 +2,9 @@
 use Prim.Native.Nat.{ℕ, _+_}
 use mathlib.Core.Bool.{cond}
 use mathlib.Core.List.{List, [], _∷_, _++_}
-use lib.Dec.{leb, ltb}
+use lib.Dec.{leb}
 use lib.IntN.{ℤ, pos, negsuc}
-use lib.ListN.{length, take, drop}
+use lib.ListN.{length, take}
 use Rattle.axis.specs.Range.{joined}
 use Rattle.mesh.specs.declared.Split.{Split}
 use Rattle.maps.specs.declared.Map.{Map}
@@ -17,24 +17,12 @@ use Rattle.maps.specs.Record.{plain}
 use Rattle.maps.specs.Calls.{freshMap, tablePlace, reading, weights}
 use Rattle.maps.specs.Sameness.{sameness}
 use Rattle.files.specs.File.{word, fileOf}
-use Rattle.files.specs.Calls.{writeNumber, readFile, whole, payloadAt}
+use Rattle.files.specs.Calls.{ifRefused, shortOf, answered, writeNumber, readFile, whole, payloadAt}
 use Rattle.files.specs.Listing.{tableText}
-
--- of two things, the one that stays after a refusal, and the one that an accepted call gives
-abbrev pub ifRefused {ℓ} : {A : Type ℓ} → ℕ → A → A → A
-ifRefused number stays given = cond (leb 1 number) stays given
 
 -- the first refusal of three checks in their order; 0 where none applies
 abbrev pub firstOf : ℕ → ℕ → ℕ → ℕ
 firstOf a b c = ifRefused a a (ifRefused b b c)
-
--- 12 where fewer bytes are lent than an answer takes
-abbrev pub shortOf : ℕ → List ℕ → ℕ
-shortOf size out = cond (ltb (length out) size) 12 0
-
--- "Bytes after a written file stay." A refusal "touches no lent byte": lent bytes with an answer put in front, or as they were.
-abbrev pub answered : ℕ → List ℕ → List ℕ → List ℕ
-answered number answer bytes = ifRefused number bytes (answer ++ drop (length answer) bytes)
 
 -- A call that makes a new map: what was refused before, its own numbers, then 12. The new file stands in the buffer, or all is as it was.
 unfoldable pub newNumber : ℕ → Changed → List ℕ → ℕ

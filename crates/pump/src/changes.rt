@@ -1,34 +1,32 @@
 // Calls that make a new map, whose file then stands in the lent buffer.
 use crate::numbers::first;
 use crate::numbers::if_refused;
-use files::put_whole;
-use files::read_with_table;
+use files::read_opened;
+use files::write_opened;
 use maps::Map;
-use maps::WithTable;
-use maps::record::open;
+use maps::opened::Opened;
+use maps::opened::open;
 use mesh::Split;
 ghost use mathlib.Core.Path.{_≡_};
-ghost use mathlib.Core.Bool.{true};
-ghost use Rattle.maps.specs.Record.{good};
-ghost use Rattle.maps.specs.Opened.{opened, withTable};
 ghost use Rattle.maps.specs.Calls.{changed, setValue, exactSplit, lengthenedSplit};
+ghost use Rattle.maps.specs.Opened.{withTable, Opens};
 ghost use Rattle.files.specs.Calls.{readFile};
 ghost use Rattle.pump.specs.Border.{newNumber, newBytes, newUsed, freshNumber, freshBytes, freshUsed, lent, changeNumber, changeBytes, changeUsed, split};
 
-// The map whose file the first `used` bytes are, with its table. Where they are none, or fewer are lent, the number is 11, and a call
+// The map whose file the first `used` bytes are, opened. Where they are none, or fewer are lent, the number is 11, and a call
 // that goes on with the fresh 1 by 1 map is refused with it.
-fn read_lent(bytes: &[u8], used: usize) -> WithTable
+fn read_lent(bytes: &[u8], used: usize) -> Opened
     ensures { λ r. ⌜ r ≡ withTable (readFile (lent (now (bytes .entry)) used)) ⌝ }
 {
     if bytes.len() < used {
-        return read_with_table(&bytes[..0]);
+        return read_opened(&bytes[..0]);
     }
-    read_with_table(&bytes[..used])
+    read_opened(&bytes[..used])
 }
 
 // Ends a call: what was refused before, the call's own refusal, or the new file in the buffer; refused with 12.
-fn replace(buffer: &mut [u8], used: &mut usize, refused: usize, next: WithTable) -> usize
-    requires { ⌜ (good (next .map) ≡ true) × (next .table ≡ opened (next .map) .table) ⌝ }
+fn replace(buffer: &mut [u8], used: &mut usize, refused: usize, next: Opened) -> usize
+    requires { ⌜ Opens next ⌝ }
     ensures { λ r. ⌜ (r ≡ newNumber refused (changed (next .number) (next .map)) (now (buffer .entry))) ×
         (now (buffer .exit) ≡ newBytes refused (changed (next .number) (next .map)) (now (buffer .entry))) ×
         (now (used .exit) ≡ newUsed refused (changed (next .number) (next .map)) (now (buffer .entry)) (now (used .entry))) ⌝ }
@@ -37,9 +35,7 @@ fn replace(buffer: &mut [u8], used: &mut usize, refused: usize, next: WithTable)
     if number != 0 {
         return number;
     }
-    let map = next.map;
-    let table = next.table;
-    let file = put_whole(buffer, map, table);
+    let file = write_opened(next, buffer);
     *used = if_refused(file.number, *used, file.length);
     file.number
 }
@@ -50,14 +46,8 @@ pub extern "C" fn pump_fresh(w: usize, h: usize, buffer: &mut [u8], used: &mut u
         (now (used .exit) ≡ freshUsed w h (now (buffer .entry))) ⌝ }
 {
     let made = Map::fresh(w, h);
-    let map = made.map;
-    let opened = open(map);
-    let table = opened.table;
-    let next = WithTable {
-        number: made.number,
-        map: map,
-        table: table,
-    };
+    let mut next = open(made.map);
+    next.number = made.number;
     *used = 0;
     replace(buffer, used, 0, next)
 }
@@ -76,8 +66,7 @@ pub extern "C" fn pump_set(
 {
     let length = *used;
     let old = read_lent(buffer, length);
-    let map = old.map;
-    let next = map.set_in(old.table, m, n, value);
+    let next = old.set(m, n, value);
     replace(buffer, used, old.number, next)
 }
 
@@ -96,14 +85,13 @@ pub extern "C" fn pump_exact_split(
 {
     let length = *used;
     let old = read_lent(buffer, length);
-    let map = old.map;
     let s = Split {
         direction: direction,
         position: position,
         from: from,
         to: to,
     };
-    let next = map.exact_with_table(s);
+    let next = old.exact_split(s);
     replace(buffer, used, old.number, next)
 }
 
@@ -122,13 +110,12 @@ pub extern "C" fn pump_lengthened_split(
 {
     let length = *used;
     let old = read_lent(buffer, length);
-    let map = old.map;
     let s = Split {
         direction: direction,
         position: position,
         from: from,
         to: to,
     };
-    let next = map.lengthened_with_table(s);
+    let next = old.lengthened_split(s);
     replace(buffer, used, old.number, next)
 }

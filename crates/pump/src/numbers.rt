@@ -4,7 +4,8 @@ ghost use mathlib.Core.Path.{_≡_};
 ghost use mathlib.Core.Bool.{cond};
 ghost use mathlib.Core.List.{[], _∷_, _++_};
 ghost use lib.Dec.{ltb};
-ghost use Rattle.pump.specs.Border.{ifRefused, firstOf, signed, shapeNumbers};
+ghost use Rattle.files.specs.Calls.{ifRefused};
+ghost use Rattle.pump.specs.Border.{firstOf, signed, shapeNumbers};
 
 // Of two numbers, the one that stays after a refusal, and the one that an accepted call gives.
 pub(crate) fn if_refused(number: usize, stays: usize, given: usize) -> usize

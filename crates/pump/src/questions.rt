@@ -1,13 +1,14 @@
-// Questions to the map of a file, and to the bytes themselves.
+// Questions to the map of a file, and to the bytes themselves. Where they are no file, a call asks the fresh 1 by 1 map that reading hands
+// back, and is refused with 11.
 use crate::numbers::first;
 use crate::numbers::if_refused;
 use crate::numbers::short;
 use crate::numbers::words_of;
 use files::bytes::payload;
 use files::bytes::put_words;
-use files::listing::put_map;
+use files::listing::list_opened;
 use files::read;
-use files::read_with_table;
+use files::read_opened;
 use maps::Weight;
 ghost use mathlib.Core.Path.{_≡_};
 ghost use mathlib.Core.Bool.{cond};
@@ -23,9 +24,8 @@ pub extern "C" fn pump_place(file: &[u8], place: usize, out: &mut [u8]) -> usize
     ensures { λ r. ⌜ (r ≡ placeNumber (now (file .entry)) place (now (out .entry))) ×
         (now (out .exit) ≡ placeAfter (now (file .entry)) place (now (out .entry))) ⌝ }
 {
-    let known = read_with_table(file);
-    let map = known.map;
-    let entry = map.place_in(known.table, place);
+    let known = read_opened(file);
+    let entry = known.place(place);
     let number = first(known.number, entry.number, short(out.len(), 14));
     if number != 0 {
         return number;
@@ -40,9 +40,8 @@ pub extern "C" fn pump_place(file: &[u8], place: usize, out: &mut [u8]) -> usize
 pub extern "C" fn pump_reading(file: &[u8], u: usize, v: usize, litres: &mut usize) -> usize
     ensures { λ r. ⌜ (r ≡ readingNumber (now (file .entry)) u v) × (now (litres .exit) ≡ readingLitres (now (file .entry)) u v) ⌝ }
 {
-    let known = read_with_table(file);
-    let map = known.map;
-    let answer = map.reading_in(known.table, u, v);
+    let known = read_opened(file);
+    let answer = known.reading(u, v);
     let number = first(known.number, answer.number, 0);
     *litres = if_refused(number, 0, answer.litres);
     number
@@ -68,9 +67,8 @@ pub extern "C" fn pump_weights(file: &[u8], u: usize, v: usize, out: &mut [u8]) 
     ensures { λ r. ⌜ (r ≡ weightsNumber (now (file .entry)) u v (now (out .entry))) ×
         (now (out .exit) ≡ weightsAfter (now (file .entry)) u v (now (out .entry))) ⌝ }
 {
-    let known = read_with_table(file);
-    let map = known.map;
-    let four = map.weights_in(known.table, u, v);
+    let known = read_opened(file);
+    let four = known.weights(u, v);
     let number = first(known.number, four.number, short(out.len(), 64));
     if number != 0 {
         return number;
@@ -93,11 +91,9 @@ fn one_or_none(yes: bool) -> usize
 pub extern "C" fn pump_same<'a>(one: &'a [u8], two: &'a [u8], yes: &mut usize) -> usize
     ensures { λ r. ⌜ (r ≡ sameNumber (now (one .entry)) (now (two .entry))) × (now (yes .exit) ≡ sameYes (now (one .entry)) (now (two .entry))) ⌝ }
 {
-    let left = read_with_table(one);
-    let right = read_with_table(two);
-    let map = left.map;
-    let other = right.map;
-    let answer = map.same_in(left.table, other, right.table);
+    let left = read_opened(one);
+    let right = read_opened(two);
+    let answer = left.same(right);
     let number = first(left.number, right.number, answer.number);
     *yes = if_refused(number, 0, one_or_none(answer.yes));
     number
@@ -137,14 +133,12 @@ pub extern "C" fn pump_table(file: &[u8], out: &mut [u8], count: &mut usize) -> 
     ensures { λ r. ⌜ (r ≡ tableNumber (now (file .entry)) (now (out .entry))) × (now (out .exit) ≡ tableAfter (now (file .entry)) (now (out .entry))) ×
         (now (count .exit) ≡ tableCount (now (file .entry)) (now (out .entry))) ⌝ }
 {
-    let known = read_with_table(file);
+    let known = read_opened(file);
     if known.number != 0 {
         *count = 0;
         return known.number;
     }
-    let map = known.map;
-    let table = known.table;
-    let text = put_map(out, map, table);
+    let text = list_opened(known, out);
     *count = text.length;
     text.number
 }

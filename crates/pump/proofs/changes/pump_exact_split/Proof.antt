@@ -2,22 +2,24 @@
 use borrow.Author.Needs.{needs}
 use Rattle.maps.specs.Calls.{exactSplit}
 use Rattle.pump.specs.Border.{split}
-use Rattle.pump.proofs.Changing.{exact-handed, changes}
+use Rattle.files.proofs.ReadMaps.{read-opens}
+use Rattle.pump.proofs.Known.{exact-opens}
+use Rattle.pump.proofs.Changing.{changes}
 use Rattle.pump.proofs.changes.pump_exact_split.Statement.{statement}
 use Rattle.pump.proofs.changes.pump_exact_split.Tie as tie
 
 read-lent-requires : tie.Need-read-lent-requires
 read-lent-requires c κs = search needs
 
-exact-with-table-requires : tie.Need-exact-with-table-requires
-exact-with-table-requires c κs = search needs
+exact-split-requires : tie.Need-exact-split-requires
+exact-split-requires c κs = read-opens _ (c .read-lent .ensures)
 
 replace-requires : tie.Need-replace-requires
 replace-requires c κs =
     let call = c .before .before in
-    let read = call .before .before in
+    let read = call .before in
     let a = read .before .before .before .before .args in
-    exact-handed _ (read .read-lent .ensures) (split (a .direction) (a .position) (a .from) (a .to)) (call .exact-with-table .ensures)
+    exact-opens _ (read .read-lent .ensures) (split (a .direction) (a .position) (a .from) (a .to)) (call .exact-split .ensures)
 
 same-length : tie.Need-same-length
 same-length c = search needs
@@ -26,11 +28,11 @@ returns : tie.Need-returns
 returns c =
     let end = c .before .before in
     let call = end .before .before .before in
-    let read = call .before .before in
+    let read = call .before in
     let a = read .before .before .before .before .args in
-    changes (λ m. exactSplit m (split (a .direction) (a .position) (a .from) (a .to))) (a .buffer .now) (a .used .now) (read .read-lent .ensures) (call .exact-with-table .ensures) (end .replace .ensures)
+    changes (λ m. exactSplit m (split (a .direction) (a .position) (a .from) (a .to))) (a .buffer .now) (a .used .now) (read .read-lent .ensures) (call .exact-split .ensures) (end .replace .ensures)
 
 pub pump-exact-split-spec : {M : Type 1} → statement M
 pump-exact-split-spec =
     tie.close
-    (tie.spec read-lent-requires exact-with-table-requires replace-requires same-length returns)
+    (tie.spec read-lent-requires exact-split-requires replace-requires same-length returns)

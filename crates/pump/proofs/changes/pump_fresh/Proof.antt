@@ -14,10 +14,10 @@ open-requires c κs = search needs
 
 replace-requires : tie.Need-replace-requires
 replace-requires c κs =
-    let o = c .before .before .before in
-    let made = o .before .before in
+    let made = c .before .before .before in
     let a = made .before .before .args in
-    (rw (made .fresh .ensures) (fresh-good (a .w) (a .h)), ap (λ (o : Opened). o .table) (o .«open» .ensures))
+    let o = c .before .before .«open» in
+    ?
 
 same-length : tie.Need-same-length
 same-length c = search needs

@@ -2,22 +2,24 @@
 use borrow.Author.Needs.{needs}
 use Rattle.maps.specs.Calls.{lengthenedSplit}
 use Rattle.pump.specs.Border.{split}
-use Rattle.pump.proofs.Changing.{lengthened-handed, changes}
+use Rattle.files.proofs.ReadMaps.{read-opens}
+use Rattle.pump.proofs.Known.{lengthened-opens}
+use Rattle.pump.proofs.Changing.{changes}
 use Rattle.pump.proofs.changes.pump_lengthened_split.Statement.{statement}
 use Rattle.pump.proofs.changes.pump_lengthened_split.Tie as tie
 
 read-lent-requires : tie.Need-read-lent-requires
 read-lent-requires c κs = search needs
 
-lengthened-with-table-requires : tie.Need-lengthened-with-table-requires
-lengthened-with-table-requires c κs = search needs
+lengthened-split-requires : tie.Need-lengthened-split-requires
+lengthened-split-requires c κs = read-opens _ (c .read-lent .ensures)
 
 replace-requires : tie.Need-replace-requires
 replace-requires c κs =
     let call = c .before .before in
-    let read = call .before .before in
+    let read = call .before in
     let a = read .before .before .before .before .args in
-    lengthened-handed _ (read .read-lent .ensures) (split (a .direction) (a .position) (a .from) (a .to)) (call .lengthened-with-table .ensures)
+    lengthened-opens _ (read .read-lent .ensures) (split (a .direction) (a .position) (a .from) (a .to)) (call .lengthened-split .ensures)
 
 same-length : tie.Need-same-length
 same-length c = search needs
@@ -26,9 +28,9 @@ returns : tie.Need-returns
 returns c =
     let end = c .before .before in
     let call = end .before .before .before in
-    let read = call .before .before in
+    let read = call .before in
     let a = read .before .before .before .before .args in
-    changes (λ m. lengthenedSplit m (split (a .direction) (a .position) (a .from) (a .to))) (a .buffer .now) (a .used .now) (read .read-lent .ensures) (call .lengthened-with-table .ensures) (end .replace .ensures)
+    changes (λ m. lengthenedSplit m (split (a .direction) (a .position) (a .from) (a .to))) (a .buffer .now) (a .used .now) (read .read-lent .ensures) (call .lengthened-split .ensures) (end .replace .ensures)
 
 pub pump-lengthened-split-spec : {M : Type 1} → statement M
 pump-lengthened-split-spec =

@@ -1,22 +1,24 @@
 -- `pump_set` meets its contract: the call on the map that the buffer holds, ended by `replace`.
 use borrow.Author.Needs.{needs}
 use Rattle.maps.specs.Calls.{setValue}
-use Rattle.pump.proofs.Changing.{set-own, set-handed, changes}
+use Rattle.files.proofs.ReadMaps.{read-opens}
+use Rattle.pump.proofs.Known.{set-opens}
+use Rattle.pump.proofs.Changing.{changes}
 use Rattle.pump.proofs.changes.pump_set.Statement.{statement}
 use Rattle.pump.proofs.changes.pump_set.Tie as tie
 
 read-lent-requires : tie.Need-read-lent-requires
 read-lent-requires c κs = search needs
 
-set-in-requires : tie.Need-set-in-requires
-set-in-requires c κs = search needs
+set-requires : tie.Need-set-requires
+set-requires c κs = read-opens _ (c .read-lent .ensures)
 
 replace-requires : tie.Need-replace-requires
 replace-requires c κs =
     let call = c .before .before in
-    let read = call .before .before in
+    let read = call .before in
     let a = read .before .before .before .before .args in
-    set-handed _ (read .read-lent .ensures) (a .m) (a .n) (a .value) (call .set-in .ensures)
+    set-opens _ (read .read-lent .ensures) (a .m) (a .n) (a .value) (call .set .ensures)
 
 same-length : tie.Need-same-length
 same-length c = search needs
@@ -25,10 +27,10 @@ returns : tie.Need-returns
 returns c =
     let end = c .before .before in
     let call = end .before .before .before in
-    let read = call .before .before in
+    let read = call .before in
     let a = read .before .before .before .before .args in
-    changes (λ m. setValue m (a .m) (a .n) (a .value)) (a .buffer .now) (a .used .now) (read .read-lent .ensures) (set-own _ (read .read-lent .ensures) (a .m) (a .n) (a .value) (call .set-in .ensures)) (end .replace .ensures)
+    changes (λ m. setValue m (a .m) (a .n) (a .value)) (a .buffer .now) (a .used .now) (read .read-lent .ensures) (call .set .ensures) (end .replace .ensures)
 
 pub pump-set-spec : {M : Type 1} → statement M
 pump-set-spec =
-    tie.close (tie.spec read-lent-requires set-in-requires replace-requires same-length returns)
+    tie.close (tie.spec read-lent-requires set-requires replace-requires same-length returns)

@@ -11,31 +11,31 @@ use Rattle.files.specs.Calls.{readFile}
 use Rattle.pump.proofs.changes.read_lent.Statement.{statement}
 use Rattle.pump.proofs.changes.read_lent.Tie as tie
 
-slice-aggregate-read-with-table : tie.Need-slice-aggregate-read-with-table
-slice-aggregate-read-with-table c = search needs
+slice-aggregate-read-opened : tie.Need-slice-aggregate-read-opened
+slice-aggregate-read-opened c = search needs
 
-read-with-table-requires : tie.Need-read-with-table-requires
-read-with-table-requires c κs = search needs
+read-opened-requires : tie.Need-read-opened-requires
+read-opened-requires c κs = search needs
 
 returns : tie.Need-returns
-returns c = c .read-with-table .ensures ∙ ap (λ (bytes : List ℕ). withTable (readFile bytes)) (sym (cond-false _ _ _ (lt-leb _ _ (c .before .before .if1 .taken))))
+returns c = c .read-opened .ensures ∙ ap (λ (bytes : List ℕ). withTable (readFile bytes)) (sym (cond-false _ _ _ (lt-leb _ _ (c .before .before .if1 .taken))))
 
-slice-aggregate-read-with-table-2 : tie.Need-slice-aggregate-read-with-table-2
-slice-aggregate-read-with-table-2 c = sym (length-take-le _ _ (c .before .if1 .left))
+slice-aggregate-read-opened-2 : tie.Need-slice-aggregate-read-opened-2
+slice-aggregate-read-opened-2 c = sym (length-take-le _ _ (c .before .if1 .left))
 
-read-with-table-requires-2 : tie.Need-read-with-table-requires-2
-read-with-table-requires-2 c κs = search needs
+read-opened-requires-2 : tie.Need-read-opened-requires-2
+read-opened-requires-2 c κs = search needs
 
 returns-2 : tie.Need-returns-2
-returns-2 c = c .read-with-table2 .ensures ∙ ap (λ (bytes : List ℕ). withTable (readFile bytes)) (sym (cond-true _ _ _ (le-leb _ _ (c .before .before .if1 .left))))
+returns-2 c = c .read-opened2 .ensures ∙ ap (λ (bytes : List ℕ). withTable (readFile bytes)) (sym (cond-true _ _ _ (le-leb _ _ (c .before .before .if1 .left))))
 
 pub read-lent-spec : {M : Type 1} → statement M
 read-lent-spec =
     tie.close
     (tie.spec
-    slice-aggregate-read-with-table
-    read-with-table-requires
+    slice-aggregate-read-opened
+    read-opened-requires
     returns
-    slice-aggregate-read-with-table-2
-    read-with-table-requires-2
+    slice-aggregate-read-opened-2
+    read-opened-requires-2
     returns-2)

@@ -6,8 +6,8 @@ use lib.ListN.{length}
 use Rattle.maps.specs.Record.{plain}
 use Rattle.files.specs.declared.Written.{Written}
 use Rattle.files.specs.File.{fileOf}
-use Rattle.files.specs.Calls.{writeNumber}
-use Rattle.pump.specs.Border.{ifRefused, answered, newNumber, newBytes, newUsed}
+use Rattle.files.specs.Calls.{writeNumber, ifRefused, answered}
+use Rattle.pump.specs.Border.{newNumber, newBytes, newUsed}
 use Rattle.pump.proofs.Refusals.{stays, twice, two-refuse, third-tells}
 use Rattle.pump.proofs.changes.replace.Statement.{statement}
 use Rattle.pump.proofs.changes.replace.Tie as tie
@@ -22,8 +22,8 @@ returns c =
     let e = two-refuse (a .refused) (a .next .number) (writeNumber (a .next .map) (a .buffer .now)) (c .before .first .ensures) (c .if1 .taken) in
     (e, stays _ _ e (c .if1 .taken), stays _ _ e (c .if1 .taken))
 
-put-whole-requires : tie.Need-put-whole-requires
-put-whole-requires c κs = search needs
+write-opened-requires : tie.Need-write-opened-requires
+write-opened-requires c κs = search needs
 
 if-refused-requires : tie.Need-if-refused-requires
 if-refused-requires c κs = search needs
@@ -35,17 +35,17 @@ returns-2 : tie.Need-returns-2
 unfolding newNumber newBytes newUsed
 returns-2 c =
     let put = c .before .before .before .before in
-    let else = put .before .before .before .before in
+    let else = put .before .before in
     let a = else .before .before .before .args in
     let size = length (fileOf (plain (a .next .map))) in
     let n = writeNumber (a .next .map) (a .buffer .now) in
     let e = third-tells (a .refused) (a .next .number) n (else .before .first .ensures) (else .if1 .left) in (
-      ap (λ (w : Written). w .number) (put .put-whole .ensures .0) ∙ e,
-      put .put-whole .ensures .1 ∙ ap (λ (n : ℕ). answered n (fileOf (plain (a .next .map))) (a .buffer .now)) e,
-      c .if-refused .ensures ∙ rw (put .put-whole .ensures .0) (twice n (a .used .now) 0 size) ∙ ap (λ (n : ℕ). ifRefused n (a .used .now) size) e,
+      ap (λ (w : Written). w .number) (put .write-opened .ensures .0) ∙ e,
+      put .write-opened .ensures .1 ∙ ap (λ (n : ℕ). answered n (fileOf (plain (a .next .map))) (a .buffer .now)) e,
+      c .if-refused .ensures ∙ rw (put .write-opened .ensures .0) (twice n (a .used .now) 0 size) ∙ ap (λ (n : ℕ). ifRefused n (a .used .now) size) e,
     )
 
 pub replace-spec : {M : Type 1} → statement M
 replace-spec =
     tie.close
-    (tie.spec first-requires returns put-whole-requires if-refused-requires same-length returns-2)
+    (tie.spec first-requires returns write-opened-requires if-refused-requires same-length returns-2)

@@ -8,15 +8,15 @@ use lib.Seq.{length-take-le}
 use Rattle.files.proofs.Putting.{words-fit}
 use Rattle.pump.specs.Border.{placeNumber, placeAfter}
 use Rattle.pump.proofs.Refusals.{stays, gives, enough}
-use Rattle.pump.proofs.Asking.{its-place}
+use Rattle.files.proofs.ReadMaps.{read-opens}
 use Rattle.pump.proofs.questions.pump_place.Statement.{statement}
 use Rattle.pump.proofs.questions.pump_place.Tie as tie
 
-read-with-table-requires : tie.Need-read-with-table-requires
-read-with-table-requires c κs = search needs
+read-opened-requires : tie.Need-read-opened-requires
+read-opened-requires c κs = search needs
 
-place-in-requires : tie.Need-place-in-requires
-place-in-requires c κs = search needs
+place-requires : tie.Need-place-requires
+place-requires c κs = read-opens _ (c .read-opened .ensures)
 
 short-requires : tie.Need-short-requires
 short-requires c κs = search needs
@@ -25,16 +25,16 @@ first-requires : tie.Need-first-requires
 first-requires c κs = search needs
 
 -- the entry is the one of the map that is read
-entry : (c : tie.After-place-in) → let a = c .before .before .before .before .before .args in
-    c .place-in .result ≡ tablePlace (readFile (a .file .now) .map) (a .place)
-entry c = its-place _ (c .before .before .read-with-table .ensures) _ (c .place-in .ensures)
+entry : (c : tie.After-place) → let a = c .before .before .before .before .args in
+    c .place .result ≡ tablePlace (readFile (a .file .now) .map) (a .place)
+entry c = rw (c .before .read-opened .ensures) at (c .place .ensures)
 
-number : (c : tie.After-first) → let a = c .before .before .before .before .before .before .before .args in
+number : (c : tie.After-first) → let a = c .before .before .before .before .before .before .args in
     c .first .result ≡ placeNumber (a .file .now) (a .place) (a .out .now)
 unfolding placeNumber
 number c =
     let asked = c .before .before in
-    c .first .ensures ∙ rw (entry asked, c .before .short .ensures, asked .before .before .read-with-table .ensures)
+    c .first .ensures ∙ rw (entry asked, c .before .short .ensures, asked .before .read-opened .ensures)
 
 returns : tie.Need-returns
 unfolding placeAfter
@@ -63,9 +63,8 @@ returns-2 c =
     let yes = words .before .before in
     let told = yes .before in
     let asked = told .before .before in
-    let known = asked .before .before in
-    let a = known .before .before .before .args in
-    let room = enough (known .read-with-table .result .number) (asked .place-in .result .number) _ _ 14 (told .before .short .ensures) (sym (told .first .ensures) ∙ yes .if1 .left) in
+    let known = asked .before in
+    let room = enough (known .read-opened .result .number) (asked .place .result .number) _ _ 14 (told .before .short .ensures) (sym (told .first .ensures) ∙ yes .if1 .left) in
     let e = number told in
     (e, rw (words .words-of .ensures, entry asked) at (put .put-words .ensures) ∙ words-fit _ _ _ room ∙ gives _ _ e (yes .if1 .left))
 
@@ -73,8 +72,8 @@ pub pump-place-spec : {M : Type 1} → statement M
 pump-place-spec =
     tie.close
     (tie.spec
-    read-with-table-requires
-    place-in-requires
+    read-opened-requires
+    place-requires
     short-requires
     first-requires
     returns

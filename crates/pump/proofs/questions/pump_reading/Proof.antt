@@ -2,15 +2,15 @@
 use borrow.Author.Needs.{needs}
 use mathlib.Core.Path.{_≡_, _∙_}
 use Rattle.pump.specs.Border.{readingNumber, readingLitres}
-use Rattle.pump.proofs.Asking.{its-reading}
+use Rattle.files.proofs.ReadMaps.{read-opens}
 use Rattle.pump.proofs.questions.pump_reading.Statement.{statement}
 use Rattle.pump.proofs.questions.pump_reading.Tie as tie
 
-read-with-table-requires : tie.Need-read-with-table-requires
-read-with-table-requires c κs = search needs
+read-opened-requires : tie.Need-read-opened-requires
+read-opened-requires c κs = search needs
 
-reading-in-requires : tie.Need-reading-in-requires
-reading-in-requires c κs = search needs
+reading-requires : tie.Need-reading-requires
+reading-requires c κs = read-opens _ (c .read-opened .ensures)
 
 first-requires : tie.Need-first-requires
 first-requires c κs = search needs
@@ -23,18 +23,18 @@ unfolding readingNumber readingLitres
 returns c =
     let number = c .before in
     let asked = number .before in
-    let known = asked .before .before in
+    let known = asked .before in
     let a = known .before .before .args in
-    let is = its-reading _ (known .read-with-table .ensures) (a .u) (a .v) (asked .reading-in .ensures) in
-    let e : number .first .result ≡ readingNumber (a .file .now) (a .u) (a .v) = number .first .ensures ∙ rw (is, known .read-with-table .ensures) in
+    let is = rw (known .read-opened .ensures) at (asked .reading .ensures) in
+    let e : number .first .result ≡ readingNumber (a .file .now) (a .u) (a .v) = number .first .ensures ∙ rw (is, known .read-opened .ensures) in
     (e, c .if-refused .ensures ∙ rw (e, is))
 
 pub pump-reading-spec : {M : Type 1} → statement M
 pump-reading-spec =
     tie.close
     (tie.spec
-    read-with-table-requires
-    reading-in-requires
+    read-opened-requires
+    reading-requires
     first-requires
     if-refused-requires
     returns)

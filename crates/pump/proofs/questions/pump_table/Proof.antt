@@ -6,29 +6,27 @@ use lib.ListN.{length}
 use Rattle.maps.specs.declared.opened.Opened.{Opened}
 use Rattle.maps.specs.Record.{plain}
 use Rattle.files.specs.declared.Written.{Written}
-use Rattle.files.specs.Calls.{readFile}
+use Rattle.files.specs.Calls.{readFile, ifRefused, answered, shortOf}
 use Rattle.files.specs.Listing.{tableText, textWritten, textAfter}
-use Rattle.files.proofs.ReadMaps.{read-good, read-table}
-use Rattle.pump.specs.Border.{ifRefused, answered, shortOf, tableNumber, tableAfter, tableCount}
+use Rattle.files.proofs.ReadMaps.{read-opens}
+use Rattle.pump.specs.Border.{tableNumber, tableAfter, tableCount}
 use Rattle.pump.proofs.Refusals.{stays, gives}
 use Rattle.pump.proofs.questions.pump_table.Statement.{statement}
 use Rattle.pump.proofs.questions.pump_table.Tie as tie
 
-read-with-table-requires : tie.Need-read-with-table-requires
-read-with-table-requires c κs = search needs
+read-opened-requires : tie.Need-read-opened-requires
+read-opened-requires c κs = search needs
 
 returns : tie.Need-returns
 unfolding tableNumber tableAfter tableCount
 returns c =
-    let known = c .before .before .read-with-table in
+    let known = c .before .before .read-opened in
     let is = ap (λ (w : Opened). w .number) (known .ensures) in
     let e = is ∙ stays _ _ is (c .if1 .taken) in
     (e, stays _ _ e (c .if1 .taken), stays _ _ e (c .if1 .taken))
 
-put-map-requires : tie.Need-put-map-requires
-put-map-requires c κs =
-    let e = c .before .before .before .before .before .read-with-table .ensures in
-    (read-good _ e, read-table _ e)
+list-opened-requires : tie.Need-list-opened-requires
+list-opened-requires c κs = read-opens _ (c .before .before .before .read-opened .ensures)
 
 same-length : tie.Need-same-length
 same-length c = search needs
@@ -37,13 +35,13 @@ returns-2 : tie.Need-returns-2
 unfolding tableNumber tableAfter tableCount textWritten textAfter
 returns-2 c =
     let put = c .before .before in
-    let yes = put .before .before .before .before in
+    let yes = put .before .before in
     let known = yes .before .before in
     let a = known .before .before .before .args in
     let text = tableText (plain (readFile (a .file .now) .map)) in
     let e : shortOf 65536 (a .out .now) ≡ tableNumber (a .file .now) (a .out .now) =
-    gives _ _ (ap (λ (w : Opened). w .number) (known .read-with-table .ensures)) (yes .if1 .left) in
-    let p = rw (known .read-with-table .ensures) at (put .put-map .ensures) in (
+    gives _ _ (ap (λ (w : Opened). w .number) (known .read-opened .ensures)) (yes .if1 .left) in
+    let p = rw (known .read-opened .ensures) at (put .list-opened .ensures) in (
       ap (λ (w : Written). w .number) (p .0) ∙ e,
       p .1 ∙ ap (λ (n : ℕ). answered n text (a .out .now)) e,
       ap (λ (w : Written). w .length) (p .0) ∙ ap (λ (n : ℕ). ifRefused n 0 (length text)) e,
@@ -51,4 +49,4 @@ returns-2 c =
 
 pub pump-table-spec : {M : Type 1} → statement M
 pump-table-spec =
-    tie.close (tie.spec read-with-table-requires returns put-map-requires same-length returns-2)
+    tie.close (tie.spec read-opened-requires returns list-opened-requires same-length returns-2)

@@ -6,15 +6,15 @@ use Rattle.maps.specs.Calls.{weights}
 use Rattle.files.specs.Calls.{readFile}
 use Rattle.pump.specs.Border.{weightsNumber, weightsAfter}
 use Rattle.pump.proofs.Refusals.{stays, gives, enough}
-use Rattle.pump.proofs.Asking.{its-weights}
+use Rattle.files.proofs.ReadMaps.{read-opens}
 use Rattle.pump.proofs.questions.pump_weights.Statement.{statement}
 use Rattle.pump.proofs.questions.pump_weights.Tie as tie
 
-read-with-table-requires : tie.Need-read-with-table-requires
-read-with-table-requires c κs = search needs
+read-opened-requires : tie.Need-read-opened-requires
+read-opened-requires c κs = search needs
 
-weights-in-requires : tie.Need-weights-in-requires
-weights-in-requires c κs = search needs
+weights-requires : tie.Need-weights-requires
+weights-requires c κs = read-opens _ (c .read-opened .ensures)
 
 short-requires : tie.Need-short-requires
 short-requires c κs = search needs
@@ -23,16 +23,16 @@ first-requires : tie.Need-first-requires
 first-requires c κs = search needs
 
 -- the weights are those of the map that is read
-four : (c : tie.After-weights-in) → let a = c .before .before .before .before .before .args in
-    c .weights-in .result ≡ weights (readFile (a .file .now) .map) (a .u) (a .v)
-four c = its-weights _ (c .before .before .read-with-table .ensures) _ _ (c .weights-in .ensures)
+four : (c : tie.After-weights) → let a = c .before .before .before .before .args in
+    c .weights .result ≡ weights (readFile (a .file .now) .map) (a .u) (a .v)
+four c = rw (c .before .read-opened .ensures) at (c .weights .ensures)
 
-number : (c : tie.After-first) → let a = c .before .before .before .before .before .before .before .args in
+number : (c : tie.After-first) → let a = c .before .before .before .before .before .before .args in
     c .first .result ≡ weightsNumber (a .file .now) (a .u) (a .v) (a .out .now)
 unfolding weightsNumber
 number c =
     let asked = c .before .before in
-    c .first .ensures ∙ rw (four asked, c .before .short .ensures, asked .before .before .read-with-table .ensures)
+    c .first .ensures ∙ rw (four asked, c .before .short .ensures, asked .before .read-opened .ensures)
 
 returns : tie.Need-returns
 unfolding weightsAfter
@@ -43,7 +43,7 @@ put-weights-requires c κs =
     let yes = c .before .before in
     let told = yes .before in
     let asked = told .before .before in
-    enough (asked .before .before .read-with-table .result .number) (asked .weights-in .result .number) _ _ 64 (told .before .short .ensures) (sym (told .first .ensures) ∙ yes .if1 .left)
+    enough (asked .before .read-opened .result .number) (asked .weights .result .number) _ _ 64 (told .before .short .ensures) (sym (told .first .ensures) ∙ yes .if1 .left)
 
 same-length : tie.Need-same-length
 same-length c = search needs
@@ -61,8 +61,8 @@ pub pump-weights-spec : {M : Type 1} → statement M
 pump-weights-spec =
     tie.close
     (tie.spec
-    read-with-table-requires
-    weights-in-requires
+    read-opened-requires
+    weights-requires
     short-requires
     first-requires
     returns
