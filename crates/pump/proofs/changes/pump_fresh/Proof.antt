@@ -1,7 +1,8 @@
 -- `pump_fresh` meets its contract: the fresh map, opened, ended by `replace`.
 use borrow.Author.Needs.{needs}
-use mathlib.Core.Path.{ap}
-use Rattle.maps.specs.declared.opened.Opened.{Opened}
+use Rattle.maps.specs.Opened.{opened}
+use Rattle.maps.proofs.Changing.{same-map}
+use Rattle.pump.proofs.Known.{opens}
 use Rattle.pump.proofs.Changing.{fresh-good}
 use Rattle.pump.proofs.changes.pump_fresh.Statement.{statement}
 use Rattle.pump.proofs.changes.pump_fresh.Tie as tie
@@ -13,11 +14,11 @@ open-requires : tie.Need-open-requires
 open-requires c κs = search needs
 
 replace-requires : tie.Need-replace-requires
+unfolding opened
 replace-requires c κs =
     let made = c .before .before .before in
     let a = made .before .before .args in
-    let o = c .before .before .«open» in
-    ?
+    opens (c .before .before .«open» .ensures) (rw (made .fresh .ensures) (fresh-good (a .w) (a .h)))
 
 same-length : tie.Need-same-length
 same-length c = search needs
@@ -25,8 +26,8 @@ same-length c = search needs
 returns : tie.Need-returns
 returns c =
     let end = c .before .before in
-    let made = end .before .before .before .before .before .before in
-    rw (made .fresh .ensures) at (end .replace .ensures)
+    let o = end .before .before .before in
+    rw (same-map _ (o .«open» .result) (o .«open» .ensures), o .before .fresh .ensures) at (end .replace .ensures)
 
 pub pump-fresh-spec : {M : Type 1} → statement M
 pump-fresh-spec =

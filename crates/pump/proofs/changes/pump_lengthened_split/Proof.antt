@@ -37,7 +37,7 @@ pump-lengthened-split-spec =
     tie.close
     (tie.spec
     read-lent-requires
-    lengthened-with-table-requires
+    lengthened-split-requires
     replace-requires
     same-length
     returns)
