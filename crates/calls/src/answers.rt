@@ -106,14 +106,15 @@ fn split(r: Changed) {
         return;
     }
     let m = r.map;
-    let count = m.count;
+    let lines = m.lines;
+    let count = lines.count;
     if count < 1 {
         return;
     }
-    if 60 < count {
+    if Map::MOST_SPLITS < count {
         return;
     }
-    let s = m.splits[count - 1];
+    let s = lines.splits[count - 1];
     show::number(s.from);
     show::number(s.to);
     show::number(blends(m));
@@ -153,14 +154,14 @@ fn lengthen(map: Map, line: &[u8]) -> Map {
 
 // Sameness with another map, given as the hexadecimal bytes of its file; a line whose bytes are no file is no call.
 fn same(map: Map, line: &[u8]) {
-    let mut bytes = [0u8; 10972];
+    let mut bytes = [0u8; LARGEST_FILE];
     let found = text::unhex(line, 5, &mut bytes);
     let n = found.value;
     if !found.some {
         no_call();
         return;
     }
-    if 10972 < n {
+    if LARGEST_FILE < n {
         no_call();
         return;
     }
@@ -183,13 +184,13 @@ fn same(map: Map, line: &[u8]) {
 
 // The bytes of the map's file, in hexadecimal.
 fn file(map: Map) {
-    let mut bytes = [0u8; 10972];
+    let mut bytes = [0u8; LARGEST_FILE];
     let r = files::write(map, &mut bytes);
     show::text(b" = ");
     let n = r.length;
     let mut i = 0;
     while i < n {
-        if 10972 <= i {
+        if LARGEST_FILE <= i {
             return;
         }
         show::hex(bytes[i]);

@@ -13,7 +13,7 @@ use Rattle.axis.proofs.Tests.{all-at}
 use Rattle.mesh.proofs.Cutting.{proper-of}
 use Rattle.maps.specs.declared.Map.{Map}
 use Rattle.maps.specs.Record.{plain, good}
-use Rattle.maps.proofs.InHand.{table-blends, table-count, hand-proper, hand-length}
+use Rattle.maps.proofs.OneSplitMore.{table-blends, table-count, table-proper, splits-length}
 use Rattle.maps.proofs.Changing.{GoodMap, few, live-table, live-count}
 use Rattle.files.specs.declared.Written.{Written}
 use Rattle.files.specs.File.{fileOf, put}
@@ -40,10 +40,10 @@ ready {m} {t} g =
           record {
             few = few g;
             rise = λ B mem. proper-of (m .lines .w) (m .lines .h) B (f .across .1) (f .up .1)
-                (all-at (proper (m .lines .w) (m .lines .h)) (blendsOf t) (hand-proper (g .hand)) B mem);
+                (all-at (proper (m .lines .w) (m .lines .h)) (blendsOf t) (table-proper (g .has-table)) B mem);
           };
       is-file = rw (live-table g, table-blends, table-count);
-      size = omega (arith, file-length (plain m) (f .holds .counted), hand-length (g .hand), live-count g);
+      size = omega (arith, file-length (plain m) (f .holds .counted), splits-length (g .has-table), live-count g);
     }
 
 -- what `write` answers and leaves

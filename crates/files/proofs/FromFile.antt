@@ -14,7 +14,7 @@ use Rattle.maps.specs.Histories.{Call, exact, Outcome, byLibrary, byMachine, ou
 use Rattle.maps.specs.Demand.{leftBy, DemandFrom}
 use Rattle.maps.proofs.Readings.{Valued}
 use Rattle.maps.proofs.Reached.{Reached, holds-reached, fresh-reached, Leads, ending-leads}
-use Rattle.maps.proofs.Replayed3.{AcceptedTo, accepted-join, accepted-ends, accepted-more, library-accepts, ending-join, outcomes-join, withValues, splits-drawn, value-set}
+use Rattle.maps.proofs.Rebuilding.{AcceptedTo, accepted-join, accepted-ends, accepted-more, library-accepts, ending-join, outcomes-join, withValues, splits-drawn, value-set}
 use Rattle.maps.proofs.Demand3.{reached-demand, demand-three}
 use Rattle.maps.proofs.Following.{ending-follows}
 use Rattle.files.specs.File.{wordAt, splitCount, guessed}

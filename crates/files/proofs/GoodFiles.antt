@@ -16,7 +16,7 @@ use Rattle.maps.specs.declared.Map.{Map}
 use Rattle.maps.specs.Plain.{Plain, blends}
 use Rattle.maps.specs.Record.{recordOf, plain, good}
 use Rattle.maps.specs.Calls.{changed}
-use Rattle.maps.proofs.Good.{Replays, replays-stands, good-facts}
+use Rattle.maps.proofs.GoodRecords.{Replays, replays-stands, good-facts}
 use Rattle.files.specs.File.{fileOf, guessed}
 use Rattle.files.specs.Calls.{readFile}
 use Rattle.files.proofs.RoundTrip.{Small, Fits, accepted-file, all-values, written-reads}

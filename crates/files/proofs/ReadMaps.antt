@@ -16,7 +16,7 @@ use Rattle.maps.specs.Plain.{Plain, freshPlain}
 use Rattle.maps.specs.Record.{linesOf, recordOf, plain, good}
 use Rattle.maps.specs.Opened.{withTable, Opens}
 use Rattle.maps.specs.Calls.{changed}
-use Rattle.maps.proofs.Good.{Holds, replays-short, record-good, fresh-holds}
+use Rattle.maps.proofs.GoodRecords.{Holds, replays-short, record-good, fresh-holds}
 use Rattle.maps.proofs.Changing.{GoodMap, opened-map}
 use Rattle.files.specs.File.{guessed}
 use Rattle.files.specs.Calls.{readFile}

@@ -21,7 +21,7 @@ use Rattle.maps.specs.Plain.{Plain, freshPlain, blends}
 use Rattle.maps.specs.Values.{paired}
 use Rattle.maps.specs.Record.{linesOf, noSplit, recordOf, plain, good}
 use Rattle.maps.specs.Calls.{changed}
-use Rattle.maps.proofs.Good.{plain-held}
+use Rattle.maps.proofs.GoodRecords.{plain-held}
 use Rattle.files.specs.File.{splitEntry, valueEntry, tail, fileOf, wordAt, splitCount, splitAt, guessed}
 use Rattle.files.specs.Calls.{readFile}
 use Rattle.files.proofs.Taking.{one-more, no-more}

@@ -15,7 +15,7 @@ use Rattle.axis.proofs.Tests.{either, and-both, false-of}
 use Rattle.maps.specs.declared.Map.{Map}
 use Rattle.maps.specs.declared.Changed.{Changed}
 use Rattle.maps.specs.Record.{plain}
-use Rattle.maps.proofs.InHand.{table-blends, table-count}
+use Rattle.maps.proofs.OneSplitMore.{table-blends, table-count}
 use Rattle.maps.proofs.Changing.{GoodMap, live-table}
 use Rattle.files.specs.declared.Written.{Written}
 use Rattle.files.specs.File.{fileOf, put}

@@ -4,6 +4,7 @@ use mathlib.Core.Bool.{cond, _&&_}
 use mathlib.Core.List.{List, [], _∷_, _++_}
 use lib.Dec.{leb, eqb}
 use lib.ListN.{length, getD, take, drop}
+use Rattle.axis.specs.Limits.{mostSplits, mostBlends}
 use Rattle.mesh.specs.declared.Split.{Split}
 use Rattle.axis.specs.Range.{joined, each}
 use Rattle.mesh.specs.Lines.{layout}
@@ -18,6 +19,22 @@ word n = n % 256 ∷ n / 256 % 256 ∷ []
 -- "Each file record is a 16-bit length (bytes after it), a 16-bit kind, and its payload of 16-bit numbers"
 abbrev pub entry : ℕ → List ℕ → List ℕ
 entry kind payload = word (2 + 2 * length payload) ++ word kind ++ joined word payload
+
+-- the bytes of a record of each kind, its length and kind among them; of the head and the tail together; and of the largest file, 10,972
+abbrev pub headSize : ℕ
+headSize = 8
+
+abbrev pub splitSize : ℕ
+splitSize = 12
+
+abbrev pub valueSize : ℕ
+valueSize = 10
+
+abbrev pub endsSize : ℕ
+endsSize = headSize + 4
+
+abbrev pub largestFile : ℕ
+largestFile = endsSize + splitSize * mostSplits + valueSize * mostBlends
 
 -- "Kind 1: W, H. Kind 2: direction, position, from, to. Kind 3: m, n, value. Kind 4: no payload."
 abbrev pub head : ℕ → ℕ → List ℕ
@@ -52,8 +69,8 @@ wordAt bytes at = getD bytes at 0 + 256 * getD bytes (at + 1) 0
 unfoldable pub splitCount : List ℕ → ℕ → ℕ → ℕ
 splitCount bytes at zero = 0
 splitCount bytes at (suc most) =
-    let more = suc (splitCount bytes (at + 12) most) in
-    cond (leb (at + 12) (length bytes) && eqb (wordAt bytes (at + 2)) 2) more 0
+    let more = suc (splitCount bytes (at + splitSize) most) in
+    cond (leb (at + splitSize) (length bytes) && eqb (wordAt bytes (at + 2)) 2) more 0
 
 abbrev pub splitAt : List ℕ → ℕ → Split
 splitAt bytes at =
@@ -67,8 +84,8 @@ splitAt bytes at =
 -- the map that the numbers at a file's places make, if the bytes are a file: its sides, its splits, and the values that follow
 unfoldable pub guessed : List ℕ → Plain
 guessed bytes =
-    let s = splitCount bytes 8 60 in
+    let s = splitCount bytes headSize mostSplits in
     record {
-      lines = layout (wordAt bytes 4) (wordAt bytes 6) (each 0 s (λ i. splitAt bytes (8 + 12 * i) ∷ []));
-      values = each 0 ((length bytes - 12 - 12 * s) / 10) (λ i. wordAt bytes (16 + 12 * s + 10 * i) ∷ []);
+      lines = layout (wordAt bytes 4) (wordAt bytes 6) (each 0 s (λ i. splitAt bytes (headSize + splitSize * i) ∷ []));
+      values = each 0 ((length bytes - endsSize - splitSize * s) / valueSize) (λ i. wordAt bytes (headSize + splitSize * s + valueSize * i + 8) ∷ []);
     }

@@ -3,6 +3,7 @@ use Prim.Native.Nat.{ℕ, _+_, _≤_}
 use mathlib.Core.Path.{_≡_}
 use mathlib.Core.List.{List, [], _∷_, _++_}
 use lib.ListN.{length, take}
+use Rattle.axis.specs.Limits.{mostBlends}
 use Rattle.mesh.specs.declared.Table.{Table}
 use Rattle.axis.specs.Range.{joined}
 use Rattle.mesh.specs.Sound.{blendsOf}
@@ -18,7 +19,7 @@ valueNumbers m n value = entry 3 (m ∷ n ∷ value ∷ [])
 
 -- a table holds as many blends as it says, and their knots rise
 pub record Listed (t : Table) : Type 0 where
-  pub few : t .count ≤ 1024
+  pub few : t .count ≤ mostBlends
   pub rise : AllProper (blendsOf t)
 
 -- a table's blends with the values that an array begins with

@@ -50,9 +50,13 @@ refusal = 114 ∷ 101 ∷ 102 ∷ 117 ∷ 115 ∷ 101 ∷ 100 ∷ 32 ∷ 49 ∷ 
 unfoldable pub listing : List ℕ → List ℕ
 listing bytes = cond (eqb (readFile bytes .number) 0) (tableText (plain (readFile bytes .map))) refusal
 
--- A text into a lent buffer: 12 where it is shorter than 65,536 bytes, which no text reaches; else the text, and the bytes after it stay.
+-- the bytes of a buffer for the text, which no text reaches
+abbrev pub textRoom : ℕ
+textRoom = 65536
+
+-- A text into a lent buffer: 12 where it is shorter than that; else the text, and the bytes after it stay.
 unfoldable pub textWritten : List ℕ → List ℕ → Written
-textWritten text out = let n = shortOf 65536 out in record { number = n; length = ifRefused n 0 (length text) }
+textWritten text out = let n = shortOf textRoom out in record { number = n; length = ifRefused n 0 (length text) }
 
 unfoldable pub textAfter : List ℕ → List ℕ → List ℕ
-textAfter text out = answered (shortOf 65536 out) text out
+textAfter text out = answered (shortOf textRoom out) text out

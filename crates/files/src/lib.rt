@@ -12,12 +12,24 @@ use maps::Changed;
 use maps::Map;
 use maps::opened::Opened;
 use maps::opened::open;
+use mesh::Table;
 ghost use mathlib.Core.Path.{_≡_};
 ghost use Rattle.maps.specs.Plain.{freshPlain};
 ghost use Rattle.maps.specs.Record.{recordOf};
 ghost use Rattle.maps.specs.Calls.{changed};
 ghost use Rattle.maps.specs.Opened.{withTable, Opens};
 ghost use Rattle.files.specs.Calls.{written, after, readFile};
+
+// The bytes of a record of each kind, its length and kind among them; of the head and the tail together; and of the largest file.
+pub(crate) const HEAD: usize = 8;
+
+pub(crate) const SPLIT: usize = 12;
+
+pub(crate) const VALUE: usize = 10;
+
+pub(crate) const ENDS: usize = HEAD + 4;
+
+pub const LARGEST_FILE: usize = ENDS + SPLIT * Map::MOST_SPLITS + VALUE * Table::MOST_BLENDS;
 
 // A number, and how many bytes were written.
 pub struct Written {
@@ -46,7 +58,7 @@ pub fn write_opened(o: Opened, buffer: &mut [u8]) -> Written
 {
     let map = o.map;
     let table = o.table;
-    let length = 12 + 12 * map.lines.count + 10 * table.count;
+    let length = ENDS + SPLIT * map.lines.count + VALUE * table.count;
     if buffer.len() < length {
         return Written {
             number: 12,
@@ -88,16 +100,16 @@ pub fn read_opened(bytes: &[u8]) -> Opened
     ensures { λ r. ⌜ r ≡ withTable (readFile (now (bytes .entry))) ⌝ }
 {
     let length = bytes.len();
-    if length < 12 {
+    if length < ENDS {
         return refused();
     }
     let count = count_splits(bytes);
-    let used = 12 + 12 * count;
+    let used = ENDS + SPLIT * count;
     if length < used {
         return refused();
     }
-    let places = (length - used) / 10;
-    if 1024 < places {
+    let places = (length - used) / VALUE;
+    if Table::MOST_BLENDS < places {
         return refused();
     }
     let map = taken(bytes, count, places);
@@ -105,7 +117,7 @@ pub fn read_opened(bytes: &[u8]) -> Opened
     if opened.number != 0 {
         return refused();
     }
-    let mut buffer = [0u8; 10972];
+    let mut buffer = [0u8; LARGEST_FILE];
     let file = write_opened(opened, &mut buffer);
     if file.number != 0 {
         return refused();

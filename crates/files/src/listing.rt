@@ -15,7 +15,10 @@ ghost use Rattle.maps.specs.Record.{plain};
 ghost use Rattle.maps.specs.Opened.{Opens};
 ghost use Rattle.files.specs.File.{put};
 ghost use Rattle.files.specs.Inner.{Listed, Puts, terms};
-ghost use Rattle.files.specs.Listing.{digits, coordinate, spaced, ended, knots, line, tableText, refusal, listing, textWritten, textAfter};
+ghost use Rattle.files.specs.Listing.{digits, coordinate, spaced, ended, knots, line, tableText, refusal, listing, textRoom, textWritten, textAfter};
+
+// The bytes of a buffer for the text, which no text reaches.
+pub const ROOM: usize = 65536;
 
 // The byte of a number's last digit.
 fn digit(n: usize) -> u8
@@ -105,8 +108,8 @@ fn wide(x: u16) -> usize
 }
 
 // Puts the number of a table's blends, then a line for each.
-fn put_table(out: &mut [u8], table: Table, values: [u16; 1024]) -> usize
-    requires { ⌜ Listed table × (65536 ≤ length (now out)) ⌝ }
+fn put_table(out: &mut [u8], table: Table, values: [u16; Table::MOST_BLENDS]) -> usize
+    requires { ⌜ Listed table × (textRoom ≤ length (now out)) ⌝ }
     ensures { λ r. ⌜ Puts (now (out .entry)) 0 (ended (table .count) ++ joined line (terms table values)) (now (out .exit)) r ⌝ }
 {
     let count = table.count;
@@ -144,7 +147,7 @@ pub fn list_opened(o: Opened, out: &mut [u8]) -> Written
     requires { ⌜ Opens o ⌝ }
     ensures { λ r. ⌜ (r ≡ textWritten (tableText (plain (o .map))) (now (out .entry))) × (now (out .exit) ≡ textAfter (tableText (plain (o .map))) (now (out .entry))) ⌝ }
 {
-    if out.len() < 65536 {
+    if out.len() < ROOM {
         return Written {
             number: 12,
             length: 0,
@@ -167,7 +170,7 @@ pub fn list(bytes: &[u8], out: &mut [u8]) -> Written
     if file.number == 0 {
         return list_opened(file, out);
     }
-    if out.len() < 65536 {
+    if out.len() < ROOM {
         return Written {
             number: 12,
             length: 0,

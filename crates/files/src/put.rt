@@ -1,4 +1,7 @@
 // A map's file, put into bytes entry by entry.
+use crate::HEAD;
+use crate::SPLIT;
+use crate::VALUE;
 use crate::bytes::put_words;
 use axis::knots;
 use maps::Map;
@@ -7,13 +10,14 @@ use mesh::Table;
 ghost use mathlib.Core.Path.{_≡_};
 ghost use Prim.Native.Nat.{_+_, _-_, _*_, _≤_};
 ghost use lib.ListN.{length, take};
+ghost use Rattle.axis.specs.Limits.{mostSplits, mostBlends};
 ghost use Rattle.axis.specs.Range.{joined};
-ghost use Rattle.files.specs.File.{put, splitEntry, valueEntry};
+ghost use Rattle.files.specs.File.{headSize, splitSize, valueSize, endsSize, put, splitEntry, valueEntry};
 ghost use Rattle.files.specs.Inner.{valueNumbers, Listed, terms, filed};
 
 // Puts a split's entry.
 fn put_split(bytes: &mut [u8], at: usize, split: Split)
-    requires { ⌜ at + 12 ≤ length (now bytes) ⌝ }
+    requires { ⌜ at + splitSize ≤ length (now bytes) ⌝ }
     ensures { λ _. ⌜ now (bytes .exit) ≡ put (now (bytes .entry)) at (splitEntry split) ⌝ }
 {
     let words = [10, 2, split.direction, split.position, split.from, split.to];
@@ -22,7 +26,7 @@ fn put_split(bytes: &mut [u8], at: usize, split: Split)
 
 // Puts the entry of a value at an anchor.
 fn put_value(bytes: &mut [u8], at: usize, m: u8, n: u8, value: usize)
-    requires { ⌜ at + 10 ≤ length (now bytes) ⌝ }
+    requires { ⌜ at + valueSize ≤ length (now bytes) ⌝ }
     ensures { λ _. ⌜ now (bytes .exit) ≡ put (now (bytes .entry)) at (valueNumbers m n value) ⌝ }
 {
     let words = [8, 3, knots::wide(m), knots::wide(n), value];
@@ -30,14 +34,14 @@ fn put_value(bytes: &mut [u8], at: usize, m: u8, n: u8, value: usize)
 }
 
 // Puts the entries of the first `count` splits, after the head.
-pub(crate) fn put_splits(bytes: &mut [u8], splits: [Split; 60], count: usize)
-    requires { ⌜ (count ≤ 60) × (8 + 12 * count ≤ length (now bytes)) ⌝ }
-    ensures { λ _. ⌜ now (bytes .exit) ≡ put (now (bytes .entry)) 8 (joined splitEntry (take count splits)) ⌝ }
+pub(crate) fn put_splits(bytes: &mut [u8], splits: [Split; Map::MOST_SPLITS], count: usize)
+    requires { ⌜ (count ≤ mostSplits) × (headSize + splitSize * count ≤ length (now bytes)) ⌝ }
+    ensures { λ _. ⌜ now (bytes .exit) ≡ put (now (bytes .entry)) headSize (joined splitEntry (take count splits)) ⌝ }
 {
     let mut i = 0;
     while i < count {
         let split = splits[i];
-        put_split(bytes, 8 + 12 * i, split);
+        put_split(bytes, HEAD + SPLIT * i, split);
         i += 1;
     }
 }
@@ -49,8 +53,8 @@ fn wide(x: u16) -> usize
 }
 
 // Puts the entries of a table's values, from a byte place on.
-fn put_values(bytes: &mut [u8], at: usize, table: Table, values: [u16; 1024])
-    requires { ⌜ Listed table × (at + 10 * table .count ≤ length (now bytes)) ⌝ }
+fn put_values(bytes: &mut [u8], at: usize, table: Table, values: [u16; Table::MOST_BLENDS])
+    requires { ⌜ Listed table × (at + valueSize * table .count ≤ length (now bytes)) ⌝ }
     ensures { λ _. ⌜ now (bytes .exit) ≡ put (now (bytes .entry)) at (joined valueEntry (terms table values)) ⌝ }
 {
     let count = table.count;
@@ -60,7 +64,7 @@ fn put_values(bytes: &mut [u8], at: usize, table: Table, values: [u16; 1024])
         let value = wide(values[i]);
         put_value(
             bytes,
-            at + 10 * i,
+            at + VALUE * i,
             blend.across.m - 1,
             blend.up.m - 1,
             value,
@@ -71,7 +75,7 @@ fn put_values(bytes: &mut [u8], at: usize, table: Table, values: [u16; 1024])
 
 // Puts the whole file of a map whose table is in hand.
 pub(crate) fn put_file(bytes: &mut [u8], map: Map, table: Table)
-    requires { ⌜ Listed table × (map .lines .count ≤ 60) × (12 + 12 * map .lines .count + 10 * table .count ≤ length (now bytes)) ⌝ }
+    requires { ⌜ Listed table × (map .lines .count ≤ mostSplits) × (endsSize + splitSize * map .lines .count + valueSize * table .count ≤ length (now bytes)) ⌝ }
     ensures { λ _. ⌜ now (bytes .exit) ≡ put (now (bytes .entry)) 0 (filed map table) ⌝ }
 {
     let lines = map.lines;
@@ -80,10 +84,10 @@ pub(crate) fn put_file(bytes: &mut [u8], map: Map, table: Table)
     let splits = lines.splits;
     let count = lines.count;
     put_splits(bytes, splits, count);
-    let at = 8 + 12 * count;
+    let at = HEAD + SPLIT * count;
     let values = map.values;
     put_values(bytes, at, table, values);
-    let end = at + 10 * table.count;
+    let end = at + VALUE * table.count;
     let last = [2, 4];
     put_words(bytes, end, &last);
 }

@@ -26,7 +26,7 @@ use Rattle.maps.specs.declared.values.Four.{Four}
 use Rattle.maps.specs.declared.values.Sum.{Sum}
 use Rattle.maps.specs.Values.{paired, rounded, weightAt}
 use Rattle.maps.specs.Inner.{entriesOver, entries, portion, exact, SumOf}
-use Rattle.maps.proofs.Over.{weight-shares, weight-outside}
+use Rattle.maps.proofs.OverSquare.{weight-shares, weight-outside}
 
 -- a sum with one fraction more is exact, and stays small
 module _ (s : Sum) (p d : ℕ) where

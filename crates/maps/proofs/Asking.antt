@@ -17,8 +17,8 @@ use Rattle.maps.specs.Plain.{blends}
 use Rattle.maps.specs.Values.{readingAt}
 use Rattle.maps.specs.Record.{plain}
 use Rattle.maps.specs.Calls.{shape, noPlace, tablePlace, noReading, reading, noWeights, weightOver, weights}
-use Rattle.maps.proofs.Over.{four-at}
-use Rattle.maps.proofs.InHand.{hand-proper}
+use Rattle.maps.proofs.OverSquare.{four-at}
+use Rattle.maps.proofs.OneSplitMore.{table-proper}
 use Rattle.maps.proofs.Changing.{GoodMap, passed, few, live-blends, live-count, live-values, live-blend, live-value}
 
 module _ {m : Map} {t : Table} (g : GoodMap m t) where
@@ -57,7 +57,7 @@ module _ {m : Map} {t : Table} (g : GoodMap m t) where
           let x = leb-true u _ (b .0) in
           let y = leb-true v _ (b .1) in (
             few g,
-            hand-proper (g .hand),
+            table-proper (g .has-table),
             rw (live-blends g) (four-at (m .lines .w) (m .lines .h) (blends (plain m)) (f .is-sound) u v (f .across .0) (f .up .0) x y),
             f .across .0,
             f .across .1,

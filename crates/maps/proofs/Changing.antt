@@ -32,14 +32,14 @@ use Rattle.maps.specs.Values.{placeOf, carried, drawn}
 use Rattle.maps.specs.Record.{noSplit, linesOf, recordOf, plain, good}
 use Rattle.maps.specs.Calls.{changed, drawnFirst, setPlain, setValue, exactSplit, lengthenedSplit}
 use Rattle.maps.specs.Opened.{tableOf, withTable, opened, IsTable, Opens}
-use Rattle.maps.specs.Inner.{withSplit, InHand, InTable, refusedStep, drawnStep, exactStep, found, lengthenedStep, carriedArray, Drawable, drawnBy}
+use Rattle.maps.specs.Inner.{withSplit, HasTable, InTable, refusedStep, drawnStep, exactStep, found, lengthenedStep, carriedArray, Drawable, drawnBy}
 use Rattle.maps.proofs.Map.{the-type}
 use Rattle.maps.proofs.opened.Opened as opened
 use Rattle.maps.proofs.Readings.{place-found}
 use Rattle.maps.proofs.Opening.{good-table}
-use Rattle.maps.proofs.Good.{Holds, record-good, GoodFacts, good-facts, set-holds, drawn-holds}
-use Rattle.maps.proofs.InHand.{hand-few, hand-length, hand-count, hand-blends, table-count, table-blends, exact-says}
-use Rattle.maps.proofs.Longest.{chosen-exact}
+use Rattle.maps.proofs.GoodRecords.{Holds, record-good, GoodFacts, good-facts, set-holds, drawn-holds}
+use Rattle.maps.proofs.OneSplitMore.{lives-few, splits-length, table-few, table-lives, table-count, table-blends, exact-says}
+use Rattle.maps.proofs.ChosenLine.{chosen-exact}
 
 -- a list padded to a length: with one entry more, and with one of its entries set
 module _ {A : Type 0} (xs : List A) (n : ℕ) (d x : A) where
@@ -77,12 +77,12 @@ full m vs p = (simp length-map at (p .1 .1 .0 .1 .1 .1 .1 .1 .0 .1 .0 .1), simp 
 pub record GoodMap (m : Map) (t : Table) : Type 0 where
   pub is-good : good m ≡ true
   pub facts : GoodFacts m
-  pub hand : InHand (m .lines) t
+  pub has-table : HasTable (m .lines) t
 
 pub opened-map : {m : Map} {t : Table} → IsTable m t → length (m .lines .splits) ≡ 60 → length (m .values) ≡ 1024 → GoodMap m t
 opened-map {m} {t} o places room =
     let f = good-facts m places room (o .is-good) in
-    record { is-good = o .is-good; facts = f; hand = rw (o .is-table ∙ good-table m (o .is-good)) (f .hand) }
+    record { is-good = o .is-good; facts = f; has-table = rw (o .is-table ∙ good-table m (o .is-good)) (f .has-table) }
 
 pub good-map : {m : Map} {t : Table} → IsTable m t → (vs : List Val) → shadow (row the-type .own m vs) → GoodMap m t
 good-map {m} o vs p = opened-map o (full m vs p .0) (full m vs p .1)
@@ -124,7 +124,7 @@ module _ {m : Map} {t : Table} (g : GoodMap m t) where
   -- its table and values are those of what it holds
   pub live-table : t ≡ table (blends (plain m))
   unfolding plain
-  live-table = g .hand .is-table
+  live-table = g .has-table .is-table
 
   pub in-table : InTable (m .lines .w) (m .lines .h) t (m .values)
   unfolding plain
@@ -156,7 +156,7 @@ module _ {m : Map} {t : Table} (g : GoodMap m t) where
   passed = ap not (g .is-good)
 
   pub few : t .count ≤ 1024
-  few = hand-count (g .hand)
+  few = table-few (g .has-table)
 
   -- the blend and the value at a table place
   module _ (i : ℕ) (lt : i < t .count) where
@@ -232,7 +232,7 @@ module _ {m : Map} {t : Table} (g : GoodMap m t) (r : Step) where
 
     pub step-room : m .lines .count < 60
     unfolding plain
-    step-room = rw (← hand-length (g .hand)) (exact-says (plain m .lines) (r .split) accepted .0 .room)
+    step-room = rw (← splits-length (g .has-table)) (exact-says (plain m .lines) (r .split) accepted .0 .room)
 
     pub new-few : r .table .count ≤ 1024
     unfolding drawn plain
@@ -240,7 +240,7 @@ module _ {m : Map} {t : Table} (g : GoodMap m t) (r : Step) where
         let f = g .facts in
         rw (is-new, table-count)
         (at-most (m .lines .w) (m .lines .h) (f .across .0) (f .up .0) (f .up .1) (plain m .lines .splits ++ r .split ∷ [])
-        (omega (arith, length-append (plain m .lines .splits) (r .split ∷ []), hand-length (g .hand), step-room)) (exact-says (plain m .lines) (r .split) accepted .1))
+        (omega (arith, length-append (plain m .lines .splits) (r .split ∷ []), splits-length (g .has-table), step-room)) (exact-says (plain m .lines) (r .split) accepted .1))
 
     pub new-proper : all (proper (m .lines .w) (m .lines .h)) (blendsOf (r .table)) ≡ true
     unfolding drawn plain

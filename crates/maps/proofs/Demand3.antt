@@ -20,8 +20,8 @@ use Rattle.maps.specs.Record.{recordOf, plain}
 use Rattle.maps.specs.Calls.{freshMap}
 use Rattle.maps.specs.Histories.{Call, number, Outcome, outcome, firstDrawn, byLibrary, byMachine, ending}
 use Rattle.maps.specs.Demand.{leftBy, Tabled, Gentle, IsSplit, exact-split, lengthened-split, linesOf, meshBy, DemandFrom, Demand3}
-use Rattle.maps.proofs.Good.{record-good}
-use Rattle.maps.proofs.Longest.{chosen-exact}
+use Rattle.maps.proofs.GoodRecords.{record-good}
+use Rattle.maps.proofs.ChosenLine.{chosen-exact}
 use Rattle.maps.proofs.Reached.{Reached, fresh-reached, start-reached, ending-leads}
 use Rattle.maps.proofs.Following.{step-follows, outcomes-follow, ending-follows}
 use Rattle.maps.proofs.Tabled.{tabled-once, holds-tabled}

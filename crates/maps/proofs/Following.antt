@@ -19,7 +19,7 @@ use Rattle.maps.specs.Sameness.{sameness}
 use Rattle.maps.specs.Histories.{Call, set, exact, lengthened, place, reads, weighs, sameAs, Answer, number, placed, read, weighed, told, Outcome, outcome, byLibrary, firstDrawn, byMachine, outcomes, ending}
 use Rattle.maps.specs.Demand.{leftBy, recorded}
 use Rattle.axis.proofs.Tests.{either}
-use Rattle.maps.proofs.Good.{record-good}
+use Rattle.maps.proofs.GoodRecords.{record-good}
 use Rattle.maps.proofs.Reached.{Reached, step-leads}
 
 -- an outcome made of a call's number and map, of one of two by a test

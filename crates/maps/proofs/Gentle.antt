@@ -22,8 +22,8 @@ use Rattle.maps.specs.Record.{recordOf}
 use Rattle.maps.specs.Calls.{tablePlace, reading}
 use Rattle.maps.specs.Demand.{Gentle}
 use Rattle.axis.proofs.Members.{entry}
-use Rattle.maps.proofs.InHand.{exact-says}
-use Rattle.maps.proofs.Good.{Holds, record-good}
+use Rattle.maps.proofs.OneSplitMore.{exact-says}
+use Rattle.maps.proofs.GoodRecords.{Holds, record-good}
 use Rattle.maps.proofs.Readings.{blends-proper, drawn-reading, drawn-anchor}
 use Rattle.maps.proofs.Reached.{Reached, drawn-leads}
 use Rattle.maps.proofs.Tabled.{place-listed, place-none}

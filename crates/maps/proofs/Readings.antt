@@ -30,7 +30,7 @@ use Rattle.maps.specs.Plain.{Plain, blends}
 use Rattle.maps.specs.Values.{readingAt, placeOf, carried, drawn}
 use Rattle.mesh.specs.Splits.{withLine, liveOf}
 use Rattle.maps.specs.Calls.{setPlain}
-use Rattle.maps.proofs.Exact.{paired-single, paired-most, paired-map, means-between, scale, scale-positive, part, exact, reading-rounds, part-own, part-other, parts-one, exact-reproduced}
+use Rattle.maps.proofs.ExactSums.{paired-single, paired-most, paired-map, means-between, scale, scale-positive, part, exact, reading-rounds, part-own, part-other, parts-one, exact-reproduced}
 
 -- the place of an anchor in a table, blend by blend
 module _ (B : Blend) (bs : List Blend) (m n : ℕ) where

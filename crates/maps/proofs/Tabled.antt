@@ -19,7 +19,7 @@ use Rattle.maps.specs.Plain.{Plain, blends}
 use Rattle.maps.specs.Record.{recordOf}
 use Rattle.maps.specs.Calls.{shape, noShape, tablePlace}
 use Rattle.maps.specs.Demand.{Tabled}
-use Rattle.maps.proofs.Good.{Holds, record-good}
+use Rattle.maps.proofs.GoodRecords.{Holds, record-good}
 
 -- a shape shows the blend
 knot-shown : (a b : ℕ) → predℤ (pos a) ≡ predℤ (pos b) → a ≡ b

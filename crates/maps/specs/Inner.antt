@@ -32,7 +32,7 @@ abbrev pub withSplit : Lines → Split → Lines
 withSplit L s = record { w = L .w; h = L .h; count = L .count + 1; splits = set (L .splits) (L .count) s }
 
 -- a table in hand is that of the live blends of sound lines
-pub record InHand (L : Lines) (t : Table) : Type 0 where
+pub record HasTable (L : Lines) (t : Table) : Type 0 where
   pub allowed? : allowed L ≡ true
   pub places : length (L .splits) ≡ mostSplits
   pub is-sound : sound (L .w) (L .h) (liveOf (layoutOf L)) ≡ true

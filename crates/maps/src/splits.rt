@@ -15,7 +15,7 @@ ghost use Prim.Native.Nat.{_<_};
 ghost use Rattle.axis.specs.Limits.{mostSplits};
 ghost use Rattle.mesh.specs.Lines.{layoutOf, meshOf, allowed, inRange, ended, shares};
 ghost use Rattle.mesh.specs.Splits.{given, chosen};
-ghost use Rattle.maps.specs.Inner.{withSplit, InHand, judged, exactStep, found, lengthenedStep};
+ghost use Rattle.maps.specs.Inner.{withSplit, HasTable, judged, exactStep, found, lengthenedStep};
 
 // A split's number; the line that is drawn, and the table of blends after it. On a refusal the split and the table as they came.
 pub struct Step {
@@ -38,7 +38,7 @@ fn with_split(lines: Lines, s: Split) -> Lines
 
 // Refusals 3 to 7, in their order, on the split as given; 0 where none applies.
 fn given_number(lines: Lines, live: Table, s: Split) -> usize
-    requires { ⌜ InHand lines live ⌝ }
+    requires { ⌜ HasTable lines live ⌝ }
     ensures { λ r. ⌜ r ≡ given (layoutOf lines) s ⌝ }
 {
     if !fits_sides(lines.w, lines.h, s) {
@@ -61,7 +61,7 @@ fn given_number(lines: Lines, live: Table, s: Split) -> usize
 
 // One split more on lines whose live blends are in hand; 8 where it leaves no sound map.
 fn sound_step(lines: Lines, live: Table, s: Split) -> Step
-    requires { ⌜ InHand lines live × (inRange (lines .w) (lines .h) s ≡ true) × (lines .count < mostSplits) ⌝ }
+    requires { ⌜ HasTable lines live × (inRange (lines .w) (lines .h) s ≡ true) × (lines .count < mostSplits) ⌝ }
     ensures { λ r. ⌜ r ≡ judged lines live s ⌝ }
 {
     let next = refine(with_split(lines, s), live);
@@ -84,7 +84,7 @@ fn sound_step(lines: Lines, live: Table, s: Split) -> Step
 
 // An exact split on lines whose live blends are in hand.
 pub(crate) fn exact_step(lines: Lines, live: Table, s: Split) -> Step
-    requires { ⌜ InHand lines live ⌝ }
+    requires { ⌜ HasTable lines live ⌝ }
     ensures { λ r. ⌜ r ≡ exactStep lines live s ⌝ }
 {
     let number = given_number(lines, live, s);
@@ -112,7 +112,7 @@ fn may_stand(lines: Lines, c: Split) -> bool
 // The line that a lengthened split takes: nested loops over length and start, left with the first sound line.
 // A line that would reach past the side is out of range, and may not stand.
 fn longer_line(lines: Lines, live: Table, s: Split) -> Step
-    requires { ⌜ InHand lines live × (given (layoutOf lines) s ≡ 0) ⌝ }
+    requires { ⌜ HasTable lines live × (given (layoutOf lines) s ≡ 0) ⌝ }
     ensures { λ r. ⌜ r ≡ found lines live s (chosen (layoutOf lines) s) ⌝ }
 {
     let mut run = lines.w;
@@ -153,7 +153,7 @@ fn longer_line(lines: Lines, live: Table, s: Split) -> Step
 
 // A lengthened split on lines whose live blends are in hand.
 pub(crate) fn lengthened_step(lines: Lines, live: Table, s: Split) -> Step
-    requires { ⌜ InHand lines live ⌝ }
+    requires { ⌜ HasTable lines live ⌝ }
     ensures { λ r. ⌜ r ≡ lengthenedStep lines live s ⌝ }
 {
     let number = given_number(lines, live, s);

@@ -12,7 +12,7 @@ use Rattle.maps.specs.declared.opened.Opened.{Opened}
 use Rattle.maps.specs.Record.{good}
 use Rattle.maps.specs.Calls.{changed, freshMap}
 use Rattle.maps.specs.Opened.{withTable}
-use Rattle.maps.proofs.Good.{record-good, fresh-holds}
+use Rattle.maps.proofs.GoodRecords.{record-good, fresh-holds}
 use Rattle.files.specs.Calls.{readFile}
 use Rattle.pump.specs.Border.{newNumber, newBytes, newUsed, lent, changeNumber, changeBytes, changeUsed}
 

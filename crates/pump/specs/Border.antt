@@ -18,7 +18,7 @@ use Rattle.maps.specs.Calls.{freshMap, tablePlace, reading, weights}
 use Rattle.maps.specs.Sameness.{sameness}
 use Rattle.files.specs.File.{word, fileOf}
 use Rattle.files.specs.Calls.{ifRefused, shortOf, answered, writeNumber, readFile, whole, payloadAt}
-use Rattle.files.specs.Listing.{tableText}
+use Rattle.files.specs.Listing.{tableText, textRoom}
 
 -- the first refusal of three checks in their order; 0 where none applies
 abbrev pub firstOf : ℕ → ℕ → ℕ → ℕ
@@ -121,7 +121,7 @@ payloadCount bytes at = length (payloadAt bytes at)
 
 -- pump_table: 11, then 12 where the buffer is shorter than 65,536 bytes, which no text reaches.
 unfoldable pub tableNumber : List ℕ → List ℕ → ℕ
-tableNumber file out = firstOf (readFile file .number) 0 (shortOf 65536 out)
+tableNumber file out = firstOf (readFile file .number) 0 (shortOf textRoom out)
 
 unfoldable pub tableAfter : List ℕ → List ℕ → List ℕ
 tableAfter file out = answered (tableNumber file out) (tableText (plain (readFile file .map))) out

@@ -3,7 +3,7 @@ use borrow.Author.Needs.{needs}
 use native.Mathlib.Omega.{arith}
 use mathlib.Core.Path.{_≡_, sym, ap, _∙_}
 use Rattle.maps.proofs.Changing.{same-map, not-good, is-opened}
-use Rattle.maps.proofs.Agreeing.{first-bad, second-bad}
+use Rattle.maps.proofs.SameMaps.{first-bad, second-bad}
 use Rattle.maps.proofs.Map.same.Statement.{statement}
 use Rattle.maps.proofs.Map.same.Tie as tie
 

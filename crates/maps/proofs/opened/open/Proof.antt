@@ -13,7 +13,7 @@ use Rattle.mesh.specs.Splits.{liveOf}
 use Rattle.maps.specs.declared.opened.Opened.{Opened}
 use Rattle.maps.specs.Record.{isZero}
 use Rattle.maps.specs.Opened.{opened}
-use Rattle.maps.proofs.InHand.{table-count}
+use Rattle.maps.proofs.OneSplitMore.{table-count}
 use Rattle.maps.proofs.Opening.{Passes, not-opened, is-opened, replay-says, replay-table}
 use Rattle.maps.proofs.opened.open.Statement.{statement}
 use Rattle.maps.proofs.opened.open.Tie as tie

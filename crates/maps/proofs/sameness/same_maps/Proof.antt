@@ -10,7 +10,7 @@ use Rattle.maps.specs.Plain.{blends}
 use Rattle.maps.specs.Record.{plain}
 use Rattle.maps.specs.Sameness.{samePlain}
 use Rattle.maps.proofs.Changing.{GoodMap, good-map, few, live-blends, live-values}
-use Rattle.maps.proofs.Agreeing.{same-count}
+use Rattle.maps.proofs.SameMaps.{same-count}
 use Rattle.maps.proofs.sameness.same_maps.Statement.{statement}
 use Rattle.maps.proofs.sameness.same_maps.Tie as tie
 

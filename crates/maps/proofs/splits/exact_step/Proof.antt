@@ -12,7 +12,7 @@ use Rattle.mesh.specs.declared.Split.{Split}
 use Rattle.axis.proofs.Tests.{either, cond-true, cond-false}
 use Rattle.mesh.specs.Splits.{given, exactNumber, soundWith}
 use Rattle.maps.specs.Inner.{refusedStep, judged, exactStep}
-use Rattle.maps.proofs.InHand.{given-says, hand-length}
+use Rattle.maps.proofs.OneSplitMore.{given-says, splits-length}
 use Rattle.maps.proofs.splits.exact_step.Statement.{statement}
 use Rattle.maps.proofs.splits.exact_step.Tie as tie
 
@@ -38,7 +38,7 @@ sound-step-requires : tie.Need-sound-step-requires
 sound-step-requires c κs =
     let hand = c .before .before .pre in
     let g = given-says _ _ (passed c) in
-    (hand, g .fits, omega (arith, hand-length hand, g .room))
+    (hand, g .fits, omega (arith, splits-length hand, g .room))
 
 returns-2 : tie.Need-returns-2
 returns-2 c = c .sound-step .ensures ∙ step-judged _ _ _ (passed (c .before))

@@ -11,7 +11,7 @@ use Rattle.mesh.specs.Blends.{isCut}
 use Rattle.mesh.specs.Lines.{splitsOf, layoutOf, inRange, shares, ended, meshOf}
 use Rattle.mesh.specs.Sound.{someCut}
 use Rattle.mesh.specs.Splits.{liveOf, given, withLine}
-use Rattle.maps.proofs.InHand.{hand-length, hand-cut}
+use Rattle.maps.proofs.OneSplitMore.{splits-length, more-cuts}
 use Rattle.maps.proofs.splits.given_number.Statement.{statement}
 use Rattle.maps.proofs.splits.given_number.Tie as tie
 
@@ -27,10 +27,10 @@ returns-2 : tie.Need-returns-2
 unfolding given
 returns-2 c =
     let full = le-leb 60 _ (c .if2 .taken) in
-    rw (fits (c .before .before), hand-length (c .before .before .before .before .pre), full)
+    rw (fits (c .before .before), splits-length (c .before .before .before .before .pre), full)
 
 few : (c : tie.Else2) → leb 60 (length (splitsOf (c .before .before .before .before .args .lines))) ≡ false
-few c = rw (hand-length (c .before .before .before .before .pre)) (lt-leb _ _ (c .if2 .left))
+few c = rw (splits-length (c .before .before .before .before .pre)) (lt-leb _ _ (c .if2 .left))
 
 shared : (c : tie.After-shares-stretch) →
     let a = c .before .before .before .before .before .args in c .shares-stretch .result ≡ shares (meshOf (layoutOf (a .lines))) (a .s)
@@ -75,7 +75,7 @@ last c =
     let a = start .args in
     let cut : c .some-cut .result ≡ any (isCut (meshOf (withLine (layoutOf (a .lines)) (a .s)))) (liveOf (layoutOf (a .lines))) =
     c .some-cut .ensures ∙ ap (λ (L : Lines). someCut L (a .live)) (c .before .with-split .ensures) ∙
-    hand-cut (start .pre) (a .s) (fits first) (second .if2 .left) in
+    more-cuts (start .pre) (a .s) (fits first) (second .if2 .left) in
     rw (fits first, few second, apart third, sym (reached (fourth .before)) ∙ not-false _ (fourth .if4 .left), sym cut)
 
 returns-5 : tie.Need-returns-5

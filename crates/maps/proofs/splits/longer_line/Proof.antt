@@ -7,8 +7,8 @@ use mathlib.Core.Logic.{⊎-elim}
 use mathlib.Core.Bool.{false}
 use Rattle.mesh.specs.Lines.{layoutOf}
 use Rattle.mesh.specs.Splits.{run, reaching, candidate}
-use Rattle.maps.proofs.InHand.{given-says}
-use Rattle.maps.proofs.Longer.{rows, ahead, Search, ends-in, search-starts, bounds, room, search-enters, search-passes, search-leaves, search-fails, tried-falls, in-range, tried-unsound, tried-found}
+use Rattle.maps.proofs.OneSplitMore.{given-says}
+use Rattle.maps.proofs.Searching.{rows, ahead, Search, ends-in, search-starts, bounds, room, search-enters, search-passes, search-leaves, search-fails, tried-falls, in-range, tried-unsound, tried-found}
 use Rattle.maps.proofs.splits.longer_line.Statement.{statement}
 use Rattle.maps.proofs.splits.longer_line.Tie as tie
 
@@ -53,12 +53,12 @@ add-t13 : tie.Need-add-t13 Inv-loop μ-loop Inv-search μ-search
 add-t13 c = let b = bounds (c .before .before .before .loop .inv .1) in omega arith
 
 may-stand-requires : tie.Need-may-stand-requires Inv-loop μ-loop Inv-search μ-search
-may-stand-requires c κs = c .before .before .before .loop .inv .1 .hand .allowed?
+may-stand-requires c κs = c .before .before .before .loop .inv .1 .has-table .allowed?
 
 sound-step-requires : tie.Need-sound-step-requires Inv-loop μ-loop Inv-search μ-search
 sound-step-requires c κs =
     let at = c .before .before .before .before .before in
-    (at .loop .inv .1 .hand, in-range (at .loop .from) (at .loop .inv .1) (c .before .may-stand .ensures) (c .if4 .taken), room (at .loop .inv .1))
+    (at .loop .inv .1 .has-table, in-range (at .loop .from) (at .loop .inv .1) (c .before .may-stand .ensures) (c .if4 .taken), room (at .loop .inv .1))
 
 -- a line that may not stand, or leaves no sound map, is no candidate
 passed : (c : tie.Joined4 Inv-loop μ-loop Inv-search μ-search) →

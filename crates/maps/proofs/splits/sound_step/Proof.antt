@@ -9,7 +9,7 @@ use Rattle.axis.proofs.Tests.{cond-true, cond-false}
 use Rattle.mesh.specs.Lines.{layoutOf}
 use Rattle.mesh.specs.Splits.{soundWith}
 use Rattle.maps.specs.Inner.{refusedStep, drawnStep, judged}
-use Rattle.maps.proofs.InHand.{unfit-next, full-next, next-table}
+use Rattle.maps.proofs.OneSplitMore.{unfit-next, full-next, next-table}
 use Rattle.maps.proofs.splits.sound_step.Statement.{statement}
 use Rattle.maps.proofs.splits.sound_step.Tie as tie
 

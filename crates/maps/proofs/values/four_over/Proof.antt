@@ -12,7 +12,7 @@ use Rattle.axis.proofs.Tests.{either}
 use Rattle.mesh.specs.Sound.{blendsOf, none, overSquare}
 use Rattle.mesh.proofs.Cutting.{blends-turn, blends-end}
 use Rattle.maps.specs.Inner.{entriesOver}
-use Rattle.maps.proofs.Over.{Window, window-left, window-more, window-all, entries-length}
+use Rattle.maps.proofs.OverSquare.{Window, window-left, window-more, window-all, entries-length}
 use Rattle.maps.proofs.values.four_over.Statement.{statement}
 use Rattle.maps.proofs.values.four_over.Tie as tie
 

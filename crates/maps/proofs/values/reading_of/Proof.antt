@@ -10,7 +10,7 @@ use Rattle.axis.proofs.Gaps.{End}
 use Rattle.maps.specs.declared.values.Entry.{Entry}
 use Rattle.maps.specs.Values.{readingAt}
 use Rattle.maps.specs.Inner.{SumOf, portion}
-use Rattle.maps.proofs.Over.{Listed, all-listed}
+use Rattle.maps.proofs.OverSquare.{Listed, all-listed}
 use Rattle.maps.proofs.Adding.{table-over}
 use Rattle.maps.proofs.values.reading_of.Statement.{statement}
 use Rattle.maps.proofs.values.reading_of.Tie as tie

@@ -6,7 +6,7 @@ use Prim.Native.Nat.{_*_, _<_, _≤_}
 use Rattle.axis.specs.Gap.{gap, share}
 use Rattle.mesh.proofs.Places.{proper-facts}
 use Rattle.maps.specs.Values.{weightAt}
-use Rattle.maps.proofs.Over.{denominator-positive, denominator-most, numerator-most}
+use Rattle.maps.proofs.OverSquare.{denominator-positive, denominator-most, numerator-most}
 use Rattle.maps.proofs.values.weight_at.Statement.{statement}
 use Rattle.maps.proofs.values.weight_at.Tie as tie
 

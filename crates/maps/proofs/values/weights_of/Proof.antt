@@ -5,7 +5,7 @@ use mathlib.Core.List.{map}
 use Rattle.mesh.specs.Sound.{blendsOf}
 use Rattle.maps.specs.declared.values.Entry.{Entry}
 use Rattle.maps.specs.Calls.{weightOver}
-use Rattle.maps.proofs.Over.{Listed, all-listed, entries-only}
+use Rattle.maps.proofs.OverSquare.{Listed, all-listed, entries-only}
 use Rattle.maps.proofs.values.weights_of.Statement.{statement}
 use Rattle.maps.proofs.values.weights_of.Tie as tie
 

@@ -13,7 +13,7 @@ good-self : (c : tie.Start) → GoodMap (c .args .self .map) (c .args .self .tab
 good-self c = open-map (c .args .self) (c .pre) _ (c .good .0)
 
 exact-step-requires : tie.Need-exact-step-requires
-exact-step-requires c κs = good-self (c .before .before .before) .hand
+exact-step-requires c κs = good-self (c .before .before .before) .has-table
 
 after-step-requires : tie.Need-after-step-requires
 after-step-requires c κs =

@@ -29,17 +29,17 @@ use Rattle.mesh.proofs.AtMost.{at-most}
 use Rattle.mesh.proofs.SoundMaps.{live-proper}
 use Rattle.mesh.specs.Splits.{liveOf, withLine, soundWith, given, exactNumber}
 use Rattle.maps.specs.Record.{linesOf}
-use Rattle.maps.specs.Inner.{withSplit, InHand}
+use Rattle.maps.specs.Inner.{withSplit, HasTable}
 use Rattle.maps.proofs.Readings.{drawn-finer}
 
 -- the lines with one split more hold it after the others
 module _ (L : Lines) (room : L .count < 60) (places : length (L .splits) ≡ 60) (s : Split) where
-  pub hand-splits : splitsOf (withSplit L s) ≡ splitsOf L ++ s ∷ []
-  hand-splits =
+  pub more-splits : splitsOf (withSplit L s) ≡ splitsOf L ++ s ∷ []
+  more-splits =
       let lt : L .count < length (L .splits) = omega arith in rw (add-one, take-suc-set (L .splits) (L .count) s lt)
 
-  pub hand-mesh : meshOf (layoutOf (withSplit L s)) ≡ meshOf (withLine (layoutOf L) s)
-  hand-mesh = ap (mesh (L .w) (L .h)) hand-splits
+  pub more-mesh : meshOf (layoutOf (withSplit L s)) ≡ meshOf (withLine (layoutOf L) s)
+  more-mesh = ap (mesh (L .w) (L .h)) more-splits
 
   pub allowed-more : allowed L ≡ true → inRange (L .w) (L .h) s ≡ true → allowed (withSplit L s) ≡ true
   unfolding allowed
@@ -47,31 +47,31 @@ module _ (L : Lines) (room : L .count < 60) (places : length (L .splits) ≡ 60)
       let a = and-both (allowedSide (L .w) && allowedSide (L .h) && leb (L .count) 60) (all (inRange (L .w) (L .h)) (splitsOf L)) ok in
       let b = and-both (allowedSide (L .w) && allowedSide (L .h)) (leb (L .count) 60) (a .0) in
       and-of _ _ (and-of _ _ (b .0) (le-leb (L .count + 1) 60 (omega arith)))
-      (rw hand-splits (all-append (inRange (L .w) (L .h)) (splitsOf L) (s ∷ []) (a .1) (and-of _ true fits refl)))
+      (rw more-splits (all-append (inRange (L .w) (L .h)) (splitsOf L) (s ∷ []) (a .1) (and-of _ true fits refl)))
 
-module _ {L : Lines} {t : Table} (hand : InHand L t) where
-  pub hand-sides : Allowed L
-  hand-sides = allowed-says L (hand .allowed?)
+module _ {L : Lines} {t : Table} (hand : HasTable L t) where
+  pub table-sides : Allowed L
+  table-sides = allowed-says L (hand .allowed?)
 
-  pub hand-length : length (splitsOf L) ≡ L .count
-  hand-length = let a = hand-sides in length-take-le (L .count) (L .splits) (omega arith)
+  pub splits-length : length (splitsOf L) ≡ L .count
+  splits-length = let a = table-sides in length-take-le (L .count) (L .splits) (omega arith)
 
-  pub hand-few : length (liveOf (layoutOf L)) ≤ 1024
-  hand-few =
-      let a = hand-sides in
+  pub lives-few : length (liveOf (layoutOf L)) ≤ 1024
+  lives-few =
+      let a = table-sides in
       at-most (L .w) (L .h) (a .across .0) (a .up .0) (a .up .1) (splitsOf L)
-      (rw hand-length (a .held)) (hand .is-sound)
+      (rw splits-length (a .held)) (hand .is-sound)
 
-  pub hand-count : t .count ≤ 1024
-  hand-count = rw (hand .is-table, table-count) hand-few
+  pub table-few : t .count ≤ 1024
+  table-few = rw (hand .is-table, table-count) lives-few
 
-  pub hand-blends : blendsOf t ≡ liveOf (layoutOf L)
-  hand-blends = ap blendsOf (hand .is-table) ∙ table-blends (liveOf (layoutOf L))
+  pub table-lives : blendsOf t ≡ liveOf (layoutOf L)
+  table-lives = ap blendsOf (hand .is-table) ∙ table-blends (liveOf (layoutOf L))
 
-  pub hand-proper : all (proper (L .w) (L .h)) (blendsOf t) ≡ true
-  hand-proper =
-      let a = hand-sides in
-      rw hand-blends (all-of _ (liveOf (layoutOf L)) (live-proper (L .w) (L .h) (a .across .0) (a .up .0) (meshOf (layoutOf L))))
+  pub table-proper : all (proper (L .w) (L .h)) (blendsOf t) ≡ true
+  table-proper =
+      let a = table-sides in
+      rw table-lives (all-of _ (liveOf (layoutOf L)) (live-proper (L .w) (L .h) (a .across .0) (a .up .0) (meshOf (layoutOf L))))
 
 -- what it says that no refusal of 3 to 7 applies, and that an exact split is accepted
 pub record Given (P : Layout) (s : Split) : Type 0 where
@@ -112,51 +112,51 @@ exact-says P s e = let r = both-pass (given P s) (soundWith P s) e in (given-say
     both-pass (suc g) b e = absurd (omega (arith, rw (ne-eqb (suc g) 0 (omega arith)) at e))
 
 -- One split more on lines whose live blends are in hand:
-module _ {L : Lines} {t : Table} (hand : InHand L t) (s : Split) (fits : inRange (L .w) (L .h) s ≡ true) (room : L .count < 60) where
+module _ {L : Lines} {t : Table} (hand : HasTable L t) (s : Split) (fits : inRange (L .w) (L .h) s ≡ true) (room : L .count < 60) where
   ranged : Ranged (withSplit L s) t
   ranged =
       record {
         ok = allowed-more L room (hand .places) s (hand .allowed?) fits;
-        few = hand-count hand;
-        good = hand-proper hand;
+        few = table-few hand;
+        good = table-proper hand;
       }
 
   -- whether it cuts something,
-  pub hand-cut : someCut (withSplit L s) t ≡ any (isCut (meshOf (withLine (layoutOf L) s))) (liveOf (layoutOf L))
-  hand-cut = sym (is-cut ranged) ∙ rw (hand-mesh L room (hand .places) s, hand-blends hand)
+  pub more-cuts : someCut (withSplit L s) t ≡ any (isCut (meshOf (withLine (layoutOf L) s))) (liveOf (layoutOf L))
+  more-cuts = sym (is-cut ranged) ∙ rw (more-mesh L room (hand .places) s, table-lives hand)
 
   -- the blends in hand, cut further, are its live blends as a table holds them,
-  hand-refined : refined (withSplit L s) t ≡ fitted (liveOf (withLine (layoutOf L) s))
+  more-refined : refined (withSplit L s) t ≡ fitted (liveOf (withLine (layoutOf L) s))
   unfolding live
-  hand-refined =
-      let a = hand-sides hand in
+  more-refined =
+      let a = table-sides hand in
       is-refined ranged ∙
-      rw (hand-mesh L room (hand .places) s, hand-blends hand)
+      rw (more-mesh L room (hand .places) s, table-lives hand)
       (finer-fitted (L .w) (L .h) (a .up .1) (meshOf (layoutOf L)) (meshOf (withLine (layoutOf L) s)) (drawn-finer (L .w) (L .h) (splitsOf L) s)
       (firstFour (L .w) (L .h)) (first-proper (L .w) (L .h) (a .across .0) (a .up .0)))
 
   -- and that it fits and is full says that the map is sound.
   module _ {next : Lines} {r : Found} (more : next ≡ withSplit L s) (e : r ≡ refined next t) where
     is-next : r ≡ fitted (liveOf (withLine (layoutOf L) s))
-    is-next = e ∙ ap (λ (N : Lines). refined N t) more ∙ hand-refined
+    is-next = e ∙ ap (λ (N : Lines). refined N t) more ∙ more-refined
 
     sixty : length (splitsOf L ++ s ∷ []) ≤ 60
-    sixty = rw (length-append, hand-length hand) (omega arith)
+    sixty = rw (length-append, splits-length hand) (omega arith)
 
     pub unfit-next : r .ok ≡ false → soundWith (layoutOf L) s ≡ false
-    unfit-next = unfit-unsound (hand-sides hand) (splitsOf L ++ s ∷ []) sixty is-next
+    unfit-next = unfit-unsound (table-sides hand) (splitsOf L ++ s ∷ []) sixty is-next
 
     pub full-next : r .ok ≡ true → full (L .w) (L .h) (r .table) ≡ soundWith (layoutOf L) s
-    full-next = full-sound (hand-sides hand) (splitsOf L ++ s ∷ []) sixty is-next
+    full-next = full-sound (table-sides hand) (splitsOf L ++ s ∷ []) sixty is-next
 
     pub next-table : r .ok ≡ true → r .table ≡ table (liveOf (withLine (layoutOf L) s))
     next-table f = fits-held _ r is-next f .is-table
 
 -- The live blends of a fresh map are in hand.
-pub hand-fresh : (w h : ℕ) → allowedSide w ≡ true → allowedSide h ≡ true →
-    InHand (linesOf (layout w h [])) (table (firstFour w h))
+pub fresh-table : (w h : ℕ) → allowedSide w ≡ true → allowedSide h ≡ true →
+    HasTable (linesOf (layout w h [])) (table (firstFour w h))
 unfolding allowed linesOf
-hand-fresh w h a b =
+fresh-table w h a b =
     let one = leb-true 1 w (and-both (leb 1 w) (leb w 128) a .0) in
     let also = and-both (leb 1 h) (leb h 128) b in
     let up = leb-true 1 h (also .0) in

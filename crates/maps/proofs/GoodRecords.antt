@@ -25,8 +25,8 @@ use Rattle.maps.specs.Plain.{Plain, freshPlain, blends}
 use Rattle.maps.specs.Values.{drawn}
 use Rattle.maps.specs.Record.{noSplit, isNoSplit, isZero, linesOf, recordOf, plain, good}
 use Rattle.maps.specs.Calls.{setPlain}
-use Rattle.maps.specs.Inner.{InHand}
-use Rattle.maps.proofs.InHand.{hand-sides, hand-fresh, exact-says}
+use Rattle.maps.specs.Inner.{HasTable}
+use Rattle.maps.proofs.OneSplitMore.{table-sides, fresh-table, exact-says}
 use Rattle.maps.proofs.Opening.{good-passes, passes-good}
 
 -- the test of a split that is zero
@@ -69,12 +69,12 @@ pub record Replays (P : Layout) : Type 0 where
   pub all-taken : accepted (layout (P .w) (P .h) []) (P .splits) ≡ true
 
 module _ {P : Layout} (r : Replays P) where
-  fresh : InHand (linesOf (layout (P .w) (P .h) [])) (table (firstFour (P .w) (P .h)))
-  fresh = hand-fresh (P .w) (P .h) (r .across) (r .up)
+  fresh : HasTable (linesOf (layout (P .w) (P .h) [])) (table (firstFour (P .w) (P .h)))
+  fresh = fresh-table (P .w) (P .h) (r .across) (r .up)
 
   pub replays-sides : (1 ≤ P .w) × (P .w ≤ 128) × (1 ≤ P .h) × (P .h ≤ 128)
   unfolding linesOf
-  replays-sides = let a = hand-sides fresh in (a .across .0, a .across .1, a .up .0, a .up .1)
+  replays-sides = let a = table-sides fresh in (a .across .0, a .across .1, a .up .0, a .up .1)
 
   pub replays-stands : Standing P
   unfolding linesOf
@@ -143,7 +143,7 @@ pub record GoodFacts (m : Map) : Type 0 where
   pub holds : Holds (plain m)
   pub is-sound : sound (m .lines .w) (m .lines .h) (blends (plain m)) ≡ true
   pub is-short : length (blends (plain m)) ≤ 1024
-  pub hand : InHand (m .lines) (table (blends (plain m)))
+  pub has-table : HasTable (m .lines) (table (blends (plain m)))
   pub is-record : recordOf (plain m) ≡ m
 
 pub good-facts : (m : Map) → length (m .lines .splits) ≡ 60 → length (m .values) ≡ 1024 → good m ≡ true → GoodFacts m
@@ -168,7 +168,7 @@ good-facts m places room e =
       holds = record { taken = lines; counted = counted };
       is-sound = stands .is-sound;
       is-short = short;
-      hand = record { allowed? = ok; places = places; is-sound = stands .is-sound; is-table = refl };
+      has-table = record { allowed? = ok; places = places; is-sound = stands .is-sound; is-table = refl };
       is-record = λ i. record { lines = record { w = L .w; h = L .h; count = n i; splits = splits i }; values = values i };
     }
 

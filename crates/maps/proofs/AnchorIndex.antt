@@ -29,7 +29,7 @@ use Rattle.mesh.specs.Lines.{meshOf}
 use Rattle.maps.specs.Inner.{anchorIndex, InTable}
 use Rattle.axis.proofs.Members.{entry, placed}
 use Rattle.maps.proofs.Readings.{Valued, place-found}
-use Rattle.maps.proofs.InHand.{table-blends, table-count}
+use Rattle.maps.proofs.OneSplitMore.{table-blends, table-count}
 
 -- anchors on knots, where each has a place of its own in the index
 pub record OnKnots (B : Blend) : Type 0 where

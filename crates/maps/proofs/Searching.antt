@@ -17,8 +17,8 @@ use Rattle.axis.proofs.Tests.{either, and-both, and-of, false-of, cond-true, co
 use Rattle.mesh.proofs.Drawing.{in-range-says}
 use Rattle.maps.specs.declared.splits.Step.{Step}
 use Rattle.mesh.specs.Splits.{liveOf, given, soundWith, reaching, run, containing, candidate, chosen}
-use Rattle.maps.specs.Inner.{InHand, refusedStep, judged, found}
-use Rattle.maps.proofs.InHand.{Given, given-says, hand-sides, hand-length}
+use Rattle.maps.specs.Inner.{HasTable, refusedStep, judged, found}
+use Rattle.maps.proofs.OneSplitMore.{Given, given-says, table-sides, splits-length}
 
 module _ (P : Layout) (s : Split) where
   -- the line of a length from a start, where it keeps to the side; those of a length from a start on
@@ -106,7 +106,7 @@ ends-in P s e =
 
 -- What holds throughout the search: nothing is found yet, and the first candidate of the lines that are left is the line that the split takes.
 pub record Search (L : Lines) (t : Table) (s : Split) (side : ℕ) (answer : Step) (n : ℕ) (left : List Split) : Type 0 where
-  pub hand : InHand L t
+  pub has-table : HasTable L t
   pub free : Given (layoutOf L) s
   pub is-side : side ≡ run (layoutOf L) s
   pub long : s .to - s .from ≤ n
@@ -114,13 +114,13 @@ pub record Search (L : Lines) (t : Table) (s : Split) (side : ℕ) (answer : Ste
   pub rest : chosen (layoutOf L) s ≡ first (layoutOf L) s left
 
 -- it begins with all the lines from the drawn length on
-pub search-starts : {L : Lines} {t : Table} {s : Split} {side : ℕ} → InHand L t → given (layoutOf L) s ≡ 0 → side ≡ run (layoutOf L) s →
+pub search-starts : {L : Lines} {t : Table} {s : Split} {side : ℕ} → HasTable L t → given (layoutOf L) s ≡ 0 → side ≡ run (layoutOf L) s →
     Search L t s side (refusedStep t 8 s) (s .to - s .from) (rows (layoutOf L) s (s .to - s .from))
 search-starts {L} {t} {s} hand e is =
     let free = given-says (layoutOf L) s e in
     let ends = ends-in (layoutOf L) s (free .fits) in
     record {
-      hand = hand;
+      has-table = hand;
       free = free;
       is-side = is;
       long = omega arith;
@@ -136,19 +136,19 @@ module _ {L : Lines} {t : Table} {s : Split} {side n : ℕ} {answer : Step} {lef
   pub bounds : (s .from < s .to) × (s .to ≤ side) × (side ≤ 128)
   bounds =
       let ends = ends-in (layoutOf L) s (at .free .fits) in
-      let sides = hand-sides (at .hand) in
+      let sides = table-sides (at .has-table) in
       let most = run-most (layoutOf L) s (sides .across .1) (sides .up .1) in
       let is = at .is-side in
       (ends .0, omega arith, omega arith)
 
   pub room : L .count < 60
-  room = omega (arith, hand-length (at .hand), at .free .room)
+  room = omega (arith, splits-length (at .has-table), at .free .room)
 
   -- another list of lines with the same first candidate
   onward : {m : ℕ} {next : List Split} → n ≤ m → first (layoutOf L) s left ≡ first (layoutOf L) s next → Search L t s side answer m next
   onward le e =
       record {
-        hand = at .hand;
+        has-table = at .has-table;
         free = at .free;
         is-side = at .is-side;
         long = omega (arith, at .long);

@@ -21,8 +21,8 @@ use Rattle.mesh.proofs.Live.{proper-rises}
 use Rattle.mesh.proofs.SoundMaps.{live-proper}
 use Rattle.mesh.proofs.Refining.{some-line}
 use Rattle.mesh.specs.Splits.{liveOf, withLine, soundWith, given, exactNumber, reaching, run, containing, candidate, chosen}
-use Rattle.maps.proofs.InHand.{given-says}
-use Rattle.maps.proofs.Longer.{line, reaching-fits, ends-in}
+use Rattle.maps.proofs.OneSplitMore.{given-says}
+use Rattle.maps.proofs.Searching.{line, reaching-fits, ends-in}
 
 -- A finer mesh cuts what a coarser one cuts.
 module _ (M N : Mesh) (finer : Coarser M N) (B : Blend) (h : RiseB B) where
