@@ -38,8 +38,8 @@ module _ (bytes : List ℕ) (small : (b : ℕ) → List·Memᴰ b bytes → b < 
   unfolding guessed
   guessed-small v m =
       let s = splitCount bytes 8 60 in
-      let r = each-mem 0 ((length bytes - 12 - 12 * s) / 10) (λ i. wordAt bytes (16 + 12 * s + 10 * i) ∷ []) v m in
-      rw (List·Memᴰ·eq-of-singleton (r .3)) (word-small (16 + 12 * s + 10 * r .0))
+      let r = each-mem 0 ((length bytes - 12 - 12 * s) / 10) (λ i. wordAt bytes (8 + 12 * s + 10 * i + 8) ∷ []) v m in
+      rw (List·Memᴰ·eq-of-singleton (r .3)) (word-small (8 + 12 * s + 10 * r .0 + 8))
 
   -- What an accepted file tells is what the map that is read holds, and a map that calls may have reached.
   module _ (e : readFile bytes .number ≡ 0) where

@@ -145,13 +145,12 @@ module _ (P : Plain) (ok : Fits P) where
   abbrev base : ℕ
   base = 8 + 12 * length (P .lines .splits)
 
-  values-read : each 0 (length (P .values)) (λ i. wordAt (fileOf P) (16 + 12 * length (P .lines .splits) + 10 * i) ∷ []) ≡ P .values
+  values-read : each 0 (length (P .values)) (λ i. wordAt (fileOf P) (base + 10 * i + 8) ∷ []) ≡ P .values
   values-read =
       rw (ok .full, ← paired-length (blends P) (P .values) (ok .full))
-      (each-read valueEntry 10 value-long (fileOf P) base (λ i. wordAt (fileOf P) (16 + 12 * length (P .lines .splits) + 10 * i)) (λ t. t .multiple) terms tail 0
+      (each-read valueEntry 10 value-long (fileOf P) base (λ i. wordAt (fileOf P) (base + 10 * i + 8)) (λ t. t .multiple) terms tail 0
       (rw add-zero from-values)
-      (λ t m i more e. let place : 16 + 12 * length (P .lines .splits) + 10 * i ≡ base + 10 * i + 8 = omega arith in
-      rw place (value-read (fileOf P) (base + 10 * i) more t (ok .values (t .multiple) (paired-mem (blends P) (P .values) t m)) e)) ∙
+      (λ t m i more e. value-read (fileOf P) (base + 10 * i) more t (ok .values (t .multiple) (paired-mem (blends P) (P .values) t m)) e) ∙
       paired-values (blends P) (P .values) (ok .full))
 
   values-counted : (length (fileOf P) - 12 - 12 * length (P .lines .splits)) / 10 ≡ length (P .values)

@@ -105,8 +105,8 @@ module _ {A : Type 0} (got : ℕ → A) (d : A) (n : ℕ) where
 pub told-map : (bytes : List ℕ) (w h count places : ℕ) (splits : List Split) (values : List ℕ) →
     w ≡ wordAt bytes 4 → h ≡ wordAt bytes 6 → count ≡ splitCount bytes 8 60 → places ≡ (length bytes - 12 - 12 * count) / 10 →
     splits ≡ each 0 count (λ i. splitAt bytes (8 + 12 * i) ∷ []) ++ replicate (60 - count) noSplit →
-    values ≡ each 0 places (λ i. wordAt bytes (16 + 12 * count + 10 * i) ∷ []) ++ replicate (1024 - places) 0 →
+    values ≡ each 0 places (λ i. wordAt bytes (8 + 12 * count + 10 * i + 8) ∷ []) ++ replicate (1024 - places) 0 →
     _≡_ {A = Map} (record { lines = record { w = w; h = h; count = count; splits = splits }; values = values }) (recordOf (guessed bytes))
 unfolding guessed recordOf linesOf
 told-map bytes w h count places splits values p q r s t u =
-    rw (p, q, t, u, s, r, each-length 0 (splitCount bytes 8 60) (λ i. splitAt bytes (8 + 12 * i)), each-length 0 ((length bytes - 12 - 12 * splitCount bytes 8 60) / 10) (λ i. wordAt bytes (16 + 12 * splitCount bytes 8 60 + 10 * i)))
+    rw (p, q, t, u, s, r, each-length 0 (splitCount bytes 8 60) (λ i. splitAt bytes (8 + 12 * i)), each-length 0 ((length bytes - 12 - 12 * splitCount bytes 8 60) / 10) (λ i. wordAt bytes (8 + 12 * splitCount bytes 8 60 + 10 * i + 8)))

@@ -7,7 +7,7 @@ use Rattle.files.proofs.take.take_values.Statement.{statement}
 use Rattle.files.proofs.take.take_values.Tie as tie
 
 abbrev Inv-loop : tie.InvT-loop
-Inv-loop bytes at count values₀ i₀ values i = Filled (λ i. wordAt bytes (at + 10 * i)) 0 1024 i values × (i ≤ count)
+Inv-loop bytes at count values₀ i₀ values i = Filled (λ i. wordAt bytes (at + 10 * i + 8)) 0 1024 i values × (i ≤ count)
 
 abbrev μ-loop : tie.MeasureT-loop
 μ-loop bytes at count values₀ i₀ values i = count - i
@@ -28,6 +28,7 @@ take-values-spec =
     Inv-loop
     μ-loop
     loop-holds
+    (λ c. omega arith)
     (λ c. omega arith)
     (λ c. omega arith)
     (λ c κs. omega arith)
