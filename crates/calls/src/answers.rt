@@ -1,6 +1,7 @@
 // One call: its line is taken apart, the library is asked, and the answer is shown. A line that is no call is answered with `?`.
 use crate::show;
 use crate::text;
+use files::LARGEST_FILE;
 use maps::Changed;
 use maps::Map;
 use mesh::Split;
