@@ -12,6 +12,7 @@ use lib.Seq.{getD-take, set-append-seam, set-append-left}
 use mir.Val.{Val}
 use denote.Shadow.{shadow}
 use denote.Struct.Declared.{row}
+use Rattle.mesh.proofs.Arrays.{lines-full}
 use Rattle.axis.specs.Range.{all}
 use Rattle.axis.proofs.Members.{entry}
 use Rattle.axis.proofs.Tests.{all-of, either, cond-true, cond-false}
@@ -71,7 +72,7 @@ module _ (P : Plain) where
 
 -- a map that is passed by value has all the places of its arrays
 pub full : (m : Map) (vs : List Val) → shadow (row the-type .own m vs) → (length (m .lines .splits) ≡ 60) × (length (m .values) ≡ 1024)
-full m vs p = (simp length-map at (p .1 .1 .0 .1 .1 .1 .1 .1 .0 .1 .0 .1), simp length-map at (p .1 .1 .1 .0 .1 .0 .1))
+full m vs p = (lines-full (m .lines) (p .1 .1 .0), simp length-map at (p .1 .1 .1 .0 .1 .0 .1))
 
 -- a good record, and the table of its live blends
 pub record GoodMap (m : Map) (t : Table) : Type 0 where

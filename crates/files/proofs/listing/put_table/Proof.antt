@@ -4,6 +4,7 @@ use native.Mathlib.Omega.{arith}
 use Prim.Native.Nat.{_+_, _*_, _-_, _≤_}
 use mathlib.Core.Path.{_≡_, _∙_}
 use lib.ListN.{length, getD, length-map, length-append}
+use Rattle.mesh.proofs.Arrays.{table-full}
 use Rattle.mesh.specs.Sound.{none}
 use Rattle.files.specs.Inner.{terms}
 use Rattle.files.specs.Listing.{ended, line}
@@ -20,7 +21,7 @@ abbrev μ-loop : tie.MeasureT-loop
 μ-loop out₀ table values count at₀ i₀ out at i = count - i
 
 places : (c : tie.Start Inv-loop μ-loop) → length (c .args .t2 .blends) ≡ 1024
-places c = simp length-map at (c .good .1 .0 .1 .1 .1 .0 .1 .0 .1)
+places c = table-full (c .args .t2) (c .good .1 .0)
 
 counted : (c : tie.Start Inv-loop μ-loop) → length (terms (c .args .t2) (c .args .t3)) ≡ c .args .t2 .count
 counted c = terms-length (c .args .t2) (c .args .t3) (c .pre .0) (places c) (c .good .1 .1 .0 .1 .0 .1)

@@ -3,7 +3,8 @@ use borrow.Author.Needs.{needs}
 use native.Mathlib.Omega.{arith}
 use Prim.Native.Nat.{_+_, _*_, _-_, _≤_, _<_}
 use mathlib.Core.Path.{_≡_}
-use lib.ListN.{length, getD, length-map}
+use lib.ListN.{length, getD}
+use Rattle.mesh.proofs.Arrays.{table-full}
 use Rattle.mesh.specs.Sound.{none}
 use Rattle.mesh.specs.Bytes.{Proper}
 use Rattle.files.specs.File.{valueEntry}
@@ -21,7 +22,7 @@ abbrev μ-loop : tie.MeasureT-loop
 μ-loop bytes₀ at table values count i₀ bytes i = count - i
 
 places : (c : tie.Start Inv-loop μ-loop) → length (c .args .t3 .blends) ≡ 1024
-places c = simp length-map at (c .good .1 .1 .0 .1 .1 .1 .0 .1 .0 .1)
+places c = table-full (c .args .t3) (c .good .1 .1 .0)
 
 counted : (c : tie.Start Inv-loop μ-loop) → length (terms (c .args .t3) (c .args .t4)) ≡ c .args .t3 .count
 counted c = terms-length (c .args .t3) (c .args .t4) (c .pre .0) (places c) (c .good .1 .1 .1 .0 .1 .0 .1)

@@ -9,6 +9,7 @@ use lib.ListN.{getD, length, length-map, length-take, set, take, replicate}
 use lib.Seq.{length-take-le, getD-take}
 use mir.Syntax.{w16}
 use borrow.Author.Needs.{needs, elem-fits}
+use Rattle.mesh.proofs.Arrays.{table-full}
 use Rattle.mesh.specs.declared.Blend.{Blend}
 use Rattle.axis.proofs.Members.{entry}
 use Rattle.maps.proofs.OverSquare.{four-at}
@@ -35,7 +36,7 @@ abbrev μ-loop : tie.MeasureT-loop
 
 -- the arrays are full, and the old values fit their type
 full : (c : tie.Start Inv-loop μ-loop) → (length (c .args .t2) ≡ 1024) × (length (c .args .t3 .blends) ≡ 1024)
-full c = (c .good .1 .0 .1 .0 .1, simp length-map at (c .good .1 .1 .0 .1 .1 .1 .0 .1 .0 .1))
+full c = (c .good .1 .0 .1 .0 .1, table-full (c .args .t3) (c .good .1 .1 .0))
 
 valued : (c : tie.Start Inv-loop μ-loop) → Valued (c .pre .0 .of)
 valued c =

@@ -5,6 +5,7 @@ use mathlib.Core.Path.{_≡_, refl}
 use mathlib.Core.Bool.{true}
 use mathlib.Core.List.{_∷_}
 use lib.ListN.{drop, getD, length, length-map, length-set}
+use Rattle.mesh.proofs.Arrays.{table-full}
 use Rattle.axis.specs.Range.{all}
 use Rattle.mesh.specs.Sound.{proper, none, blendsOf}
 use Rattle.mesh.specs.Bytes.{place}
@@ -33,7 +34,7 @@ turn : (c : tie.In-loop Inv-loop μ-loop) →
 turn c =
     let l = c .before .loop in
     let b = c .before .before .before in
-    let full : length (b .args .t1 .blends) ≡ 1024 = simp length-map at (b .good .0 .1 .1 .1 .0 .1 .0 .1) in
+    let full = table-full (b .args .t1) (b .good .0) in
     blends-turn (b .args .t1) (l .i) (omega arith) (omega arith)
 
 -- its anchor has a place in the index, and the others are proper still

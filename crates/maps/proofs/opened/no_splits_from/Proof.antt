@@ -17,12 +17,6 @@ Inv-loop from splits i₀ i = all isNoSplit (drop from splits) ≡ all isNoSplit
 abbrev μ-loop : tie.MeasureT-loop
 μ-loop from splits i₀ i = 60 - i
 
-loop-holds : tie.Need-loop-holds Inv-loop μ-loop
-loop-holds c = refl
-
-mul-s : tie.Need-mul-s Inv-loop μ-loop
-mul-s c = record { fits = omega arith }
-
 sixty : (c : tie.Start Inv-loop μ-loop) → length (c .args .t1) ≡ 60
 sixty c = c .good .0 .1 .0 .1
 
@@ -39,9 +33,6 @@ turn c =
 returns : tie.Need-returns Inv-loop μ-loop
 returns c = sym (turn (c .before) ∙ rw (not-true (c .before .no-split .result) (c .if1 .taken)))
 
-add-i : tie.Need-add-i Inv-loop μ-loop
-add-i c = record { fits = omega arith }
-
 loop-again : tie.Need-loop-again Inv-loop μ-loop
 loop-again c = turn (c .before) ∙ rw (not-false (c .before .no-split .result) (c .if1 .left))
 
@@ -56,12 +47,12 @@ no-splits-from-spec =
     (tie.spec
     Inv-loop
     μ-loop
-    loop-holds
-    mul-s
+    (λ c. refl)
+    (λ c. record { fits = omega arith })
     (λ c. omega arith)
     (λ c κs. tt)
     returns
-    add-i
+    (λ c. record { fits = omega arith })
     (λ c. omega arith)
     loop-again
     returns-2)

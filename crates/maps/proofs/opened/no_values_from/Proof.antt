@@ -17,12 +17,6 @@ Inv-loop from values i₀ i = all isZero (drop from values) ≡ all isZero (drop
 abbrev μ-loop : tie.MeasureT-loop
 μ-loop from values i₀ i = 1024 - i
 
-loop-holds : tie.Need-loop-holds Inv-loop μ-loop
-loop-holds c = refl
-
-mul-if1 : tie.Need-mul-if1 Inv-loop μ-loop
-mul-if1 c = record { fits = omega arith }
-
 full : (c : tie.Start Inv-loop μ-loop) → length (c .args .t1) ≡ 1024
 full c = c .good .0 .1 .0 .1
 
@@ -38,9 +32,6 @@ turn c =
 returns : tie.Need-returns Inv-loop μ-loop
 returns c = sym (turn (c .before) ∙ rw (ne-eqb _ _ (c .if1 .taken)))
 
-add-i : tie.Need-add-i Inv-loop μ-loop
-add-i c = record { fits = omega arith }
-
 loop-again : tie.Need-loop-again Inv-loop μ-loop
 loop-again c = turn (c .before) ∙ rw (eq-eqb _ _ (c .if1 .left))
 
@@ -55,11 +46,11 @@ no-values-from-spec =
     (tie.spec
     Inv-loop
     μ-loop
-    loop-holds
-    mul-if1
+    (λ c. refl)
+    (λ c. record { fits = omega arith })
     (λ c. omega arith)
     returns
-    add-i
+    (λ c. record { fits = omega arith })
     (λ c. omega arith)
     loop-again
     returns-2)

@@ -5,8 +5,9 @@ use borrow.Author.Needs.{needs}
 use borrow.Author.Tests.{not-true, not-false}
 use mathlib.Core.Path.{_≡_, refl, sym, _∙_}
 use mathlib.Core.Bool.{_&&_}
-use lib.ListN.{length, drop, getD, length-map}
+use lib.ListN.{length, drop, getD}
 use lib.Seq.{length-take-le}
+use Rattle.mesh.proofs.Arrays.{table-full}
 use Rattle.mesh.specs.Blends.{same}
 use Rattle.mesh.specs.Sound.{blendsOf, none}
 use Rattle.axis.proofs.Tests.{false-of}
@@ -24,7 +25,7 @@ abbrev μ-loop : tie.MeasureT-loop
 
 -- both tables have all their places
 full : (c : tie.Start Inv-loop μ-loop) → (length (c .args .t1 .blends) ≡ 1024) × (length (c .args .t2 .blends) ≡ 1024)
-full c = (simp length-map at (c .good .0 .1 .1 .1 .0 .1 .0 .1), simp length-map at (c .good .1 .0 .1 .1 .1 .0 .1 .0 .1))
+full c = (table-full (c .args .t1) (c .good .0), table-full (c .args .t2) (c .good .1 .0))
 
 -- one turn compares the next blends
 turn : (c : tie.In-loop Inv-loop μ-loop) →
@@ -49,17 +50,8 @@ returns c =
 loop-holds : tie.Need-loop-holds Inv-loop μ-loop
 loop-holds c = (omega arith, refl)
 
-mul-x : tie.Need-mul-x Inv-loop μ-loop
-mul-x c = record { fits = omega arith }
-
-mul-y : tie.Need-mul-y Inv-loop μ-loop
-mul-y c = record { fits = omega arith }
-
 returns-2 : tie.Need-returns-2 Inv-loop μ-loop
 returns-2 c = sym (turn (c .before .before .before .before) ∙ rw (sym (c .before .same-blend .ensures) ∙ not-true _ (c .if2 .taken)))
-
-add-i : tie.Need-add-i Inv-loop μ-loop
-add-i c = record { fits = omega arith }
 
 loop-again : tie.Need-loop-again Inv-loop μ-loop
 loop-again c = (omega arith, turn (c .before .before .before .before) ∙ rw (sym (c .before .same-blend .ensures) ∙ not-false _ (c .if2 .left)))
@@ -78,13 +70,13 @@ same-tables-spec =
     μ-loop
     returns
     loop-holds
-    mul-x
+    (λ c. record { fits = omega arith })
     (λ c. omega arith)
-    mul-y
+    (λ c. record { fits = omega arith })
     (λ c. omega arith)
     (λ c κs. search needs)
     returns-2
-    add-i
+    (λ c. record { fits = omega arith })
     (λ c. omega arith)
     loop-again
     returns-3)

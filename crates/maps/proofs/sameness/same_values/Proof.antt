@@ -36,17 +36,8 @@ turn c =
 loop-holds : tie.Need-loop-holds Inv-loop μ-loop
 loop-holds c = (omega arith, refl)
 
-mul-if1 : tie.Need-mul-if1 Inv-loop μ-loop
-mul-if1 c = record { fits = omega arith }
-
-mul-if1-2 : tie.Need-mul-if1-2 Inv-loop μ-loop
-mul-if1-2 c = record { fits = omega arith }
-
 returns : tie.Need-returns Inv-loop μ-loop
 returns c = sym (turn (c .before) ∙ rw (ne-eqb _ _ (c .if1 .taken)))
-
-add-i : tie.Need-add-i Inv-loop μ-loop
-add-i c = record { fits = omega arith }
 
 loop-again : tie.Need-loop-again Inv-loop μ-loop
 loop-again c = (omega arith, turn (c .before) ∙ rw (eq-eqb _ _ (c .if1 .left)))
@@ -65,12 +56,12 @@ same-values-spec =
     Inv-loop
     μ-loop
     loop-holds
-    mul-if1
+    (λ c. record { fits = omega arith })
     (λ c. omega arith)
-    mul-if1-2
+    (λ c. record { fits = omega arith })
     (λ c. omega arith)
     returns
-    add-i
+    (λ c. record { fits = omega arith })
     (λ c. omega arith)
     loop-again
     returns-2)

@@ -7,7 +7,8 @@ use mathlib.Core.Logic.{⊎-elim}
 use mathlib.Core.List.{_∷_}
 use borrow.Author.Tests.{ltb-true, ltb-false}
 use lib.Dec.{ltb}
-use lib.ListN.{drop, getD, length, length-map}
+use lib.ListN.{drop, getD, length}
+use Rattle.mesh.proofs.Arrays.{table-full}
 use Rattle.axis.proofs.Tests.{either}
 use Rattle.mesh.specs.Sound.{blendsOf, none, overSquare}
 use Rattle.mesh.proofs.Cutting.{blends-turn, blends-end}
@@ -46,7 +47,7 @@ turn : (c : tie.In-loop Inv-loop μ-loop) →
 turn c =
     let l = c .before .loop in
     let s = c .before .before .before in
-    let full : length (s .args .t1 .blends) ≡ 1024 = simp length-map at (s .good .0 .1 .1 .1 .0 .1 .0 .1) in
+    let full = table-full (s .args .t1) (s .good .0) in
     rw (blends-turn (s .args .t1) (l .i) (inside c) (omega arith)) at (l .inv .1)
 
 loop-holds : tie.Need-loop-holds Inv-loop μ-loop

@@ -4,7 +4,8 @@ use Prim.Native.Nat.{_≤_, _+_, _-_}
 use borrow.Author.Needs.{needs}
 use mathlib.Core.Path.{_≡_, sym, _∙_}
 use mathlib.Core.Bool.{true, false, cond}
-use lib.ListN.{drop, getD, length, length-map}
+use lib.ListN.{drop, getD, length}
+use Rattle.mesh.proofs.Arrays.{table-full}
 use Rattle.mesh.specs.Blends.{anchored}
 use Rattle.mesh.specs.Sound.{blendsOf, none}
 use Rattle.mesh.proofs.Cutting.{blends-turn, blends-end}
@@ -27,7 +28,7 @@ turn : (c : tie.In-loop Inv-loop μ-loop) →
 turn c =
     let l = c .before .loop in
     let a = c .before .before .args in
-    let full : length (a .t1 .blends) ≡ 1024 = simp length-map at (c .before .before .good .0 .1 .1 .1 .0 .1 .0 .1) in
+    let full = table-full (a .t1) (c .before .before .good .0) in
     sym (l .inv .1) ∙ rw (blends-turn (a .t1) (l .i) (omega arith) (omega arith))
 
 loop-holds : tie.Need-loop-holds Inv-loop μ-loop

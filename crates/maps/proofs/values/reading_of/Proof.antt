@@ -4,7 +4,8 @@ use native.Mathlib.Omega.{arith}
 use native.Mathlib.Nat.{div-le-of-le-mul}
 use Prim.Native.Nat.{_+_, _*_, _≤_}
 use mathlib.Core.Path.{_≡_, ap, _∙_}
-use lib.ListN.{length, getD, length-map}
+use lib.ListN.{length, getD}
+use Rattle.mesh.proofs.Arrays.{table-full}
 use Rattle.axis.specs.Fraction.{Fraction, plus}
 use Rattle.axis.proofs.Gaps.{End}
 use Rattle.maps.specs.declared.values.Entry.{Entry}
@@ -61,7 +62,7 @@ returns c =
     let p = s .pre in
     let x = k .before .low-knot .result in
     let y = k .low-knot2 .result in
-    let long : length (a .table .blends) ≡ 1024 = simp length-map at (s .good .0 .1 .1 .1 .0 .1 .0 .1) in
+    let long = table-full (a .table) (s .good .0) in
     let full : length (a .t2) ≡ 1024 = s .good .1 .0 .1 .0 .1 in
     let across : End x (a .u + 1) = omega arith in
     let up : End y (a .v + 1) = omega arith in

@@ -7,6 +7,7 @@ use mathlib.Core.Path.{_≡_, refl, sym, ap, _∙_}
 use mathlib.Core.Bool.{true, false, _&&_, not}
 use mathlib.Core.List.{[], _∷_, _++_}
 use lib.ListN.{length, length-map, length-replicate, getD, take}
+use Rattle.mesh.proofs.Arrays.{lines-full}
 use Rattle.mesh.specs.Lines.{upright, level, mesh, inRange, shares, ended}
 use Rattle.mesh.specs.Blends.{live}
 use Rattle.mesh.specs.Bytes.{Marked, bytesMesh}
@@ -81,7 +82,7 @@ cut-all-requires c κs =
     )
 
 sixty : (c : tie.Start Inv-loop μ-loop) → length (c .args .t1 .splits) ≡ 60
-sixty c = simp length-map at (c .good .0 .1 .1 .1 .1 .1 .0 .1 .0 .1)
+sixty c = lines-full (c .args .t1) (c .good .0)
 
 loop-holds : tie.Need-loop-holds Inv-loop μ-loop
 loop-holds c =

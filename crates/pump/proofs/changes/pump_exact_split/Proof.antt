@@ -8,9 +8,6 @@ use Rattle.pump.proofs.Changing.{changes}
 use Rattle.pump.proofs.changes.pump_exact_split.Statement.{statement}
 use Rattle.pump.proofs.changes.pump_exact_split.Tie as tie
 
-read-lent-requires : tie.Need-read-lent-requires
-read-lent-requires c κs = search needs
-
 exact-split-requires : tie.Need-exact-split-requires
 exact-split-requires c κs = read-opens _ (c .read-lent .ensures)
 
@@ -20,9 +17,6 @@ replace-requires c κs =
     let read = call .before in
     let a = read .before .before .before .before .args in
     exact-opens _ (read .read-lent .ensures) (split (a .direction) (a .position) (a .from) (a .to)) (call .exact-split .ensures)
-
-same-length : tie.Need-same-length
-same-length c = search needs
 
 returns : tie.Need-returns
 returns c =
@@ -35,4 +29,4 @@ returns c =
 pub pump-exact-split-spec : {M : Type 1} → statement M
 pump-exact-split-spec =
     tie.close
-    (tie.spec read-lent-requires exact-split-requires replace-requires same-length returns)
+    (tie.spec (λ c κs. search needs) exact-split-requires replace-requires (λ c. search needs) returns)

@@ -7,21 +7,12 @@ use Rattle.pump.proofs.Changing.{fresh-good}
 use Rattle.pump.proofs.changes.pump_fresh.Statement.{statement}
 use Rattle.pump.proofs.changes.pump_fresh.Tie as tie
 
-fresh-requires : tie.Need-fresh-requires
-fresh-requires c κs = search needs
-
-open-requires : tie.Need-open-requires
-open-requires c κs = search needs
-
 replace-requires : tie.Need-replace-requires
 unfolding opened
 replace-requires c κs =
     let made = c .before .before .before in
     let a = made .before .before .args in
     opens (c .before .before .«open» .ensures) (rw (made .fresh .ensures) (fresh-good (a .w) (a .h)))
-
-same-length : tie.Need-same-length
-same-length c = search needs
 
 returns : tie.Need-returns
 returns c =
@@ -31,4 +22,4 @@ returns c =
 
 pub pump-fresh-spec : {M : Type 1} → statement M
 pump-fresh-spec =
-    tie.close (tie.spec fresh-requires open-requires replace-requires same-length returns)
+    tie.close (tie.spec (λ c κs. search needs) (λ c κs. search needs) replace-requires (λ c. search needs) returns)

@@ -8,9 +8,6 @@ use Rattle.pump.proofs.Changing.{changes}
 use Rattle.pump.proofs.changes.pump_lengthened_split.Statement.{statement}
 use Rattle.pump.proofs.changes.pump_lengthened_split.Tie as tie
 
-read-lent-requires : tie.Need-read-lent-requires
-read-lent-requires c κs = search needs
-
 lengthened-split-requires : tie.Need-lengthened-split-requires
 lengthened-split-requires c κs = read-opens _ (c .read-lent .ensures)
 
@@ -20,9 +17,6 @@ replace-requires c κs =
     let read = call .before in
     let a = read .before .before .before .before .args in
     lengthened-opens _ (read .read-lent .ensures) (split (a .direction) (a .position) (a .from) (a .to)) (call .lengthened-split .ensures)
-
-same-length : tie.Need-same-length
-same-length c = search needs
 
 returns : tie.Need-returns
 returns c =
@@ -36,8 +30,8 @@ pub pump-lengthened-split-spec : {M : Type 1} → statement M
 pump-lengthened-split-spec =
     tie.close
     (tie.spec
-    read-lent-requires
+    (λ c κs. search needs)
     lengthened-split-requires
     replace-requires
-    same-length
+    (λ c. search needs)
     returns)

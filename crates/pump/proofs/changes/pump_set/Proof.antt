@@ -7,9 +7,6 @@ use Rattle.pump.proofs.Changing.{changes}
 use Rattle.pump.proofs.changes.pump_set.Statement.{statement}
 use Rattle.pump.proofs.changes.pump_set.Tie as tie
 
-read-lent-requires : tie.Need-read-lent-requires
-read-lent-requires c κs = search needs
-
 set-requires : tie.Need-set-requires
 set-requires c κs = read-opens _ (c .read-lent .ensures)
 
@@ -19,9 +16,6 @@ replace-requires c κs =
     let read = call .before in
     let a = read .before .before .before .before .args in
     set-opens _ (read .read-lent .ensures) (a .m) (a .n) (a .value) (call .set .ensures)
-
-same-length : tie.Need-same-length
-same-length c = search needs
 
 returns : tie.Need-returns
 returns c =
@@ -33,4 +27,4 @@ returns c =
 
 pub pump-set-spec : {M : Type 1} → statement M
 pump-set-spec =
-    tie.close (tie.spec read-lent-requires set-requires replace-requires same-length returns)
+    tie.close (tie.spec (λ c κs. search needs) set-requires replace-requires (λ c. search needs) returns)

@@ -11,20 +11,11 @@ use Rattle.files.specs.Calls.{readFile}
 use Rattle.pump.proofs.changes.read_lent.Statement.{statement}
 use Rattle.pump.proofs.changes.read_lent.Tie as tie
 
-slice-aggregate-read-opened : tie.Need-slice-aggregate-read-opened
-slice-aggregate-read-opened c = search needs
-
-read-opened-requires : tie.Need-read-opened-requires
-read-opened-requires c κs = search needs
-
 returns : tie.Need-returns
 returns c = c .read-opened .ensures ∙ ap (λ (bytes : List ℕ). withTable (readFile bytes)) (sym (cond-false _ _ _ (lt-leb _ _ (c .before .before .if1 .taken))))
 
 slice-aggregate-read-opened-2 : tie.Need-slice-aggregate-read-opened-2
 slice-aggregate-read-opened-2 c = sym (length-take-le _ _ (c .before .if1 .left))
-
-read-opened-requires-2 : tie.Need-read-opened-requires-2
-read-opened-requires-2 c κs = search needs
 
 returns-2 : tie.Need-returns-2
 returns-2 c = c .read-opened2 .ensures ∙ ap (λ (bytes : List ℕ). withTable (readFile bytes)) (sym (cond-true _ _ _ (le-leb _ _ (c .before .before .if1 .left))))
@@ -33,9 +24,9 @@ pub read-lent-spec : {M : Type 1} → statement M
 read-lent-spec =
     tie.close
     (tie.spec
-    slice-aggregate-read-opened
-    read-opened-requires
+    (λ c. search needs)
+    (λ c κs. search needs)
     returns
     slice-aggregate-read-opened-2
-    read-opened-requires-2
+    (λ c κs. search needs)
     returns-2)

@@ -12,24 +12,12 @@ use Rattle.pump.proofs.Refusals.{stays, twice, two-refuse, third-tells}
 use Rattle.pump.proofs.changes.replace.Statement.{statement}
 use Rattle.pump.proofs.changes.replace.Tie as tie
 
-first-requires : tie.Need-first-requires
-first-requires c κs = search needs
-
 returns : tie.Need-returns
 unfolding newNumber newBytes newUsed
 returns c =
     let a = c .before .before .before .args in
     let e = two-refuse (a .refused) (a .next .number) (writeNumber (a .next .map) (a .buffer .now)) (c .before .first .ensures) (c .if1 .taken) in
     (e, stays _ _ e (c .if1 .taken), stays _ _ e (c .if1 .taken))
-
-write-opened-requires : tie.Need-write-opened-requires
-write-opened-requires c κs = search needs
-
-if-refused-requires : tie.Need-if-refused-requires
-if-refused-requires c κs = search needs
-
-same-length : tie.Need-same-length
-same-length c = search needs
 
 returns-2 : tie.Need-returns-2
 unfolding newNumber newBytes newUsed
@@ -48,4 +36,4 @@ returns-2 c =
 pub replace-spec : {M : Type 1} → statement M
 replace-spec =
     tie.close
-    (tie.spec first-requires returns write-opened-requires if-refused-requires same-length returns-2)
+    (tie.spec (λ c κs. search needs) returns (λ c κs. search needs) (λ c κs. search needs) (λ c. search needs) returns-2)

@@ -4,14 +4,8 @@ use mathlib.Core.Path.{_∙_}
 use Rattle.pump.proofs.numbers.first.Statement.{statement}
 use Rattle.pump.proofs.numbers.first.Tie as tie
 
-if-refused-requires : tie.Need-if-refused-requires
-if-refused-requires c κs = search needs
-
-if-refused-requires-2 : tie.Need-if-refused-requires-2
-if-refused-requires-2 c κs = search needs
-
 returns : tie.Need-returns
 returns c = c .if-refused2 .ensures ∙ rw (c .before .if-refused .ensures)
 
 pub first-spec : {M : Type 1} → statement M
-first-spec = tie.close (tie.spec if-refused-requires if-refused-requires-2 returns)
+first-spec = tie.close (tie.spec (λ c κs. search needs) (λ c κs. search needs) returns)

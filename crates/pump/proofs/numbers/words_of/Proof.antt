@@ -4,24 +4,6 @@ use Rattle.pump.proofs.Coordinates.{as-shape}
 use Rattle.pump.proofs.numbers.words_of.Statement.{statement}
 use Rattle.pump.proofs.numbers.words_of.Tie as tie
 
-signed-word-requires : tie.Need-signed-word-requires
-signed-word-requires c κs = search needs
-
-signed-word-requires-2 : tie.Need-signed-word-requires-2
-signed-word-requires-2 c κs = search needs
-
-signed-word-requires-3 : tie.Need-signed-word-requires-3
-signed-word-requires-3 c κs = search needs
-
-signed-word-requires-4 : tie.Need-signed-word-requires-4
-signed-word-requires-4 c κs = search needs
-
-signed-word-requires-5 : tie.Need-signed-word-requires-5
-signed-word-requires-5 c κs = search needs
-
-signed-word-requires-6 : tie.Need-signed-word-requires-6
-signed-word-requires-6 c κs = search needs
-
 returns : tie.Need-returns
 returns c =
     let t = c in
@@ -39,10 +21,10 @@ pub words-of-spec : {M : Type 1} → statement M
 words-of-spec =
     tie.close
     (tie.spec
-    signed-word-requires
-    signed-word-requires-2
-    signed-word-requires-3
-    signed-word-requires-4
-    signed-word-requires-5
-    signed-word-requires-6
+    (λ c κs. search needs)
+    (λ c κs. search needs)
+    (λ c κs. search needs)
+    (λ c κs. search needs)
+    (λ c κs. search needs)
+    (λ c κs. search needs)
     returns)

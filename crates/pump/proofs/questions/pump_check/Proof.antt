@@ -5,11 +5,8 @@ use Rattle.maps.specs.declared.Changed.{Changed}
 use Rattle.pump.proofs.questions.pump_check.Statement.{statement}
 use Rattle.pump.proofs.questions.pump_check.Tie as tie
 
-read-requires : tie.Need-read-requires
-read-requires c κs = search needs
-
 returns : tie.Need-returns
 returns c = ap (λ (r : Changed). r .number) (c .read .ensures)
 
 pub pump-check-spec : {M : Type 1} → statement M
-pump-check-spec = tie.close (tie.spec read-requires returns)
+pump-check-spec = tie.close (tie.spec (λ c κs. search needs) returns)

@@ -8,9 +8,6 @@ use Rattle.pump.specs.Border.{payloadFrom}
 use Rattle.pump.proofs.questions.pump_payload.Statement.{statement}
 use Rattle.pump.proofs.questions.pump_payload.Tie as tie
 
-payload-requires : tie.Need-payload-requires
-payload-requires c κs = search needs
-
 returns : tie.Need-returns
 unfolding payloadFrom
 returns c =
@@ -32,4 +29,4 @@ returns-2 c =
     (sym (c .if1 .left) ∙ part .ensures .1, rw e, ap length (part .ensures .0))
 
 pub pump-payload-spec : {M : Type 1} → statement M
-pump-payload-spec = tie.close (tie.spec payload-requires returns add-from returns-2)
+pump-payload-spec = tie.close (tie.spec (λ c κs. search needs) returns add-from returns-2)

@@ -12,17 +12,8 @@ use Rattle.files.proofs.ReadMaps.{read-opens}
 use Rattle.pump.proofs.questions.pump_place.Statement.{statement}
 use Rattle.pump.proofs.questions.pump_place.Tie as tie
 
-read-opened-requires : tie.Need-read-opened-requires
-read-opened-requires c κs = search needs
-
 place-requires : tie.Need-place-requires
 place-requires c κs = read-opens _ (c .read-opened .ensures)
-
-short-requires : tie.Need-short-requires
-short-requires c κs = search needs
-
-first-requires : tie.Need-first-requires
-first-requires c κs = search needs
 
 -- the entry is the one of the map that is read
 entry : (c : tie.After-place) → let a = c .before .before .before .before .args in
@@ -40,20 +31,8 @@ returns : tie.Need-returns
 unfolding placeAfter
 returns c = let e = number (c .before) in (e, stays _ _ e (c .if1 .taken))
 
-words-of-requires : tie.Need-words-of-requires
-words-of-requires c κs = search needs
-
-array-share-prefix-words : tie.Need-array-share-prefix-words
-array-share-prefix-words c = search needs
-
 slice-aggregate-put-words : tie.Need-slice-aggregate-put-words
 slice-aggregate-put-words c = let w = c .before .before .words-of in sym (length-take-le 7 (w .result) (rw (w .ensures) (omega arith)))
-
-put-words-requires : tie.Need-put-words-requires
-put-words-requires c κs = search needs
-
-same-length : tie.Need-same-length
-same-length c = search needs
 
 returns-2 : tie.Need-returns-2
 unfolding placeAfter
@@ -72,14 +51,14 @@ pub pump-place-spec : {M : Type 1} → statement M
 pump-place-spec =
     tie.close
     (tie.spec
-    read-opened-requires
+    (λ c κs. search needs)
     place-requires
-    short-requires
-    first-requires
+    (λ c κs. search needs)
+    (λ c κs. search needs)
     returns
-    words-of-requires
-    array-share-prefix-words
+    (λ c κs. search needs)
+    (λ c. search needs)
     slice-aggregate-put-words
-    put-words-requires
-    same-length
+    (λ c κs. search needs)
+    (λ c. search needs)
     returns-2)

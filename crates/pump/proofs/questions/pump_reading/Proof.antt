@@ -6,17 +6,8 @@ use Rattle.files.proofs.ReadMaps.{read-opens}
 use Rattle.pump.proofs.questions.pump_reading.Statement.{statement}
 use Rattle.pump.proofs.questions.pump_reading.Tie as tie
 
-read-opened-requires : tie.Need-read-opened-requires
-read-opened-requires c κs = search needs
-
 reading-requires : tie.Need-reading-requires
 reading-requires c κs = read-opens _ (c .read-opened .ensures)
-
-first-requires : tie.Need-first-requires
-first-requires c κs = search needs
-
-if-refused-requires : tie.Need-if-refused-requires
-if-refused-requires c κs = search needs
 
 returns : tie.Need-returns
 unfolding readingNumber readingLitres
@@ -33,8 +24,8 @@ pub pump-reading-spec : {M : Type 1} → statement M
 pump-reading-spec =
     tie.close
     (tie.spec
-    read-opened-requires
+    (λ c κs. search needs)
     reading-requires
-    first-requires
-    if-refused-requires
+    (λ c κs. search needs)
+    (λ c κs. search needs)
     returns)

@@ -6,23 +6,8 @@ use Rattle.files.proofs.ReadMaps.{read-opens}
 use Rattle.pump.proofs.questions.pump_same.Statement.{statement}
 use Rattle.pump.proofs.questions.pump_same.Tie as tie
 
-read-opened-requires : tie.Need-read-opened-requires
-read-opened-requires c κs = search needs
-
-read-opened-requires-2 : tie.Need-read-opened-requires-2
-read-opened-requires-2 c κs = search needs
-
 same-requires : tie.Need-same-requires
 same-requires c κs = (read-opens _ (c .before .read-opened .ensures), read-opens _ (c .read-opened2 .ensures))
-
-first-requires : tie.Need-first-requires
-first-requires c κs = search needs
-
-one-or-none-requires : tie.Need-one-or-none-requires
-one-or-none-requires c κs = search needs
-
-if-refused-requires : tie.Need-if-refused-requires
-if-refused-requires c κs = search needs
 
 returns : tie.Need-returns
 unfolding sameNumber sameYes
@@ -41,10 +26,10 @@ pub pump-same-spec : {M : Type 1} → statement M
 pump-same-spec =
     tie.close
     (tie.spec
-    read-opened-requires
-    read-opened-requires-2
+    (λ c κs. search needs)
+    (λ c κs. search needs)
     same-requires
-    first-requires
-    one-or-none-requires
-    if-refused-requires
+    (λ c κs. search needs)
+    (λ c κs. search needs)
+    (λ c κs. search needs)
     returns)

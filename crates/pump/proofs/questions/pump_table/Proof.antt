@@ -14,9 +14,6 @@ use Rattle.pump.proofs.Refusals.{stays, gives}
 use Rattle.pump.proofs.questions.pump_table.Statement.{statement}
 use Rattle.pump.proofs.questions.pump_table.Tie as tie
 
-read-opened-requires : tie.Need-read-opened-requires
-read-opened-requires c κs = search needs
-
 returns : tie.Need-returns
 unfolding tableNumber tableAfter tableCount
 returns c =
@@ -27,9 +24,6 @@ returns c =
 
 list-opened-requires : tie.Need-list-opened-requires
 list-opened-requires c κs = read-opens _ (c .before .before .before .read-opened .ensures)
-
-same-length : tie.Need-same-length
-same-length c = search needs
 
 returns-2 : tie.Need-returns-2
 unfolding tableNumber tableAfter tableCount textWritten textAfter
@@ -49,4 +43,4 @@ returns-2 c =
 
 pub pump-table-spec : {M : Type 1} → statement M
 pump-table-spec =
-    tie.close (tie.spec read-opened-requires returns list-opened-requires same-length returns-2)
+    tie.close (tie.spec (λ c κs. search needs) returns list-opened-requires (λ c. search needs) returns-2)

@@ -10,17 +10,8 @@ use Rattle.files.proofs.ReadMaps.{read-opens}
 use Rattle.pump.proofs.questions.pump_weights.Statement.{statement}
 use Rattle.pump.proofs.questions.pump_weights.Tie as tie
 
-read-opened-requires : tie.Need-read-opened-requires
-read-opened-requires c κs = search needs
-
 weights-requires : tie.Need-weights-requires
 weights-requires c κs = read-opens _ (c .read-opened .ensures)
-
-short-requires : tie.Need-short-requires
-short-requires c κs = search needs
-
-first-requires : tie.Need-first-requires
-first-requires c κs = search needs
 
 -- the weights are those of the map that is read
 four : (c : tie.After-weights) → let a = c .before .before .before .before .args in
@@ -45,9 +36,6 @@ put-weights-requires c κs =
     let asked = told .before .before in
     enough (asked .before .read-opened .result .number) (asked .weights .result .number) _ _ 64 (told .before .short .ensures) (sym (told .first .ensures) ∙ yes .if1 .left)
 
-same-length : tie.Need-same-length
-same-length c = search needs
-
 returns-2 : tie.Need-returns-2
 unfolding weightsAfter
 returns-2 c =
@@ -61,11 +49,11 @@ pub pump-weights-spec : {M : Type 1} → statement M
 pump-weights-spec =
     tie.close
     (tie.spec
-    read-opened-requires
+    (λ c κs. search needs)
     weights-requires
-    short-requires
-    first-requires
+    (λ c κs. search needs)
+    (λ c κs. search needs)
     returns
     put-weights-requires
-    same-length
+    (λ c. search needs)
     returns-2)
