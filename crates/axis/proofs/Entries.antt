@@ -1,4 +1,4 @@
--- The first n entries of a list, one by one, as a loop takes them: those that are left from the i-th on.
+-- Entries of a list one by one, as a loop takes them, and lists that agree entry by entry.
 use Prim.Native.Nat.{ℕ, suc, _+_, _≤_, _<_}
 use native.Mathlib.Omega.{arith}
 use native.Mathlib.Numerals.{add-one}

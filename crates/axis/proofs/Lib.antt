@@ -3,7 +3,7 @@ pub mod Members
 pub mod Entries
 pub mod Distinct
 pub mod Counts
-pub mod Filling
+pub mod Padding
 pub mod Triples
 pub mod Nearest
 pub mod Parts

@@ -1,4 +1,4 @@
--- What is in a list, and what stands at its places.
+-- What is in a list and what stands at its places; lists joined from one list for each entry.
 use Prim.Native.Nat.{ℕ, zero, suc, _+_, _<_}
 use native.Mathlib.Omega.{arith}
 use native.Mathlib.Numerals.{add-one}
@@ -19,7 +19,6 @@ module _ {ℓ κ} {A : Type ℓ} {B : Type κ} where
   map-mem f [] y m = absurd (List·Memᴰ·not-nil m)
   map-mem f (x ∷ xs) y m =
       ⊎-elim (λ q. (x, List·Memᴰ·head refl, q)) (λ k. let r = map-mem f xs y k in (r .0, List·Memᴰ·tail (r .1), r .2)) (List·Memᴰ·cases-cons m)
-
 
 -- Lists by place: what stands at a place is in the list,
 pub entry {ℓ} : {A : Type ℓ} (xs : List A) (i : ℕ) (d : A) → i < length xs → List·Memᴰ (getD xs i d) xs

@@ -2,8 +2,8 @@
 //
 // A knot is a line's position, kept shifted by one: knot k is document 01's coordinate k - 1, so that its -1 is 0.
 
-pub mod shares;
 pub mod knots;
+pub mod shares;
 pub mod supports;
 
 // One axis of a blend: its three knots, rising.

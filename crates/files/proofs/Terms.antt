@@ -1,4 +1,4 @@
--- The terms of a table: its blends with the values of an array.
+-- The terms of a table, its blends with the values of an array; a file put part by part.
 use Prim.Native.Nat.{ℕ, zero, suc, _+_, _*_, _≤_, _<_}
 use native.Mathlib.Omega.{arith}
 use mathlib.Core.Path.{_≡_, refl, sym, _∙_}

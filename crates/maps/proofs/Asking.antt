@@ -72,8 +72,8 @@ module _ {m : Map} {t : Table} (g : GoodMap m t) where
       reading-in = rw (live-blends g, live-values g) (sym (cond-false _ _ _ (passed g) ∙ cond-true _ _ _ e))
 
       pub weights-in : record {
-          number = 0;
-          entries = map (weightOver (m .lines .w) (m .lines .h) u v) (only (overSquare (corner (m .lines .w) u + 1) (corner (m .lines .h) v + 1)) (blendsOf t));
-        } ≡ weights m u v
+        number = 0;
+        entries = map (weightOver (m .lines .w) (m .lines .h) u v) (only (overSquare (corner (m .lines .w) u + 1) (corner (m .lines .h) v + 1)) (blendsOf t));
+      } ≡ weights m u v
       unfolding weights plain
       weights-in = rw (live-blends g) (sym (cond-false _ _ _ (passed g) ∙ cond-true _ _ _ e))

@@ -10,7 +10,7 @@ use lib.ListN.{length, take, drop, replicate, length-append, length-set, length-
 use lib.Seq.{length-take-le, take-append-seam, drop-append-seam}
 use Rattle.axis.specs.Range.{all}
 use Rattle.axis.proofs.Tests.{and-both, and-of, all-append}
-use Rattle.axis.proofs.Filling.{padding-passes, padded}
+use Rattle.axis.proofs.Padding.{padding-passes, padded}
 use Rattle.mesh.specs.declared.Split.{Split}
 use Rattle.mesh.specs.declared.Lines.{Lines}
 use Rattle.mesh.specs.Lines.{Layout, layout, layoutOf, splitsOf, allowedSide, allowed, inRange}

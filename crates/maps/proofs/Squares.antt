@@ -2,26 +2,19 @@
 use Prim.Native.Nat.{ℕ, _+_, _<_}
 use native.Mathlib.Omega.{arith}
 use mathlib.Core.Path.{_≡_}
-use mathlib.Core.Logic.{⊎-elim}
-use mathlib.Core.Bool.{Bool, true}
-use mathlib.Core.List.{List, [], _∷_, List·Memᴰ}
+use mathlib.Core.Bool.{true}
+use mathlib.Core.List.{List·Memᴰ}
 use Rattle.mesh.specs.declared.Blend.{Blend}
-use Rattle.axis.specs.Range.{only, Distinct}
+use Rattle.axis.specs.Range.{only}
 use Rattle.mesh.specs.Sound.{overSquare}
-use Rattle.axis.proofs.Tests.{either, only-mem, mem-only}
+use Rattle.axis.proofs.Tests.{only-mem, mem-only}
+use Rattle.axis.proofs.Distinct.{only-distinct}
 use Rattle.mesh.proofs.Weights.{weight-den}
 use Rattle.mesh.proofs.SoundMaps.{live-distinct, weights-add-up, four-positive}
 use Rattle.maps.specs.Plain.{Plain, blends}
 use Rattle.mesh.specs.Lines.{meshOf}
 use Rattle.maps.specs.Demand.{weightThere, Inside, FourIn, AddUp}
 use Rattle.maps.proofs.Readings.{Valued, blends-proper}
-
--- some of different blends are different
-only-apart : (test : Blend → Bool) (bs : List Blend) → Distinct bs → Distinct (only test bs)
-only-apart test [] d = tt
-only-apart test (B ∷ bs) d =
-    ⊎-elim (λ e. rw e (λ m. d .0 (only-mem test bs B m .0), only-apart test bs (d .1))) (λ e. rw e (only-apart test bs (d .1)))
-    (either (test B))
 
 module _ (P : Plain) (valued : Valued P) where
   pub valued-four : (x y : ℕ) → x < P .lines .w → y < P .lines .h → FourIn (blends P) x y
@@ -34,7 +27,7 @@ module _ (P : Plain) (valued : Valued P) where
       record {
         four = only over (blends P);
         count = f .0;
-        apart = only-apart over (blends P) (live-distinct w h (valued .wide .0) (valued .tall .0) (meshOf (P .lines)));
+        apart = only-distinct over (blends P) (live-distinct w h (valued .wide .0) (valued .tall .0) (meshOf (P .lines)));
         of-these = λ B m. some B m .0;
         positive = λ B m p q d i.
             (f .1 B (some B m .0) p q d (i .left) (i .right) (i .bottom) (i .top) .0 (some B m .1), den B (some B m .0) p q d i);

@@ -1,7 +1,7 @@
 // Values across a split: old anchors keep theirs, each new one takes the old map's reading there.
 use crate::values::reading_of;
-use mesh::Table;
 use axis::knots::wide;
+use mesh::Table;
 use mesh::knots;
 ghost use mathlib.Core.Path.{_≡_};
 ghost use mathlib.Core.Bool.{true};

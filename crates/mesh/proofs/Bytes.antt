@@ -1,4 +1,4 @@
--- What the bytes of a mesh say.
+-- What the bytes of a mesh and the marks at its knots say.
 use Prim.Native.Nat.{ℕ, zero, suc, _+_, _≤_, _<_}
 use native.Mathlib.Omega.{arith}
 use mathlib.Core.Path.{_≡_, refl, sym, _∙_}

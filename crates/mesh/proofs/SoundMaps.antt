@@ -1,4 +1,4 @@
--- The theorems on the live blends of a map, over the definitions of `specs/` alone. docs/READING.md sets them beside document 01.
+-- The theorems on the live blends of a map. docs/READING.md sets them beside document 01.
 use Prim.Native.Nat.{ℕ, _+_, _*_, _≤_, _<_}
 use native.Mathlib.Omega.{arith}
 use mathlib.Core.Path.{_≡_}

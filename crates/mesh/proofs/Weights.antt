@@ -1,4 +1,5 @@
--- Weights of blends: what they are at anchors and over unit squares, that blends are reproduced by what is left of them, and that live blends add up to one.
+-- Weights of blends: what they are at anchors and over unit squares; blends are reproduced by what is left of them, and all that is left of the first four
+-- adds up to one.
 use Prim.Native.Nat.{ℕ, zero, suc, _+_, _*_, _<_, _≤_}
 use native.Mathlib.Omega.{arith}
 use native.Mathlib.Nat.{mul-pos, eq-of-mul-eq-mul-left, one-mul}

@@ -73,10 +73,7 @@ pub fn live(lines: Lines) -> Found
     if !full(t, lines.w, lines.h) {
         return unsound;
     }
-    Found {
-        ok: true,
-        table: t,
-    }
+    Found { ok: true, table: t }
 }
 
 // Whether the lines cut some blend of the table.

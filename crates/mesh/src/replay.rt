@@ -1,8 +1,8 @@
 // The splits of lines, taken in order as exact splits. The mesh, the live blends by their anchors and their table are carried from
 // split to split, and a split touches only the blends that its own line cuts.
 use crate::Blend;
-use crate::Lines;
 use crate::Found;
+use crate::Lines;
 use crate::Split;
 use crate::Table;
 use crate::cut::cut_across;

@@ -1,7 +1,7 @@
 // Tables of blends: the empty one, the first four, and tests of a whole table.
 use crate::Blend;
-use crate::Lines;
 use crate::Found;
+use crate::Lines;
 use crate::Table;
 use crate::knots::unpack;
 use crate::steps::allowed_side;
