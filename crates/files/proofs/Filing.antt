@@ -10,10 +10,10 @@ use lib.ListN.{length}
 use Rattle.mesh.specs.declared.Table.{Table}
 use Rattle.mesh.specs.Sound.{proper, blendsOf}
 use Rattle.axis.proofs.Tests.{all-at}
-use Rattle.mesh.proofs.Cutting.{proper-of}
+use Rattle.mesh.proofs.BlendTables.{proper-largest, table-blends, table-count}
 use Rattle.maps.specs.declared.Map.{Map}
 use Rattle.maps.specs.Record.{plain, good}
-use Rattle.maps.proofs.OneSplitMore.{table-blends, table-count, table-proper, splits-length}
+use Rattle.maps.proofs.OneSplitMore.{table-proper, splits-length}
 use Rattle.maps.proofs.Changing.{GoodMap, few, live-table, live-count}
 use Rattle.files.specs.declared.Written.{Written}
 use Rattle.files.specs.File.{fileOf, put}
@@ -39,7 +39,7 @@ ready {m} {t} g =
       listed =
           record {
             few = few g;
-            rise = λ B mem. proper-of (m .lines .w) (m .lines .h) B (f .across .1) (f .up .1)
+            rise = λ B mem. proper-largest (m .lines .w) (m .lines .h) B (f .across .1) (f .up .1)
                 (all-at (proper (m .lines .w) (m .lines .h)) (blendsOf t) (table-proper (g .has-table)) B mem);
           };
       is-file = rw (live-table g, table-blends, table-count);

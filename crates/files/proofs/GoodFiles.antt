@@ -11,7 +11,7 @@ use lib.ListN.{length, drop, take-append-drop}
 use Rattle.mesh.specs.declared.Split.{Split}
 use Rattle.mesh.specs.Lines.{Direction, upright, level, number, side, other, allowedSide, inRange, layoutOf}
 use Rattle.axis.proofs.Tests.{either, and-both, all-at}
-use Rattle.mesh.proofs.Drawing.{in-range-says}
+use Rattle.mesh.proofs.Ranges.{in-range-says}
 use Rattle.maps.specs.declared.Map.{Map}
 use Rattle.maps.specs.Plain.{Plain, blends}
 use Rattle.maps.specs.Record.{recordOf, plain, good}

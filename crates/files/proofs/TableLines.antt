@@ -13,7 +13,7 @@ use Rattle.axis.specs.declared.Triple.{Triple}
 use Rattle.mesh.specs.Weight.{Term}
 use Rattle.axis.specs.Range.{joined}
 use Rattle.axis.specs.Triple.{Rises}
-use Rattle.mesh.specs.Bytes.{Proper}
+use Rattle.mesh.specs.Sound.{Proper}
 use Rattle.axis.proofs.Tests.{either}
 use Rattle.files.specs.Inner.{Puts}
 use Rattle.files.specs.Listing.{digits, spaced, ended, knots, line}

@@ -2,23 +2,22 @@
 use Prim.Native.Nat.{ℕ, _≤_, _<_}
 use native.Mathlib.Omega.{arith}
 use native.Mathlib.Nat.{zero-add}
-use mathlib.Core.Path.{_≡_, refl, sym, ap, _∙_}
+use mathlib.Core.Path.{_≡_, ap, _∙_}
 use mathlib.Core.Logic.{⊎-elim}
-use mathlib.Core.Bool.{true, false, _&&_}
+use mathlib.Core.Bool.{true, false}
 use mathlib.Core.List.{List, _++_}
 use borrow.Author.Tests.{lt-ltb, le-ltb, eq-eqb, eqb-true}
 use lib.Dec.{eqb, ltb}
 use lib.ListN.{length, length-append}
 use Rattle.axis.specs.Range.{joined}
 use Rattle.mesh.specs.declared.Table.{Table}
-use Rattle.axis.proofs.Tests.{either, and-both, false-of}
+use Rattle.axis.proofs.Tests.{either, false-of}
 use Rattle.maps.specs.declared.Map.{Map}
 use Rattle.maps.specs.declared.Changed.{Changed}
 use Rattle.maps.specs.Record.{plain}
-use Rattle.maps.proofs.OneSplitMore.{table-blends, table-count}
+use Rattle.mesh.proofs.BlendTables.{table-blends, table-count}
 use Rattle.maps.proofs.Changing.{GoodMap, live-table}
 use Rattle.files.specs.declared.Written.{Written}
-use Rattle.files.specs.File.{fileOf, put}
 use Rattle.files.specs.Calls.{readFile}
 use Rattle.files.specs.Inner.{Puts, terms}
 use Rattle.files.specs.Listing.{ended, line, tableText, refusal, listing, textWritten, textAfter}

@@ -7,9 +7,8 @@ use lib.ListN.{length, getD, take, length-append}
 use lib.Seq.{length-take-le, getD-take}
 use Rattle.mesh.specs.declared.Blend.{Blend}
 use Rattle.mesh.specs.declared.Table.{Table}
-use Rattle.mesh.specs.Sound.{none, blendsOf}
+use Rattle.mesh.specs.Sound.{none, blendsOf, Proper}
 use Rattle.mesh.specs.Weight.{Term}
-use Rattle.mesh.specs.Bytes.{Proper}
 use Rattle.axis.specs.Range.{joined}
 use Rattle.maps.specs.declared.Map.{Map}
 use Rattle.maps.specs.Values.{paired}

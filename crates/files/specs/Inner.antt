@@ -6,8 +6,7 @@ use lib.ListN.{length, take}
 use Rattle.axis.specs.Limits.{mostBlends}
 use Rattle.mesh.specs.declared.Table.{Table}
 use Rattle.axis.specs.Range.{joined}
-use Rattle.mesh.specs.Sound.{blendsOf}
-use Rattle.mesh.specs.Bytes.{AllProper}
+use Rattle.mesh.specs.Sound.{blendsOf, AllProper}
 use Rattle.mesh.specs.Weight.{Term}
 use Rattle.maps.specs.declared.Map.{Map}
 use Rattle.maps.specs.Values.{paired}

@@ -18,8 +18,8 @@ use Rattle.mesh.specs.declared.Blend.{Blend}
 use Rattle.mesh.specs.declared.Table.{Table}
 use Rattle.mesh.specs.Weight.{weight, value}
 use Rattle.mesh.specs.Sound.{overSquare, proper, blendsOf}
-use Rattle.mesh.proofs.Places.{proper-facts}
-use Rattle.mesh.proofs.Cutting.{proper-most}
+use Rattle.mesh.proofs.Cuts.{proper-facts}
+use Rattle.mesh.proofs.BlendTables.{proper-most}
 use Rattle.mesh.proofs.Weights.{weight-den}
 use Rattle.maps.specs.declared.values.Entry.{Entry}
 use Rattle.maps.specs.declared.values.Four.{Four}

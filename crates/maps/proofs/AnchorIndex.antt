@@ -13,13 +13,13 @@ use lib.ListN.{length, getD, set, take, replicate, length-set, length-map, lengt
 use lib.Seq.{getD-set-same, getD-set-other, getD-take, take-length, take-suc, length-take-le, set-at}
 use Rattle.mesh.specs.declared.Blend.{Blend}
 use Rattle.mesh.specs.declared.Table.{Table}
-use Rattle.mesh.specs.Blends.{anchored}
+use Rattle.mesh.specs.Blends.{anchored, at, place}
 use Rattle.axis.specs.Range.{all, Distinct}
-use Rattle.mesh.specs.Sound.{none, proper, sound, table, blendsOf}
-use Rattle.mesh.specs.Bytes.{at, place}
+use Rattle.mesh.specs.Sound.{none, proper, sound, blendsOf}
 use Rattle.axis.proofs.Tests.{either, all-of, and-of, true-not-false, cond-true, cond-false}
 use Rattle.mesh.proofs.TableOrder.{anchored-at}
-use Rattle.mesh.proofs.Places.{proper-facts, at-inj}
+use Rattle.mesh.proofs.Cuts.{proper-facts}
+use Rattle.mesh.proofs.Places.{at-inj}
 use Rattle.mesh.proofs.Live.{AllProper}
 use Rattle.mesh.proofs.Ascending.{OwnAnchors}
 use Rattle.mesh.proofs.SoundMaps.{live-proper, live-distinct, own-anchors}
@@ -29,7 +29,7 @@ use Rattle.mesh.specs.Lines.{meshOf}
 use Rattle.maps.specs.Inner.{anchorIndex, InTable}
 use Rattle.axis.proofs.Members.{entry, placed}
 use Rattle.maps.proofs.Readings.{Valued, place-found}
-use Rattle.maps.proofs.OneSplitMore.{table-blends, table-count}
+use Rattle.mesh.proofs.BlendTables.{table-blends, table-count}
 
 -- anchors on knots, where each has a place of its own in the index
 pub record OnKnots (B : Blend) : Type 0 where

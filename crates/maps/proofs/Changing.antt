@@ -12,7 +12,7 @@ use lib.Seq.{getD-take, set-append-seam, set-append-left}
 use mir.Val.{Val}
 use denote.Shadow.{shadow}
 use denote.Struct.Declared.{row}
-use Rattle.mesh.proofs.Arrays.{lines-full}
+use Rattle.mesh.proofs.BlendTables.{lines-full, table-count, table-blends}
 use Rattle.axis.specs.Range.{all}
 use Rattle.axis.proofs.Members.{entry}
 use Rattle.axis.proofs.Tests.{all-of, either, cond-true, cond-false}
@@ -22,7 +22,7 @@ use Rattle.mesh.specs.Lines.{layoutOf, meshOf}
 use Rattle.mesh.specs.Sound.{none, proper, table, blendsOf}
 use Rattle.mesh.specs.Splits.{liveOf, withLine, given, exactNumber, chosen}
 use Rattle.mesh.proofs.SoundMaps.{live-proper}
-use Rattle.mesh.proofs.Places.{proper-facts}
+use Rattle.mesh.proofs.Cuts.{proper-facts}
 use Rattle.mesh.proofs.AtMost.{at-most}
 use Rattle.maps.specs.declared.Map.{Map}
 use Rattle.maps.specs.declared.Changed.{Changed}
@@ -32,14 +32,14 @@ use Rattle.maps.specs.Plain.{Plain, blends}
 use Rattle.maps.specs.Values.{placeOf, carried, drawn}
 use Rattle.maps.specs.Record.{noSplit, linesOf, recordOf, plain, good}
 use Rattle.maps.specs.Calls.{changed, drawnFirst, setPlain, setValue, exactSplit, lengthenedSplit}
-use Rattle.maps.specs.Opened.{tableOf, withTable, opened, IsTable, Opens}
-use Rattle.maps.specs.Inner.{withSplit, HasTable, InTable, refusedStep, drawnStep, exactStep, found, lengthenedStep, carriedArray, Drawable, drawnBy}
+use Rattle.maps.specs.Opened.{withTable, opened, IsTable, Opens}
+use Rattle.maps.specs.Inner.{withSplit, HasTable, InTable, exactStep, found, lengthenedStep, carriedArray, Drawable, drawnBy}
 use Rattle.maps.proofs.Map.{the-type}
 use Rattle.maps.proofs.opened.Opened as opened
 use Rattle.maps.proofs.Readings.{place-found}
 use Rattle.maps.proofs.Opening.{good-table}
 use Rattle.maps.proofs.GoodRecords.{Holds, record-good, GoodFacts, good-facts, set-holds, drawn-holds}
-use Rattle.maps.proofs.OneSplitMore.{lives-few, splits-length, table-few, table-lives, table-count, table-blends, exact-says}
+use Rattle.maps.proofs.OneSplitMore.{splits-length, table-few, exact-says}
 use Rattle.maps.proofs.ChosenLine.{chosen-exact}
 
 -- a list padded to a length: with one entry more, and with one of its entries set

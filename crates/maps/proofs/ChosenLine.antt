@@ -11,13 +11,12 @@ use lib.ListN.{length, take}
 use Rattle.mesh.specs.declared.Split.{Split}
 use Rattle.mesh.specs.declared.Blend.{Blend}
 use Rattle.axis.specs.Range.{each, any, only}
-use Rattle.mesh.specs.Lines.{Layout, layoutOf, Mesh, Direction, upright, level, number, side, other, mesh, freshMesh, draws, inRange, start, end, shares, ended, meshOf}
+use Rattle.mesh.specs.Lines.{Layout, Mesh, Direction, upright, level, number, side, other, mesh, freshMesh, draws, inRange, start, end, shares, ended, meshOf}
 use Rattle.mesh.specs.Blends.{cutter, isCut}
 use Rattle.mesh.specs.Order.{Coarser}
 use Rattle.axis.proofs.Tests.{either, true-not-false, and-both, and-of, or-either, or-left, or-right, any-at, any-of, only-mem, each-mem}
-use Rattle.mesh.proofs.Cuts.{RiseB, cutter-none, cutter-cuts}
+use Rattle.mesh.proofs.Cuts.{RiseB, cutter-none, cutter-cuts, proper-rises}
 use Rattle.mesh.proofs.Order.{finer-cuts}
-use Rattle.mesh.proofs.Live.{proper-rises}
 use Rattle.mesh.proofs.SoundMaps.{live-proper}
 use Rattle.mesh.proofs.Refining.{some-line}
 use Rattle.mesh.specs.Splits.{liveOf, withLine, soundWith, given, exactNumber, reaching, run, containing, candidate, chosen}

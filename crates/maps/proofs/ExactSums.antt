@@ -1,13 +1,13 @@
 -- Exact readings: sums of values times weights, multiplied out to whole numbers, and what they round down to.
 use Prim.Native.Nat.{ℕ, zero, suc, _+_, _*_, _/_, _≤_, _<_}
 use native.Mathlib.Omega.{arith}
-use native.Mathlib.Nat.{mul-comm, mul-pos, mul-div-mul-right, eq-of-mul-eq-mul-right, div-mul-le-self, lt-div-mul-add, le-div-iff-mul-le, div-lt-iff-lt-mul, mul-le-mul-right, le-of-mul-le-mul-left}
+use native.Mathlib.Nat.{mul-comm, mul-pos, mul-div-mul-right, div-mul-le-self, lt-div-mul-add, le-div-iff-mul-le, div-lt-iff-lt-mul, mul-le-mul-right, le-of-mul-le-mul-left}
 use mathlib.Core.Path.{_≡_, refl, sym, ap, subst, _∙_}
 use mathlib.Core.Bool.{true}
-use mathlib.Core.Logic.{_⊎_, inl, inr, ⊎-elim}
+use mathlib.Core.Logic.{_⊎_, ⊎-elim}
 use mathlib.Core.List.{List, [], _∷_, map, List·Memᴰ, List·Memᴰ·cases-cons}
 use mathlib.Core.List.List·Memᴰ.{List·Memᴰ·head, List·Memᴰ·tail}
-use lib.ListN.{length, getD, set}
+use lib.ListN.{length, getD}
 use Rattle.mesh.specs.declared.Blend.{Blend}
 use Rattle.axis.specs.Fraction.{Fraction, total}
 use Rattle.mesh.specs.Lines.{Mesh}
@@ -18,7 +18,8 @@ use Rattle.axis.proofs.Tests.{and-both}
 use Rattle.axis.specs.Range.{Distinct}
 use Rattle.mesh.proofs.Order.{cut-or-not}
 use Rattle.axis.proofs.Scale.{Multiple, common, Scaled, scaled-total, total-positive, sum, scaled-nothing, scaled-whole}
-use Rattle.mesh.proofs.Live.{proper-rises, AllProper}
+use Rattle.mesh.proofs.Cuts.{proper-rises}
+use Rattle.mesh.proofs.Live.{AllProper}
 use Rattle.mesh.proofs.Weights.{scaledWeight, scaled-weight, scaled-value, weight-den, Covered, terms-reproduced}
 use Rattle.mesh.proofs.SoundMaps.{live-proper, live-distinct, weights-add-up, one-at-anchor, none-at-anchor}
 use Rattle.maps.specs.Values.{paired, rounded, readingAt}

@@ -13,7 +13,7 @@ use Rattle.mesh.specs.declared.Split.{Split}
 use Rattle.mesh.specs.declared.Blend.{Blend}
 use Rattle.mesh.specs.Sound.{none}
 use Rattle.axis.proofs.Tests.{either, and-both, and-of}
-use Rattle.mesh.proofs.Places.{proper-facts}
+use Rattle.mesh.proofs.Cuts.{proper-facts}
 use Rattle.maps.specs.declared.Reading.{Reading}
 use Rattle.maps.specs.Plain.{Plain, blends}
 use Rattle.maps.specs.Values.{readingAt, inDomain, drawn}

@@ -3,12 +3,11 @@ use Prim.Native.Nat.{ℕ, zero, suc, _+_, _≤_, _<_}
 use native.Mathlib.Omega.{arith}
 use native.Mathlib.Numerals.{add-one}
 use mathlib.Core.Path.{_≡_, refl, sym, ap, _∙_}
-use mathlib.Core.Logic.{⊎-elim}
 use mathlib.Core.Bool.{Bool, true, false, cond, _&&_, not}
-use mathlib.Core.List.{List, [], _∷_, _++_, List·Memᴰ·append-cases, List·Memᴰ·eq-of-singleton}
+use mathlib.Core.List.{[], _∷_, _++_}
 use borrow.Author.Tests.{leb-true, leb-false, le-leb, ne-eqb, not-false}
 use lib.Dec.{leb, eqb}
-use lib.ListN.{length, replicate, length-append}
+use lib.ListN.{length, length-append}
 use lib.Seq.{take-suc-set, length-take-le}
 use Rattle.mesh.specs.declared.Split.{Split}
 use Rattle.mesh.specs.declared.Lines.{Lines}
@@ -18,9 +17,9 @@ use Rattle.axis.specs.Range.{all, any}
 use Rattle.mesh.specs.Lines.{Layout, layout, layoutOf, mesh, splitsOf, allowed, allowedSide, inRange, shares, ended, meshOf}
 use Rattle.mesh.specs.Blends.{isCut, live, firstFour}
 use Rattle.mesh.specs.Sound.{table, proper, blendsOf, full, fitted, refined, someCut}
-use Rattle.axis.proofs.Tests.{and-both, and-of, all-at, all-of, all-append}
-use Rattle.mesh.proofs.Drawing.{Allowed, allowed-says}
-pub use Rattle.mesh.proofs.Refining.{table-blends, table-count}
+use Rattle.axis.proofs.Tests.{and-both, and-of, all-of, all-append}
+use Rattle.mesh.proofs.Ranges.{Allowed, allowed-says}
+pub use Rattle.mesh.proofs.BlendTables.{table-blends, table-count}
 use Rattle.mesh.proofs.Refining.{Ranged, is-cut, is-refined}
 use Rattle.mesh.proofs.Fitted.{fits-held, unfit-unsound, full-sound}
 use Rattle.mesh.proofs.Live.{finer-fitted}

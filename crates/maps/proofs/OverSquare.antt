@@ -14,12 +14,11 @@ use Rattle.axis.specs.Triple.{hat, spans}
 use Rattle.axis.specs.Fraction.{Equal}
 use Rattle.mesh.specs.Weight.{weight}
 use Rattle.axis.specs.Range.{every, all, only}
-use Rattle.mesh.specs.Sound.{overSquare, proper, blendsOf, none, sound, fourEverywhere, noneNested}
+use Rattle.mesh.specs.Sound.{overSquare, proper, blendsOf, none, sound, fourEverywhere, noneNested, ProperIn}
 use Rattle.mesh.specs.declared.Table.{Table}
 use Rattle.mesh.specs.declared.Blend.{Blend}
 use Rattle.axis.proofs.Tests.{either, and-both, and-fails, every-at, all-at}
-use Rattle.mesh.proofs.Places.{ProperIn}
-use Rattle.mesh.proofs.Cutting.{proper-most}
+use Rattle.mesh.proofs.BlendTables.{proper-most}
 use Rattle.axis.proofs.Entries.{left-mem}
 use Rattle.axis.specs.Gap.{gap, share, corner}
 use Rattle.axis.proofs.Sums.{times-equal}

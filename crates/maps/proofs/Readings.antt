@@ -20,8 +20,8 @@ use Rattle.mesh.specs.Order.{Coarser}
 use Rattle.mesh.specs.Sound.{none, proper, sound}
 use Rattle.axis.proofs.Tests.{either, and-both, or-either, or-left, or-right, any-at, any-of, cond-true, cond-false}
 use Rattle.mesh.proofs.Order.{finer-back, keeps-anchor}
-use Rattle.mesh.proofs.Places.{proper-facts}
-use Rattle.mesh.proofs.Live.{AllProper, proper-rises}
+use Rattle.mesh.proofs.Cuts.{proper-facts, proper-rises}
+use Rattle.mesh.proofs.Live.{AllProper}
 use Rattle.axis.proofs.Members.{map-mem, entry, placed, entry-map, set-mem}
 use Rattle.axis.proofs.Scale.{sum, sum-same}
 use Rattle.mesh.proofs.Weights.{Covered}

@@ -18,7 +18,7 @@ use Rattle.mesh.specs.Blends.{anchored}
 use Rattle.axis.proofs.Tests.{either, and-both, and-of, cond-true, cond-false}
 use Rattle.axis.specs.Range.{Distinct}
 use Rattle.mesh.proofs.Ascending.{OwnAnchors}
-use Rattle.mesh.proofs.Places.{proper-facts}
+use Rattle.mesh.proofs.Cuts.{proper-facts}
 use Rattle.mesh.proofs.SoundMaps.{live-distinct, own-anchors}
 use Rattle.axis.proofs.Members.{map-mem}
 use Rattle.maps.specs.declared.Map.{Map}
@@ -26,7 +26,7 @@ use Rattle.maps.specs.Plain.{Plain, blends}
 use Rattle.mesh.specs.Lines.{meshOf}
 use Rattle.maps.specs.Values.{placeOf, drawn}
 use Rattle.maps.specs.Calls.{setPlain}
-use Rattle.mesh.specs.Splits.{given, exactNumber, withLine, accepted}
+use Rattle.mesh.specs.Splits.{exactNumber, withLine, accepted}
 use Rattle.maps.specs.Record.{recordOf}
 use Rattle.maps.specs.Histories.{Call, set, exact, number, Outcome, outcome, byLibrary, byMachine, outcomes, ending}
 use Rattle.maps.specs.Demand.{recorded, linesOf}

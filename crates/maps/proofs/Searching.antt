@@ -14,9 +14,9 @@ use Rattle.mesh.specs.declared.Table.{Table}
 use Rattle.axis.specs.Range.{each, only}
 use Rattle.mesh.specs.Lines.{Layout, layoutOf, upright, level, inRange, shares, ended, fits, meshOf}
 use Rattle.axis.proofs.Tests.{either, and-both, and-of, false-of, cond-true, cond-false, each-turn, each-none}
-use Rattle.mesh.proofs.Drawing.{in-range-says}
+use Rattle.mesh.proofs.Ranges.{in-range-says}
 use Rattle.maps.specs.declared.splits.Step.{Step}
-use Rattle.mesh.specs.Splits.{liveOf, given, soundWith, reaching, run, containing, candidate, chosen}
+use Rattle.mesh.specs.Splits.{given, soundWith, reaching, run, containing, candidate, chosen}
 use Rattle.maps.specs.Inner.{HasTable, refusedStep, judged, found}
 use Rattle.maps.proofs.OneSplitMore.{Given, given-says, table-sides, splits-length}
 

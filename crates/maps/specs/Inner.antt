@@ -1,7 +1,7 @@
 -- What the maps' own functions work on. Only contracts of functions that the crate keeps to itself cite this file.
 use Prim.Native.Nat.{ℕ, _+_, _-_, _*_, _^_, _≤_, _<_}
 use mathlib.Core.Path.{_≡_}
-use mathlib.Core.Bool.{Bool, true, false, cond}
+use mathlib.Core.Bool.{Bool, true, cond}
 use mathlib.Core.List.{List, [], _∷_, _++_, map}
 use lib.Dec.{eqb}
 use lib.ListN.{length, take, set, replicate}
@@ -13,7 +13,7 @@ use Rattle.mesh.specs.declared.Table.{Table}
 use Rattle.mesh.specs.declared.Blend.{Blend}
 use Rattle.mesh.specs.Lines.{layoutOf, allowed}
 use Rattle.mesh.specs.Sound.{sound, table}
-use Rattle.mesh.specs.Bytes.{place}
+use Rattle.mesh.specs.Blends.{place}
 use Rattle.maps.specs.declared.splits.Step.{Step}
 use Rattle.mesh.specs.Splits.{liveOf, withLine, soundWith, given, exactNumber, chosen}
 use Rattle.maps.specs.declared.Map.{Map}

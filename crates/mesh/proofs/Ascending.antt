@@ -4,8 +4,7 @@ use native.Mathlib.Omega.{arith}
 use mathlib.Core.Path.{_≡_, sym, ap, _∙_}
 use mathlib.Core.List.{List, List·Memᴰ}
 use Rattle.axis.specs.Range.{each, only, Distinct}
-use Rattle.mesh.specs.Blends.{anchored, inTableOrder}
-use Rattle.mesh.specs.Bytes.{place}
+use Rattle.mesh.specs.Blends.{anchored, inTableOrder, place}
 use Rattle.mesh.specs.declared.Blend.{Blend}
 use Rattle.axis.proofs.Tests.{each-mem, only-mem}
 use Rattle.mesh.proofs.TableOrder.{anchored-at}

@@ -13,8 +13,7 @@ use borrow.Author.Tests.{eqb-true, eq-eqb, ne-eqb, lt-ltb, leb-true, leb-false}
 use Rattle.axis.specs.Limits.{largestSide, mostSplits, mostBlends}
 use Rattle.axis.specs.Range.{any, only, joined, Distinct}
 use Rattle.mesh.specs.Lines.{Direction, upright, level, mesh, freshMesh, draws, start, end, number, other, side}
-use Rattle.mesh.specs.Blends.{crossed, live}
-use Rattle.mesh.specs.Bytes.{at, place}
+use Rattle.mesh.specs.Blends.{crossed, live, at, place}
 use Rattle.mesh.specs.Sound.{sound}
 use Rattle.mesh.specs.declared.Split.{Split}
 use Rattle.axis.specs.declared.Triple.{Triple}

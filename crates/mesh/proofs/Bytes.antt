@@ -8,7 +8,8 @@ use borrow.Author.Tests.{lt-ltb, eq-eqb, ne-eqb}
 use lib.Dec.{eqb}
 use lib.ListN.{length, getD, set, replicate, length-set}
 use lib.Seq.{getD-set-same, getD-set-other}
-use Rattle.mesh.specs.Bytes.{stepOn, at, Idle}
+use Rattle.mesh.specs.Bytes.{stepOn, Idle}
+use Rattle.mesh.specs.Blends.{at}
 
 -- a step within the table is its byte
 pub step-byte : (bytes : List ℕ) (z k : ℕ) → z < 131 → k < 131 → stepOn bytes z k ≡ not (eqb (getD bytes (at z k) 0) 0)

@@ -9,8 +9,7 @@ use borrow.Author.Tests.{not-true}
 use Rattle.axis.specs.Triple.{Side, half, inside, between, rising, sameTriple}
 use Rattle.mesh.specs.Lines.{Direction, upright, level, other, Mesh}
 use Rattle.mesh.specs.Blends.{blend, crossed, along, coversBlend, cuts, halve, cutter, size, same}
-use Rattle.mesh.specs.Sound.{proper, nested}
-use Rattle.mesh.specs.Bytes.{ProperIn}
+use Rattle.mesh.specs.Sound.{proper, nested, ProperIn}
 use Rattle.axis.specs.declared.Triple.{Triple}
 use Rattle.mesh.specs.declared.Blend.{Blend}
 use Rattle.axis.proofs.Tests.{either, true-not-false, false-of, and-both, and-of, every-at, every-of}

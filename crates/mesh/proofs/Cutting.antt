@@ -1,29 +1,21 @@
--- Cutting a blend: its halves as the code makes them, what is kept, and the blends of a table one by one.
+-- Cutting a blend: its halves as the code makes them, and what is kept.
 use Prim.Native.Nat.{ℕ, zero, suc, _+_, _≤_, _<_}
 use native.Mathlib.Omega.{arith}
 use borrow.Author.Tests.{eq-eqb, ne-eqb}
 use mathlib.Core.Path.{_≡_, refl, sym, ap, _∙_}
 use mathlib.Core.Bool.{Bool, true, false, cond}
 use mathlib.Core.List.{List, [], _∷_, _++_}
-use lib.ListN.{length, getD, set, drop}
-use mir.Val.{Val}
-use denote.Shadow.{shadow}
-use denote.Struct.Declared.{row}
-use Rattle.axis.specs.Limits.{largestSide, mostBlends}
-use Rattle.axis.specs.Range.{every, all}
+use lib.ListN.{getD, set}
+use Rattle.axis.specs.Range.{every}
 use Rattle.axis.specs.Triple.{Side, lower, upper, half}
 use Rattle.mesh.specs.Lines.{Direction, upright, level, other, Mesh}
-use Rattle.mesh.specs.Bytes.{stepOn, Proper, place, packed, keep, keepAll}
-use Rattle.mesh.specs.Blends.{crossed, cutter, halve, leaves, leavesOf, size}
-use Rattle.mesh.specs.Sound.{proper, none, blendsOf}
-use Rattle.mesh.specs.declared.Table.{Table}
+use Rattle.mesh.specs.Bytes.{stepOn, packed, keep, keepAll}
+use Rattle.mesh.specs.Sound.{Proper, proper, none}
+use Rattle.mesh.specs.Blends.{place, crossed, cutter, halve, leaves, leavesOf, size}
 use Rattle.axis.specs.declared.Triple.{Triple}
 use Rattle.mesh.specs.declared.Blend.{Blend}
-use Rattle.axis.proofs.Tests.{true-not-false, all-at, all-of}
-use Rattle.axis.proofs.Entries.{none-left, left-turn, left-mem}
-use Rattle.mesh.proofs.Table.{the-type}
-use Rattle.mesh.proofs.Arrays.{table-full}
-use Rattle.mesh.proofs.Cuts.{put, halve-own, cut-fact, cutter-cuts, riseB-of, halve-proper, halve-smaller, proper-facts, proper-wider, proper-of as proper-test}
+use Rattle.axis.proofs.Tests.{true-not-false}
+use Rattle.mesh.proofs.Cuts.{put, halve-own, cut-fact, cutter-cuts, riseB-of, halve-proper, halve-smaller}
 
 -- whether the line at a knot covers the n steps from knot b on
 abbrev pub over : List ℕ → ℕ → ℕ → ℕ → Bool
@@ -120,14 +112,6 @@ unfolding leavesOf
 cut-first M x xs p q h =
     ap (λ (l : List ℕ). keepAll l (leavesOf M xs)) (h (size x) (omega arith)) ∙ sym (keepAll-append p (leaves (size x) M upright x) (leavesOf M xs))
 
--- a blend that is proper for sides of at most 128 is so for sides of 128
-pub proper-of : (w h : ℕ) (B : Blend) → w ≤ 128 → h ≤ 128 → proper w h B ≡ true → Proper B
-proper-of w h B hw hh e = proper-wider hw hh (proper-facts w h B e)
-
-pub proper-most : (w h : ℕ) (bs : List Blend) → w ≤ 128 → h ≤ 128 → all (proper w h) bs ≡ true → all (proper 128 128) bs ≡ true
-proper-most w h bs hw hh e =
-    all-of (proper 128 128) bs (λ B m. proper-test 128 128 B (proper-of w h B hw hh (all-at (proper w h) bs e B m)))
-
 -- keeping a blend at a free place, at the place of the same blend, and at that of another
 module _ (places : List ℕ) (B : Blend) where
   pub keep-first : getD places (place B) 0 ≡ 0 → keep places B ≡ set places (place B) (packed B)
@@ -141,26 +125,3 @@ module _ (places : List ℕ) (B : Blend) where
   pub keep-other : (getD places (place B) 0 ≡ 0 → ⊥) → (getD places (place B) 0 ≡ packed B → ⊥) → keep places B ≡ set places 0 1
   unfolding keep
   keep-other ne nf = rw (ne-eqb _ _ ne, ne-eqb _ _ nf)
-
--- the blends of a table from the i-th on, as a loop takes them
-module _ (t : Table) (i : ℕ) where
-  pub blends-turn : i < t .count → t .count ≤ length (t .blends) →
-      drop i (blendsOf t) ≡ getD (t .blends) i none ∷ drop (i + 1) (blendsOf t)
-  blends-turn lt le = left-turn (t .blends) (t .count) i le none lt
-
-  pub blends-end : t .count ≤ i → drop i (blendsOf t) ≡ []
-  blends-end = none-left (t .blends) (t .count) i
-
-  -- the next one with those behind it, and that it is proper, as all of them are
-  pub record Next : Type 0 where
-    pub turn : drop i (blendsOf t) ≡ getD (t .blends) i none ∷ drop (i + 1) (blendsOf t)
-    pub proper : Proper (getD (t .blends) i none)
-
-  pub next-blend : {vs : List Val} → shadow (row the-type .own t vs) → t .count ≤ mostBlends → all (proper largestSide largestSide) (blendsOf t) ≡ true →
-      i < t .count → Next
-  next-blend own few e lt =
-      let le : t .count ≤ length (t .blends) = omega (arith, table-full t own) in
-      record {
-        turn = blends-turn lt le;
-        proper = proper-facts _ _ _ (all-at (proper largestSide largestSide) (blendsOf t) e _ (left-mem (t .blends) (t .count) i le none lt));
-      }

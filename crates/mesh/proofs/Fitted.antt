@@ -15,12 +15,12 @@ use Rattle.mesh.specs.declared.Lines.{Lines}
 use Rattle.mesh.specs.declared.Blend.{Blend}
 use Rattle.mesh.specs.declared.Found.{Found}
 use Rattle.axis.proofs.Tests.{either, true-not-false, and-both, and-of, false-of, cond-true}
-use Rattle.mesh.proofs.Drawing.{Allowed}
+use Rattle.mesh.proofs.Ranges.{Allowed}
 use Rattle.mesh.proofs.Places.{own-of}
 use Rattle.mesh.proofs.SoundMaps.{own-anchors}
 use Rattle.mesh.proofs.AtMost.{at-most}
 use Rattle.mesh.proofs.Area.{by-area}
-use Rattle.mesh.proofs.Refining.{table-blends, table-count}
+use Rattle.mesh.proofs.BlendTables.{table-blends, table-count}
 
 -- what it says that a table holds some blends, or does not
 pub record Held (bs : List Blend) (r : Found) : Type 0 where

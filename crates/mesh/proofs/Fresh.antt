@@ -10,10 +10,9 @@ use lib.ListN.{length}
 use borrow.Author.Tests.{eqb-true}
 use Rattle.axis.specs.Triple.{low, high}
 use Rattle.mesh.specs.Lines.{Direction, upright, level, mesh, freshMesh, side, other}
-use Rattle.mesh.specs.Blends.{blend, same, once, leavesOf, refine, live, firstFour, crossed, along}
+use Rattle.mesh.specs.Blends.{blend, same, once, leavesOf, refine, live, firstFour, crossed, along, place}
 use Rattle.mesh.specs.Order.{Uncut}
 use Rattle.mesh.specs.Sound.{overSquare, fourEverywhere, noneNested, nested, sound}
-use Rattle.mesh.specs.Bytes.{place}
 use Rattle.axis.specs.declared.Triple.{Triple}
 use Rattle.mesh.specs.declared.Blend.{Blend}
 use Rattle.axis.proofs.Tests.{true-not-false, and-both, and-of, or-either, false-of, every-of, all-of, only-all}

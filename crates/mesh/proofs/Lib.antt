@@ -1,6 +1,7 @@
 pub mod Bytes
-pub mod Arrays
+pub mod Ranges
 pub mod Cuts
+pub mod BlendTables
 pub mod Order
 pub mod TableOrder
 pub mod Places

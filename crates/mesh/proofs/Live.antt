@@ -5,14 +5,13 @@ use mathlib.Core.Logic.{⊎-elim}
 use mathlib.Core.Bool.{true, false}
 use mathlib.Core.List.{List, [], List·Memᴰ}
 use Rattle.mesh.specs.Lines.{Mesh}
-use Rattle.mesh.specs.Blends.{once, inTableOrder, leavesOf, refine}
+use Rattle.mesh.specs.Blends.{once, inTableOrder, leavesOf, refine, place}
 use Rattle.mesh.specs.Order.{Left, Coarser}
 use Rattle.mesh.specs.Sound.{proper, sound, table, ownAnchors, fitted}
-use Rattle.mesh.specs.Bytes.{place}
 use Rattle.mesh.specs.declared.Blend.{Blend}
 use Rattle.axis.proofs.Tests.{either}
 use Rattle.axis.specs.Range.{Distinct}
-pub use Rattle.mesh.proofs.Cuts.{proper-rises}
+use Rattle.mesh.proofs.Cuts.{proper-rises}
 use Rattle.mesh.proofs.Cuts.{proper-facts, proper-of, proper-within}
 use Rattle.mesh.proofs.Order.{comes-rises, comes-within, Rising, LeftOf, SameMembers, leavesOf-left, left-leavesOf, finer-leaves}
 use Rattle.mesh.proofs.TableOrder.{once-mem, mem-once, once-distinct, order-mem, mem-order, order-distinct}

@@ -11,15 +11,13 @@ use lib.Dec.{eqb}
 use lib.ListN.{length, getD, set, length-set, length-replicate}
 use lib.Seq.{getD-set-same, getD-set-other}
 use Rattle.axis.specs.Range.{only, all}
-use Rattle.mesh.specs.Blends.{same, once, anchored, inTableOrder}
+use Rattle.mesh.specs.Blends.{same, once, anchored, inTableOrder, at, place}
 use Rattle.mesh.specs.Sound.{nested, noneNested, sound, fourEverywhere, clash, ownAnchors}
-use Rattle.mesh.specs.Bytes.{at, Square, place, packed, unpacked, keep, keepAll, empty, kept, walk}
-pub use Rattle.mesh.specs.Bytes.{ProperIn}
-pub use Rattle.axis.specs.Triple.{RisesIn as Rises}
+use Rattle.mesh.specs.Bytes.{Square, packed, unpacked, keep, keepAll, empty, kept, walk}
+use Rattle.mesh.specs.Sound.{ProperIn}
 use Rattle.mesh.specs.declared.Blend.{Blend}
 use Rattle.axis.proofs.Tests.{either, true-not-false, and-both, and-of, false-of, all-at, all-of, only-mem, mem-only, cond-false, each-same}
 use Rattle.mesh.proofs.Bytes.{zeros}
-pub use Rattle.mesh.proofs.Cuts.{proper-facts, proper-of}
 use Rattle.mesh.proofs.Cuts.{same-blend, blend-same}
 use Rattle.mesh.proofs.TableOrder.{Anchored, anchored-at, once-mem, mem-once, once-distinct, order-mem, mem-order}
 use Rattle.axis.proofs.Distinct.{only-distinct, singleton, nothing}

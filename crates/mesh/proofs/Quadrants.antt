@@ -15,8 +15,7 @@ use Rattle.axis.specs.Triple.{Side, lower, upper, spans, RisesIn}
 use Rattle.mesh.specs.Lines.{Direction, upright, level, other, side, Mesh, mesh, freshMesh}
 use Rattle.mesh.specs.Blends.{blend, same, cuts, halve, live, firstFour, crossed}
 use Rattle.mesh.specs.Order.{Left}
-use Rattle.mesh.specs.Sound.{overSquare, fourEverywhere, noneNested, nested}
-use Rattle.mesh.specs.Bytes.{ProperIn}
+use Rattle.mesh.specs.Sound.{overSquare, fourEverywhere, noneNested, nested, ProperIn}
 use Rattle.mesh.specs.declared.Split.{Split}
 use Rattle.mesh.specs.declared.Blend.{Blend}
 use Rattle.axis.proofs.Tests.{and-both, and-of, or-left, false-of, true-not-false, every-at, all-of}

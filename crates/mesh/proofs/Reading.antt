@@ -11,7 +11,8 @@ use lib.ListN.{length, getD, set, replicate, length-append}
 use lib.Seq.{set-at}
 use Rattle.axis.specs.Range.{each}
 use Rattle.mesh.specs.Sound.{none, table}
-use Rattle.mesh.specs.Bytes.{at, Idle, kept, unpacked, walk, listed, refused}
+use Rattle.mesh.specs.Blends.{at}
+use Rattle.mesh.specs.Bytes.{Idle, kept, unpacked, walk, listed, refused}
 use Rattle.mesh.specs.declared.Blend.{Blend}
 use Rattle.axis.proofs.Tests.{either, cond-true, cond-false, each-turn, each-none}
 

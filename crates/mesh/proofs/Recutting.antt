@@ -11,8 +11,8 @@ use lib.ListN.{length, getD, set, drop, length-set}
 use lib.Seq.{getD-set-same, getD-set-other}
 use Rattle.axis.specs.Range.{any, some, only}
 use Rattle.mesh.specs.Lines.{Direction, upright, level, Mesh, onLine, shares, ended, draws}
-use Rattle.mesh.specs.Blends.{cuts, leavesOf}
-use Rattle.mesh.specs.Bytes.{at, stepOn, bytesMesh, place, keepAll, clearAll, recut, refused}
+use Rattle.mesh.specs.Blends.{cuts, leavesOf, at, place}
+use Rattle.mesh.specs.Bytes.{stepOn, bytesMesh, keepAll, clearAll, recut, refused}
 use Rattle.mesh.specs.declared.Split.{Split}
 use Rattle.mesh.specs.declared.Blend.{Blend}
 use Rattle.mesh.specs.declared.Found.{Found}

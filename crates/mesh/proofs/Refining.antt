@@ -1,37 +1,27 @@
 -- What the public functions on tables do, from what the functions that they call leave behind.
-use Prim.Native.Nat.{ℕ, _-_, _≤_}
+use Prim.Native.Nat.{ℕ, _≤_}
 use native.Mathlib.Omega.{arith}
 use mathlib.Core.Path.{_≡_, refl, sym, ap, subst, fun-ext, _∙_}
 use mathlib.Core.Bool.{Bool, true, false, _&&_, not}
 use mathlib.Core.List.{List, [], _∷_, List·Memᴰ}
 use borrow.Author.Tests.{le-leb, leb-true, eq-eqb, ne-eqb}
 use lib.Dec.{leb, eqb}
-use lib.ListN.{length, getD, set, replicate}
-use lib.Seq.{take-append-seam}
+use lib.ListN.{getD, set}
 use Rattle.axis.specs.Range.{all, any}
 use Rattle.mesh.specs.Lines.{Direction, upright, level, number, Mesh, layoutOf, meshOf, allowed}
 use Rattle.mesh.specs.Blends.{cutter, isCut, refine, leavesOf, firstFour, live}
-use Rattle.mesh.specs.Sound.{proper, none, table, blendsOf, fitted, refined, someCut}
-use Rattle.mesh.specs.Bytes.{Square, ProperIn, stepOn, bytesMesh, keepAll, walk, listed, empty, refused}
+use Rattle.mesh.specs.Sound.{proper, table, blendsOf, fitted, refined, someCut, ProperIn}
+use Rattle.mesh.specs.Bytes.{Square, stepOn, bytesMesh, keepAll, walk, listed, empty, refused}
 use Rattle.mesh.specs.declared.Lines.{Lines}
 use Rattle.mesh.specs.declared.Table.{Table}
 use Rattle.mesh.specs.declared.Blend.{Blend}
 use Rattle.axis.proofs.Tests.{cond-true, cond-false, all-at, all-of, and-both, or-left, or-right}
-use Rattle.mesh.proofs.Drawing.{Allowed, allowed-says}
+use Rattle.mesh.proofs.Ranges.{Allowed, allowed-says}
 use Rattle.mesh.proofs.Cuts.{proper-facts}
-use Rattle.mesh.proofs.Cutting.{proper-most}
+use Rattle.mesh.proofs.BlendTables.{proper-most, table-count, table-blends}
 use Rattle.mesh.proofs.Places.{Kept, nothing-kept, keep-list, met-clash, walk-table, none-met}
 use Rattle.mesh.proofs.Live.{leaves-proper, clash-unfit}
 use Rattle.mesh.proofs.Fresh.{first-proper}
-
--- a table's own blends and their number
-pub table-blends : (bs : List Blend) → blendsOf (table bs) ≡ bs
-unfolding table
-table-blends bs = take-append-seam bs (replicate (1024 - length bs) none)
-
-pub table-count : (bs : List Blend) → table bs .count ≡ length bs
-unfolding table
-table-count bs = refl
 
 -- lines, and a table's blends, that keep to their ranges: as a test, and what it says
 abbrev pub ranged : Lines → Table → Bool

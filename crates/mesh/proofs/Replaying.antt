@@ -6,18 +6,18 @@ use mathlib.Core.Path.{_≡_, refl, sym, ap, subst, fun-ext, _∙_}
 use mathlib.Core.Logic.{_⊎_, inl, inr, ⊎-elim}
 use mathlib.Core.Bool.{Bool, true, false, cond, _&&_, _||_, not, or-false, or-assoc}
 use mathlib.Core.List.{List, [], _∷_, _++_, List·Memᴰ}
-use borrow.Author.Tests.{eqb-true, eqb-false, lt-ltb, leb-true, le-leb, lt-leb, not-true}
+use borrow.Author.Tests.{eqb-true, eqb-false, leb-true, le-leb, lt-leb, not-true}
 use lib.Dec.{eqb, leb}
 use lib.ListN.{length, getD, take, drop, length-append, length-take}
 use lib.Seq.{take-suc}
 use Rattle.axis.specs.Range.{all, any, every, only}
 use Rattle.axis.specs.Triple.{inside}
-use Rattle.mesh.specs.Lines.{Direction, upright, level, number, direction, Mesh, start, draws, allowedSide, inRange, mesh, freshMesh, shares, ended, layout, splitsOf, layoutOf, meshOf}
-use Rattle.mesh.specs.Blends.{along, crossed, cuts, cutter, isCut, leavesOf, refine, firstFour, live}
+use Rattle.mesh.specs.Lines.{Direction, upright, level, number, direction, Mesh, start, draws, allowedSide, inRange, mesh, freshMesh, shares, ended, layout, splitsOf}
+use Rattle.mesh.specs.Blends.{along, crossed, cuts, cutter, isCut, leavesOf, refine, firstFour, live, at}
 use Rattle.mesh.specs.Order.{Uncut, Coarser}
 use Rattle.mesh.specs.Sound.{sound, table, blendsOf, fitted, full, proper}
-use Rattle.mesh.specs.Bytes.{at, Square, Marked, Idle, stepOn, bytesMesh, keepAll, clearAll, recut, walk, listed, empty, refused}
-use Rattle.mesh.specs.Splits.{withLine, soundWith, given, exactNumber, accepted, liveOf}
+use Rattle.mesh.specs.Bytes.{Square, Marked, Idle, stepOn, bytesMesh, keepAll, clearAll, recut, walk, listed, empty, refused}
+use Rattle.mesh.specs.Splits.{given, exactNumber, accepted}
 use Rattle.mesh.specs.Replay.{replays, replayed}
 use Rattle.mesh.specs.declared.Split.{Split}
 use Rattle.mesh.specs.declared.Blend.{Blend}
@@ -25,7 +25,9 @@ use Rattle.mesh.specs.declared.Lines.{Lines}
 use Rattle.mesh.specs.declared.Table.{Table}
 use Rattle.mesh.specs.declared.Found.{Found}
 use Rattle.axis.proofs.Tests.{either, true-not-false, false-of, and-both, and-of, and-first, and-last, or-either, or-left, cond-true, cond-false, all-of, any-same, any-append, only-mem, mem-only}
-use Rattle.mesh.proofs.Drawing.{Allowed, blank, left-turn, left-none}
+use Rattle.mesh.proofs.Ranges.{Allowed}
+use Rattle.mesh.proofs.Drawing.{blank}
+use Rattle.axis.proofs.Entries.{left-turn, left-none}
 use Rattle.mesh.proofs.SingleSteps.{Small, in-range-small}
 use Rattle.mesh.proofs.Cuts.{RiseB, proper-facts, proper-rises, cutter-none, cutter-cuts}
 use Rattle.mesh.proofs.Order.{Rising, SameMembers, leavesOf-left, left-leavesOf, left-uncut, left-itself, finer-leaves}
@@ -34,8 +36,8 @@ use Rattle.mesh.proofs.Live.{leaves-proper, finer-fitted}
 use Rattle.mesh.proofs.Fresh.{fresh-positions, first-proper, firstFour-rises, fresh-live, fresh-sound}
 use Rattle.mesh.proofs.AtMost.{live-knots}
 use Rattle.mesh.proofs.SoundMaps.{live-left, live-proper, live-leaves, own-anchors}
-use Rattle.mesh.proofs.Refining.{table-blends, table-count, some-line, no-line, met-fitted, read-fitted}
-use Rattle.mesh.proofs.Cutting.{proper-most}
+use Rattle.mesh.proofs.BlendTables.{table-blends, table-count, proper-most}
+use Rattle.mesh.proofs.Refining.{some-line, no-line, met-fitted, read-fitted}
 use Rattle.mesh.proofs.Fitted.{fits-held, unfit-unsound, full-sound}
 use Rattle.mesh.proofs.Recutting.{clear-kept}
 

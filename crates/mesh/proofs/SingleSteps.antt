@@ -13,7 +13,8 @@ use Rattle.mesh.specs.declared.Split.{Split}
 use Rattle.mesh.specs.declared.Lines.{Lines}
 use Rattle.axis.proofs.Tests.{either, and-both, all-at}
 use Rattle.axis.proofs.Entries.{left-mem}
-use Rattle.mesh.proofs.Drawing.{allowed-says, in-range-says, blank}
+use Rattle.mesh.proofs.Ranges.{allowed-says, in-range-says}
+use Rattle.mesh.proofs.Drawing.{blank}
 
 -- whether a fresh map has a step, by the sides that the line crosses and runs along; whether a split of a direction's number has it
 abbrev pub fresh : ℕ → ℕ → ℕ → ℕ → Bool

@@ -17,10 +17,10 @@ use Rattle.axis.specs.Fraction.{total, Equal}
 use Rattle.mesh.specs.declared.Blend.{Blend}
 use Rattle.axis.proofs.Tests.{and-both, every-at}
 use Rattle.mesh.proofs.Order.{cut-or-not, LeftOf, SameMembers, any-order, comes-trans}
-use Rattle.mesh.proofs.Cuts.{proper-facts}
+use Rattle.mesh.proofs.Cuts.{proper-facts, proper-rises}
 use Rattle.mesh.proofs.Places.{sound-own}
 use Rattle.mesh.proofs.Ascending.{OwnAnchors}
-use Rattle.mesh.proofs.Live.{proper-rises, AllProper, refine-left, left-refine, refine-leaves, refine-proper, refine-distinct}
+use Rattle.mesh.proofs.Live.{AllProper, refine-left, left-refine, refine-leaves, refine-proper, refine-distinct}
 use Rattle.mesh.proofs.Weights.{square-positive, own-anchor, other-anchor, Covered, CoveredTerms, reproduced, adds-up}
 use Rattle.mesh.proofs.Fresh.{first-proper, firstFour-rises}
 

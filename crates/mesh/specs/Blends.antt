@@ -74,6 +74,13 @@ once (B ∷ bs) = let rest = once bs in cond (any (same B) bs) rest (B ∷ rest)
 abbrev pub anchored : ℕ → ℕ → Blend → Bool
 anchored m n B = eqb (B .across .m) m && eqb (B .up .m) n
 
+-- Knots are 0 to 130, so a square table of 131 by 131 has a place for each pair of them; and the place of a blend is its anchor's.
+abbrev pub at : ℕ → ℕ → ℕ
+at i j = i * 131 + j
+
+abbrev pub place : Blend → ℕ
+place B = at (B .across .m) (B .up .m)
+
 -- "The table lists them by m, then n."
 unfoldable pub inTableOrder : ℕ → ℕ → List Blend → List Blend
 inTableOrder w h bs = each 1 (w + 1) (λ m. each 1 (h + 1) (λ n. only (anchored m n) bs))

@@ -2,22 +2,19 @@
 use Prim.Native.Nat.{ℕ, _+_, _*_, _/_, _%_, _<_, _≤_}
 use mathlib.Core.Path.{_≡_}
 use mathlib.Core.Bool.{Bool, true, false, cond, _&&_, _||_, not}
-use mathlib.Core.List.{List, [], _∷_, List·Memᴰ}
+use mathlib.Core.List.{List, [], _∷_}
 use lib.Dec.{ltb, leb, eqb}
 use lib.ListN.{length, getD, set, replicate}
-use Rattle.axis.specs.Limits.{largestSide, mostBlends}
+use Rattle.axis.specs.Limits.{mostBlends}
 use Rattle.axis.specs.Range.{each, only}
-use Rattle.axis.specs.Triple.{triple, RisesIn}
+use Rattle.axis.specs.Triple.{triple}
 use Rattle.mesh.specs.Lines.{Direction, upright, level, Mesh}
-use Rattle.mesh.specs.Blends.{blend, cuts, leavesOf}
+use Rattle.mesh.specs.Blends.{blend, cuts, leavesOf, at, place}
 use Rattle.mesh.specs.Sound.{table}
 use Rattle.mesh.specs.declared.Blend.{Blend}
 use Rattle.mesh.specs.declared.Found.{Found}
 
--- Knots are 0 to 130, so a square table of 131 by 131 has a place for each pair of them.
-abbrev pub at : ℕ → ℕ → ℕ
-at i j = i * 131 + j
-
+-- the square table of all pairs of knots
 abbrev pub Square : List ℕ → Type 0
 Square xs = length xs ≡ 17161
 
@@ -29,22 +26,7 @@ unfoldable pub bytesMesh : List ℕ → List ℕ → Mesh
 bytesMesh uprights levels upright = stepOn uprights
 bytesMesh uprights levels level = stepOn levels
 
--- both triples of a blend rise, each within the knots of its own side
-pub record ProperIn (w h : ℕ) (B : Blend) : Type 0 where
-  pub across : RisesIn w (B .across)
-  pub up : RisesIn h (B .up)
-
--- within the knots of the longest side; and those of all of some blends
-abbrev pub Proper : Blend → Type 0
-Proper B = ProperIn largestSide largestSide B
-
-abbrev pub AllProper : List Blend → Type 0
-AllProper bs = (B : Blend) → List·Memᴰ B bs → Proper B
-
 -- Blends by their anchors: the place of an anchor holds 0, or the support of the blend that has it.
-abbrev pub place : Blend → ℕ
-place B = at (B .across .m) (B .up .m)
-
 abbrev pub packed : Blend → ℕ
 packed B = ((B .across .l * 256 + B .across .r) * 256 + B .up .l) * 256 + B .up .r
 

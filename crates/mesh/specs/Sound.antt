@@ -1,13 +1,13 @@
 -- Document 01, "Blends": a sound map; and what the functions on tables of blends answer.
 use Prim.Native.Nat.{ℕ, _+_, _-_, _*_}
 use mathlib.Core.Bool.{Bool, true, false, cond, _&&_, not}
-use mathlib.Core.List.{List, [], _∷_, _++_}
+use mathlib.Core.List.{List, [], _∷_, _++_, List·Memᴰ}
 use lib.Dec.{leb, eqb}
 use lib.ListN.{length, take, replicate}
 use Rattle.axis.specs.Limits.{largestSide, mostBlends}
 use Rattle.axis.specs.Range.{every, all, any, only}
-use Rattle.axis.specs.Triple.{triple, rising, spans, stepsIn, between}
-use Rattle.mesh.specs.Lines.{allowedSide, layoutOf, meshOf, allowed}
+use Rattle.axis.specs.Triple.{triple, rising, spans, stepsIn, between, RisesIn}
+use Rattle.mesh.specs.Lines.{layoutOf, meshOf, allowed}
 use Rattle.mesh.specs.Blends.{blend, same, anchored, isCut, refine, live}
 use Rattle.mesh.specs.declared.Blend.{Blend}
 use Rattle.mesh.specs.declared.Lines.{Lines}
@@ -45,6 +45,18 @@ areas w h (B ∷ bs) = area w h B + areas w h bs
 -- both triples rise and lie within −1 to side + 1
 abbrev pub proper : ℕ → ℕ → Blend → Bool
 proper w h B = rising w (B .across) && rising h (B .up)
+
+-- the same as a statement
+pub record ProperIn (w h : ℕ) (B : Blend) : Type 0 where
+  pub across : RisesIn w (B .across)
+  pub up : RisesIn h (B .up)
+
+-- for the largest sides; and of all of some blends
+abbrev pub Proper : Blend → Type 0
+Proper B = ProperIn largestSide largestSide B
+
+abbrev pub AllProper : List Blend → Type 0
+AllProper bs = (B : Blend) → List·Memᴰ B bs → Proper B
 
 -- a table of blends as a struct: its count, the blends, and zeros in all unused places
 abbrev pub none : Blend

@@ -16,8 +16,8 @@ ghost use Rattle.axis.specs.Triple.{Rises};
 ghost use Rattle.mesh.specs.Lines.{upright, level};
 ghost use Rattle.axis.specs.Nearest.{below, above, nearest};
 ghost use Rattle.mesh.specs.Blends.{cutter, leaves, leavesOf, size, isCut};
-ghost use Rattle.mesh.specs.Sound.{proper, blendsOf};
-ghost use Rattle.mesh.specs.Bytes.{Square, stepOn, bytesMesh, Proper, keep, keepAll};
+ghost use Rattle.mesh.specs.Sound.{proper, blendsOf, Proper};
+ghost use Rattle.mesh.specs.Bytes.{Square, stepOn, bytesMesh, keep, keepAll};
 
 // The nearest line below the middle that covers the n steps from knot b on; 0 if there is none.
 fn nearest_below(steps: &[u8], x: Triple, b: u8, n: u8) -> u8

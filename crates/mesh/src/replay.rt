@@ -28,9 +28,9 @@ ghost use Rattle.axis.specs.Range.{all, any, some, every, only};
 ghost use Rattle.axis.specs.Triple.{inside, Rises};
 ghost use Rattle.mesh.specs.Lines.{Direction, direction, draws, inRange, shares, ended};
 ghost use Rattle.mesh.specs.Blends.{cuts, leavesOf};
-ghost use Rattle.mesh.specs.Sound.{proper, blendsOf};
+ghost use Rattle.mesh.specs.Sound.{proper, blendsOf, Proper};
 ghost use Rattle.mesh.specs.Bytes as bytes;
-ghost use Rattle.mesh.specs.Bytes.{Square, Idle, Proper, stepOn, bytesMesh, keepAll, clearAll, walk, listed, refused};
+ghost use Rattle.mesh.specs.Bytes.{Square, Idle, stepOn, bytesMesh, keepAll, clearAll, walk, listed, refused};
 ghost use Rattle.mesh.specs.Replay.{replayed};
 
 // Whether some of the n steps from knot `from` on, of the line at knot z, is on.

@@ -3,8 +3,8 @@ use borrow.Author.Needs.{needs}
 use native.Mathlib.Omega.{arith}
 use Prim.Native.Nat.{_+_, _*_, _-_, _≤_}
 use mathlib.Core.Path.{_≡_, _∙_}
-use lib.ListN.{length, getD, length-map, length-append}
-use Rattle.mesh.proofs.Arrays.{table-full}
+use lib.ListN.{length, getD, length-append}
+use Rattle.mesh.proofs.BlendTables.{table-full}
 use Rattle.mesh.specs.Sound.{none}
 use Rattle.files.specs.Inner.{terms}
 use Rattle.files.specs.Listing.{ended, line}

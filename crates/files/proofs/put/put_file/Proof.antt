@@ -1,9 +1,9 @@
 -- `put::put_file` meets its contract: a file's parts, one next to the other.
 use native.Mathlib.Omega.{arith}
 use borrow.Author.Needs.{needs}
-use mathlib.Core.Path.{_≡_, _∙_}
+use mathlib.Core.Path.{_∙_}
 use lib.Seq.{length-take-le}
-use Rattle.mesh.proofs.Arrays.{table-full}
+use Rattle.mesh.proofs.BlendTables.{table-full}
 use Rattle.maps.proofs.Changing.{full}
 use Rattle.files.proofs.Putting.{words-fit}
 use Rattle.files.proofs.Terms.{filed-put}

@@ -4,9 +4,8 @@ use native.Mathlib.Omega.{arith}
 use Prim.Native.Nat.{_+_, _*_, _-_, _≤_, _<_}
 use mathlib.Core.Path.{_≡_}
 use lib.ListN.{length, getD}
-use Rattle.mesh.proofs.Arrays.{table-full}
-use Rattle.mesh.specs.Sound.{none}
-use Rattle.mesh.specs.Bytes.{Proper}
+use Rattle.mesh.proofs.BlendTables.{table-full}
+use Rattle.mesh.specs.Sound.{none, Proper}
 use Rattle.files.specs.File.{valueEntry}
 use Rattle.files.specs.Inner.{terms}
 use Rattle.files.proofs.RoundTrip.{value-long}

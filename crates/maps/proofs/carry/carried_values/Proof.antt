@@ -5,21 +5,20 @@ use mathlib.Core.Path.{_≡_, refl, sym, ap, _∙_}
 use mathlib.Core.Logic.{⊎-elim}
 use mathlib.Core.Bool.{true}
 use mathlib.Core.List.{_++_, map}
-use lib.ListN.{getD, length, length-map, length-take, set, take, replicate}
+use lib.ListN.{getD, length, length-take, set, take, replicate}
 use lib.Seq.{length-take-le, getD-take}
 use mir.Syntax.{w16}
 use borrow.Author.Needs.{needs, elem-fits}
-use Rattle.mesh.proofs.Arrays.{table-full}
+use Rattle.mesh.proofs.BlendTables.{table-full, proper-most}
 use Rattle.mesh.specs.declared.Blend.{Blend}
 use Rattle.axis.proofs.Members.{entry}
 use Rattle.maps.proofs.OverSquare.{four-at}
 use Rattle.maps.proofs.Readings.{Valued, reading-most}
 use Rattle.maps.proofs.AnchorIndex.{OnKnots, on-knots, Indexed, old-valued, count-most, blends-of, values-of, old-indexed, old-table, noted-most, carried-new, carried-old, fill-more, fill-all}
 use Rattle.mesh.specs.Sound.{proper, none, blendsOf}
-use Rattle.mesh.specs.Bytes.{place}
+use Rattle.mesh.specs.Blends.{place}
 use Rattle.axis.proofs.Tests.{all-at}
-use Rattle.mesh.proofs.Cutting.{proper-most}
-use Rattle.mesh.proofs.Places.{proper-facts}
+use Rattle.mesh.proofs.Cuts.{proper-facts}
 use Rattle.maps.specs.Plain.{blends}
 use Rattle.maps.specs.Values as Values
 use Rattle.maps.specs.Values.{carried, readingAt}

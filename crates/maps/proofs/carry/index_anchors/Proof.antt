@@ -4,13 +4,12 @@ use native.Mathlib.Omega.{arith}
 use mathlib.Core.Path.{_≡_, refl}
 use mathlib.Core.Bool.{true}
 use mathlib.Core.List.{_∷_}
-use lib.ListN.{drop, getD, length, length-map, length-set}
-use Rattle.mesh.proofs.Arrays.{table-full}
+use lib.ListN.{drop, getD, length, length-set}
+use Rattle.mesh.proofs.BlendTables.{table-full, blends-turn, blends-end, proper-largest}
 use Rattle.axis.specs.Range.{all}
 use Rattle.mesh.specs.Sound.{proper, none, blendsOf}
-use Rattle.mesh.specs.Bytes.{place}
+use Rattle.mesh.specs.Blends.{place}
 use Rattle.axis.proofs.Tests.{and-both}
-use Rattle.mesh.proofs.Cutting.{blends-turn, blends-end, proper-of}
 use Rattle.maps.specs.Inner.{anchorIndex}
 use Rattle.maps.proofs.carry.index_anchors.Statement.{statement}
 use Rattle.maps.proofs.carry.index_anchors.Tie as tie
@@ -47,7 +46,7 @@ next-turn c =
     let a = c .before .before .before .args in
     let x = getD (a .t1 .blends) (l .i) none in
     let p = and-both (proper 128 128 x) (all (proper 128 128) (drop (l .i + 1) (blendsOf (a .t1)))) (rw (turn c) at (l .inv .2)) in
-    let q = proper-of 128 128 x (omega arith) (omega arith) (p .0) in
+    let q = proper-largest 128 128 x (omega arith) (omega arith) (p .0) in
     let across = q .across in
     let up = q .up in
     (omega arith, p .1)

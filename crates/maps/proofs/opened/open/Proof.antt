@@ -1,6 +1,5 @@
 -- `maps::opened::open` meets its contract: the lines replayed, then the unused places.
 use borrow.Author.Needs.{needs}
-use native.Mathlib.Omega.{arith}
 use borrow.Author.Tests.{not-true, not-false}
 use mathlib.Core.Path.{_≡_, sym, ap, _∙_}
 use lib.ListN.{length, drop}
@@ -13,7 +12,7 @@ use Rattle.mesh.specs.Splits.{liveOf}
 use Rattle.maps.specs.declared.opened.Opened.{Opened}
 use Rattle.maps.specs.Record.{isZero}
 use Rattle.maps.specs.Opened.{opened}
-use Rattle.maps.proofs.OneSplitMore.{table-count}
+use Rattle.mesh.proofs.BlendTables.{table-count}
 use Rattle.maps.proofs.Opening.{Passes, not-opened, is-opened, replay-says, replay-table}
 use Rattle.maps.proofs.opened.open.Statement.{statement}
 use Rattle.maps.proofs.opened.open.Tie as tie

@@ -7,11 +7,10 @@ use mathlib.Core.Path.{_≡_, refl, sym, _∙_}
 use mathlib.Core.Bool.{_&&_}
 use lib.ListN.{length, drop, getD}
 use lib.Seq.{length-take-le}
-use Rattle.mesh.proofs.Arrays.{table-full}
+use Rattle.mesh.proofs.BlendTables.{table-full, blends-turn, blends-end}
 use Rattle.mesh.specs.Blends.{same}
 use Rattle.mesh.specs.Sound.{blendsOf, none}
 use Rattle.axis.proofs.Tests.{false-of}
-use Rattle.mesh.proofs.Cutting.{blends-turn, blends-end}
 use Rattle.axis.specs.Range.{agree}
 use Rattle.axis.proofs.Entries.{agree-length}
 use Rattle.maps.proofs.sameness.same_tables.Statement.{statement}

@@ -6,7 +6,7 @@ use mathlib.Core.Path.{_≡_, refl, sym, _∙_}
 use mathlib.Core.Bool.{_&&_}
 use lib.Dec.{eqb}
 use lib.ListN.{length, take, drop, getD}
-use Rattle.mesh.proofs.Drawing.{left-turn, left-none}
+use Rattle.axis.proofs.Entries.{left-turn, left-none}
 use Rattle.axis.specs.Range.{agree}
 use Rattle.maps.proofs.sameness.same_values.Statement.{statement}
 use Rattle.maps.proofs.sameness.same_values.Tie as tie

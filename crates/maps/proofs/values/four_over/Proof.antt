@@ -8,10 +8,9 @@ use mathlib.Core.List.{_∷_}
 use borrow.Author.Tests.{ltb-true, ltb-false}
 use lib.Dec.{ltb}
 use lib.ListN.{drop, getD, length}
-use Rattle.mesh.proofs.Arrays.{table-full}
+use Rattle.mesh.proofs.BlendTables.{table-full, blends-turn, blends-end}
 use Rattle.axis.proofs.Tests.{either}
 use Rattle.mesh.specs.Sound.{blendsOf, none, overSquare}
-use Rattle.mesh.proofs.Cutting.{blends-turn, blends-end}
 use Rattle.maps.specs.Inner.{entriesOver}
 use Rattle.maps.proofs.OverSquare.{Window, window-left, window-more, window-all, entries-length}
 use Rattle.maps.proofs.values.four_over.Statement.{statement}

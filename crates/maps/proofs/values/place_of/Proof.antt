@@ -4,11 +4,10 @@ use Prim.Native.Nat.{_≤_, _+_, _-_}
 use borrow.Author.Needs.{needs}
 use mathlib.Core.Path.{_≡_, sym, _∙_}
 use mathlib.Core.Bool.{true, false, cond}
-use lib.ListN.{drop, getD, length}
-use Rattle.mesh.proofs.Arrays.{table-full}
+use lib.ListN.{drop, getD}
+use Rattle.mesh.proofs.BlendTables.{table-full, blends-turn, blends-end}
 use Rattle.mesh.specs.Blends.{anchored}
 use Rattle.mesh.specs.Sound.{blendsOf, none}
-use Rattle.mesh.proofs.Cutting.{blends-turn, blends-end}
 use Rattle.maps.specs.Values.{placeOf}
 use Rattle.maps.proofs.values.place_of.Statement.{statement}
 use Rattle.maps.proofs.values.place_of.Tie as tie

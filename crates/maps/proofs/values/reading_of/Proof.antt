@@ -5,7 +5,7 @@ use native.Mathlib.Nat.{div-le-of-le-mul}
 use Prim.Native.Nat.{_+_, _*_, _≤_}
 use mathlib.Core.Path.{_≡_, ap, _∙_}
 use lib.ListN.{length, getD}
-use Rattle.mesh.proofs.Arrays.{table-full}
+use Rattle.mesh.proofs.BlendTables.{table-full}
 use Rattle.axis.specs.Fraction.{Fraction, plus}
 use Rattle.axis.proofs.Gaps.{End}
 use Rattle.maps.specs.declared.values.Entry.{Entry}

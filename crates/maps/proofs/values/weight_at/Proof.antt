@@ -4,7 +4,7 @@ use native.Mathlib.Omega.{arith}
 use mathlib.Core.Path.{refl}
 use Prim.Native.Nat.{_*_, _<_, _≤_}
 use Rattle.axis.specs.Gap.{gap, share}
-use Rattle.mesh.proofs.Places.{proper-facts}
+use Rattle.mesh.proofs.Cuts.{proper-facts}
 use Rattle.maps.specs.Values.{weightAt}
 use Rattle.maps.proofs.OverSquare.{denominator-positive, denominator-most, numerator-most}
 use Rattle.maps.proofs.values.weight_at.Statement.{statement}

@@ -5,7 +5,7 @@ use mathlib.Core.Path.{_≡_}
 use mathlib.Core.Bool.{true}
 use Rattle.mesh.specs.Lines.{allowed}
 use Rattle.axis.proofs.Tests.{failed, passed}
-use Rattle.mesh.proofs.Drawing.{allowed-says}
+use Rattle.mesh.proofs.Ranges.{allowed-says}
 use Rattle.mesh.proofs.blends.in_ranges.Statement.{statement}
 use Rattle.mesh.proofs.blends.in_ranges.Tie as tie
 

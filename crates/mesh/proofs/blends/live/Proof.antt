@@ -15,7 +15,7 @@ use Rattle.mesh.specs.declared.Table.{Table}
 use Rattle.mesh.specs.declared.Lines.{Lines}
 use Rattle.mesh.specs.declared.Found.{Found}
 use Rattle.axis.proofs.Tests.{failed, passed, and-of, cond-true, cond-false}
-use Rattle.mesh.proofs.Drawing.{allowed-says}
+use Rattle.mesh.proofs.Ranges.{allowed-says}
 use Rattle.mesh.proofs.Refining.{first-refined}
 use Rattle.mesh.proofs.Fitted.{fits-held, unfit-unsound, full-sound}
 use Rattle.mesh.proofs.blends.live.Statement.{statement}

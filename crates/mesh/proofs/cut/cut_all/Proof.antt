@@ -1,12 +1,12 @@
 -- `mesh::cut::cut_all` meets its contract. The invariant: the blends that remain, cut into the places as they are, give the whole answer.
 use Prim.Native.Nat.{_-_, _≤_}
 use native.Mathlib.Omega.{arith}
-use mathlib.Core.Path.{_≡_, refl, _∙_}
+use mathlib.Core.Path.{refl, _∙_}
 use mathlib.Core.Bool.{true}
 use Rattle.mesh.specs.Sound.{blendsOf}
 use Rattle.mesh.specs.Bytes.{bytesMesh}
 use Rattle.axis.proofs.Tests.{true-not-false, only-all}
-use Rattle.mesh.proofs.Cutting.{blends-end, Next, next-blend}
+use Rattle.mesh.proofs.BlendTables.{blends-end, Next, next-blend}
 use Rattle.mesh.proofs.Recutting.{Keeping, keeping-none, keeping-cut, keeping-done}
 use Rattle.mesh.proofs.cut.cut_all.Statement.{statement}
 use Rattle.mesh.proofs.cut.cut_all.Tie as tie

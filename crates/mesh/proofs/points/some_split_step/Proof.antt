@@ -7,8 +7,9 @@ use lib.ListN.{drop}
 use Rattle.axis.specs.Range.{any}
 use Rattle.mesh.specs.Lines.{splitsOf}
 use Rattle.axis.proofs.Entries.{left-turn, none-left}
-use Rattle.mesh.proofs.Arrays.{lines-full}
-use Rattle.mesh.proofs.Drawing.{allowed-says, blank}
+use Rattle.mesh.proofs.BlendTables.{lines-full}
+use Rattle.mesh.proofs.Ranges.{allowed-says}
+use Rattle.mesh.proofs.Drawing.{blank}
 use Rattle.mesh.proofs.SingleSteps.{has, split-small}
 use Rattle.mesh.proofs.points.some_split_step.Statement.{statement}
 use Rattle.mesh.proofs.points.some_split_step.Tie as tie

@@ -4,7 +4,7 @@ use mathlib.Core.Path.{_≡_, sym, _∙_}
 use mathlib.Core.Bool.{_||_}
 use Rattle.axis.specs.Range.{any}
 use Rattle.mesh.specs.Lines.{direction, layoutOf, meshOf, splitsOf}
-use Rattle.mesh.proofs.Drawing.{allowed-says}
+use Rattle.mesh.proofs.Ranges.{allowed-says}
 use Rattle.mesh.proofs.SingleSteps.{has, step-upright, step-level}
 use Rattle.mesh.proofs.points.step_on.Statement.{statement}
 use Rattle.mesh.proofs.points.step_on.Tie as tie

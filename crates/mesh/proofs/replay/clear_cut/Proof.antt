@@ -7,7 +7,7 @@ use Rattle.mesh.specs.Lines.{direction}
 use Rattle.mesh.specs.Blends.{cuts}
 use Rattle.mesh.specs.Sound.{blendsOf}
 use Rattle.mesh.specs.Bytes.{bytesMesh}
-use Rattle.mesh.proofs.Cutting.{blends-end, Next, next-blend}
+use Rattle.mesh.proofs.BlendTables.{blends-end, Next, next-blend}
 use Rattle.mesh.proofs.Recutting.{Clearing, clearing-none, clearing-cut, clearing-pass, clearing-done}
 use Rattle.mesh.proofs.replay.clear_cut.Statement.{statement}
 use Rattle.mesh.proofs.replay.clear_cut.Tie as tie

@@ -8,7 +8,7 @@ use Rattle.mesh.specs.Blends.{cuts}
 use Rattle.mesh.specs.Sound.{blendsOf}
 use Rattle.mesh.specs.Bytes.{bytesMesh}
 use Rattle.axis.proofs.Tests.{true-not-false}
-use Rattle.mesh.proofs.Cutting.{blends-end, Next, next-blend}
+use Rattle.mesh.proofs.BlendTables.{blends-end, Next, next-blend}
 use Rattle.mesh.proofs.Recutting.{Keeping, keeping-none, keeping-cut, keeping-pass, keeping-done}
 use Rattle.mesh.proofs.replay.cut_those.Statement.{statement}
 use Rattle.mesh.proofs.replay.cut_those.Tie as tie

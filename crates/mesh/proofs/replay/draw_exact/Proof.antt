@@ -5,7 +5,7 @@ use mathlib.Core.Path.{_≡_, refl, sym}
 use mathlib.Core.Bool.{true}
 use Rattle.mesh.specs.Lines.{upright, level, inRange}
 use Rattle.axis.proofs.Tests.{refused, failed, passed, second, and-of, true-not-false}
-use Rattle.mesh.proofs.Drawing.{in-range-says}
+use Rattle.mesh.proofs.Ranges.{in-range-says}
 use Rattle.mesh.proofs.SingleSteps.{in-range-small}
 use Rattle.mesh.proofs.Recutting.{both-drawn}
 use Rattle.mesh.proofs.replay.draw_exact.Statement.{statement}

@@ -6,8 +6,8 @@ use borrow.Author.Tests.{not-true, not-false}
 use mathlib.Core.Path.{_≡_, refl, sym, ap, _∙_}
 use mathlib.Core.Bool.{true, false, _&&_, not}
 use mathlib.Core.List.{[], _∷_, _++_}
-use lib.ListN.{length, length-map, length-replicate, getD, take}
-use Rattle.mesh.proofs.Arrays.{lines-full}
+use lib.ListN.{length, length-replicate, getD, take}
+use Rattle.mesh.proofs.BlendTables.{lines-full}
 use Rattle.mesh.specs.Lines.{upright, level, mesh, inRange, shares, ended}
 use Rattle.mesh.specs.Blends.{live}
 use Rattle.mesh.specs.Bytes.{Marked, bytesMesh}

@@ -10,7 +10,7 @@ use Rattle.axis.specs.Range.{all}
 use Rattle.mesh.specs.Lines.{allowed, allowedSide, inRange, splitsOf}
 use Rattle.axis.proofs.Tests.{failed, passed}
 use Rattle.axis.proofs.Entries.{left-turn, none-left}
-use Rattle.mesh.proofs.Arrays.{lines-full}
+use Rattle.mesh.proofs.BlendTables.{lines-full}
 use Rattle.mesh.proofs.Drawing.{blank}
 use Rattle.mesh.proofs.steps.allowed_lines.Statement.{statement}
 use Rattle.mesh.proofs.steps.allowed_lines.Tie as tie

@@ -4,8 +4,9 @@ use native.Mathlib.Omega.{arith}
 use borrow.Author.Needs.{needs}
 use mathlib.Core.Path.{_≡_, sym, _∙_}
 use Rattle.mesh.specs.Lines.{Direction, number, other, side}
-use Rattle.mesh.proofs.Arrays.{lines-full}
-use Rattle.mesh.proofs.Drawing.{empty-square, allowed-says, in-range-says, direction-of, side-along, Drawing, drawing-none, drawing-ranges, drawing-more, drawing-done}
+use Rattle.mesh.proofs.BlendTables.{lines-full}
+use Rattle.mesh.proofs.Drawing.{empty-square, Drawing, drawing-none, drawing-ranges, drawing-more, drawing-done}
+use Rattle.mesh.proofs.Ranges.{allowed-says, in-range-says, direction-of, side-along}
 use Rattle.mesh.proofs.steps.draw_lines.Statement.{statement}
 use Rattle.mesh.proofs.steps.draw_lines.Tie as tie
 

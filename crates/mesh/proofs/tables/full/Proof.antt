@@ -11,8 +11,7 @@ use lib.ListN.{drop, getD}
 use Rattle.axis.specs.Triple.{stepsIn}
 use Rattle.mesh.specs.Sound.{none, blendsOf, area, areas, full}
 use Rattle.mesh.specs.declared.Blend.{Blend}
-use Rattle.mesh.proofs.Arrays.{table-full}
-use Rattle.mesh.proofs.Cutting.{blends-turn, blends-end}
+use Rattle.mesh.proofs.BlendTables.{table-full, blends-turn, blends-end}
 use Rattle.mesh.proofs.tables.full.Statement.{statement}
 use Rattle.mesh.proofs.tables.full.Tie as tie
 

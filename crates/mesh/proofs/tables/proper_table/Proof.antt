@@ -7,8 +7,7 @@ use lib.ListN.{drop, getD}
 use Rattle.axis.specs.Range.{all}
 use Rattle.mesh.specs.Sound.{proper, blendsOf, none}
 use Rattle.axis.proofs.Tests.{failed, passed}
-use Rattle.mesh.proofs.Arrays.{table-full}
-use Rattle.mesh.proofs.Cutting.{blends-turn, blends-end}
+use Rattle.mesh.proofs.BlendTables.{table-full, blends-turn, blends-end}
 use Rattle.mesh.proofs.tables.proper_table.Statement.{statement}
 use Rattle.mesh.proofs.tables.proper_table.Tie as tie
 
