@@ -56,16 +56,14 @@ pub fn write_opened(o: Opened, buffer: &mut [u8]) -> Written
     requires { ⌜ Opens o ⌝ }
     ensures { λ r. ⌜ (r ≡ written (o .map) (now (buffer .entry))) × (now (buffer .exit) ≡ after (o .map) (now (buffer .entry))) ⌝ }
 {
-    let map = o.map;
-    let table = o.table;
-    let length = ENDS + SPLIT * map.lines.count + VALUE * table.count;
+    let length = ENDS + SPLIT * o.map.lines.count + VALUE * o.table.count;
     if buffer.len() < length {
         return Written {
             number: 12,
             length: 0,
         };
     }
-    put_file(buffer, map, table);
+    put_file(buffer, o.map, o.table);
     Written {
         number: 0,
         length: length,

@@ -12,30 +12,30 @@ is-ready : (c : tie.Start) → Ready (c .args .o .map) (c .args .o .table)
 is-ready c = ready (open-map (c .args .o) (c .pre) _ (c .good .0))
 
 mul-length : tie.Need-mul-length
-mul-length c = omega (arith, is-ready (c .before .before .before .before) .few)
+mul-length c = omega (arith, is-ready (c .before .before) .few)
 
 add-length : tie.Need-add-length
-add-length c = omega (arith, is-ready (c .before .before .before .before) .few)
+add-length c = omega (arith, is-ready (c .before .before) .few)
 
 mul-length-2 : tie.Need-mul-length-2
-mul-length-2 c = omega (arith, is-ready (c .before .before .before .before .before) .listed .few)
+mul-length-2 c = omega (arith, is-ready (c .before .before .before) .listed .few)
 
 add-length-2 : tie.Need-add-length-2
-add-length-2 c = let r = is-ready (c .before .before .before .before .before) in omega (arith, r .few, r .listed .few)
+add-length-2 c = let r = is-ready (c .before .before .before) in omega (arith, r .few, r .listed .few)
 
 returns : tie.Need-returns
 returns c =
-    let r = is-ready (c .before .before .before .before .before .before) in
+    let r = is-ready (c .before .before .before .before) in
     write-short _ _ (r .is-good) (rw (r .size) (c .if1 .taken))
 
 put-file-requires : tie.Need-put-file-requires
 put-file-requires c κs =
-    let r = is-ready (c .before .before .before .before .before .before .before) in
+    let r = is-ready (c .before .before .before .before .before) in
     (r .listed, r .few, c .before .if1 .left)
 
 returns-2 : tie.Need-returns-2
 returns-2 c =
-    let start = c .before .before .before .before .before .before .before .before .before .before in
+    let start = c .before .before .before .before .before .before .before .before in
     let r = is-ready start in
     let w = write-whole (start .args .o .map) (start .args .buffer .now) (r .is-good) (rw (r .size) (c .before .before .before .before .if1 .left)) in
     (rw (← r .size) (w .0), c .before .before .put-file .ensures ∙ ap (put (start .args .buffer .now) 0) (r .is-file) ∙ w .1)
