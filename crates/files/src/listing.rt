@@ -145,7 +145,8 @@ fn put_refusal(out: &mut [u8])
 // Writes the table of an opened map as text into a lent buffer: refused with 12.
 pub fn list_opened(o: Opened, out: &mut [u8]) -> Written
     requires { ⌜ Opens o ⌝ }
-    ensures { λ r. ⌜ (r ≡ textWritten (tableText (plain (o .map))) (now (out .entry))) × (now (out .exit) ≡ textAfter (tableText (plain (o .map))) (now (out .entry))) ⌝ }
+    ensures { λ r. ⌜ (r ≡ textWritten (tableText (plain (o .map))) (now (out .entry))) ×
+        (now (out .exit) ≡ textAfter (tableText (plain (o .map))) (now (out .entry))) ⌝ }
 {
     if out.len() < ROOM {
         return Written {
@@ -164,7 +165,8 @@ pub fn list_opened(o: Opened, out: &mut [u8]) -> Written
 
 // Writes the table of a map file as text into a lent buffer, or the line of a refusal: refused with 12.
 pub fn list(bytes: &[u8], out: &mut [u8]) -> Written
-    ensures { λ r. ⌜ (r ≡ textWritten (listing (now (bytes .entry))) (now (out .entry))) × (now (out .exit) ≡ textAfter (listing (now (bytes .entry))) (now (out .entry))) ⌝ }
+    ensures { λ r. ⌜ (r ≡ textWritten (listing (now (bytes .entry))) (now (out .entry))) ×
+        (now (out .exit) ≡ textAfter (listing (now (bytes .entry))) (now (out .entry))) ⌝ }
 {
     let file = read_opened(bytes);
     if file.number == 0 {

@@ -75,7 +75,8 @@ fn put_values(bytes: &mut [u8], at: usize, table: Table, values: [u16; Table::MO
 
 // Puts the whole file of a map whose table is in hand.
 pub(crate) fn put_file(bytes: &mut [u8], map: Map, table: Table)
-    requires { ⌜ Listed table × (map .lines .count ≤ mostSplits) × (endsSize + splitSize * map .lines .count + valueSize * table .count ≤ length (now bytes)) ⌝ }
+    requires { ⌜ Listed table × (map .lines .count ≤ mostSplits) ×
+        (endsSize + splitSize * map .lines .count + valueSize * table .count ≤ length (now bytes)) ⌝ }
     ensures { λ _. ⌜ now (bytes .exit) ≡ put (now (bytes .entry)) 0 (filed map table) ⌝ }
 {
     let lines = map.lines;

@@ -40,7 +40,8 @@ recordOf P = record { lines = linesOf (P .lines); values = P .values ++ replicat
 unfoldable pub plain : Map → Plain
 plain m = record { lines = layoutOf (m .lines); values = take (length (liveOf (layoutOf (m .lines)))) (m .values) }
 
--- "The record is good if sides, count and unused places are as said and its splits, taken in order as exact splits from a fresh map of those sides, are all accepted."
+-- "The record is good if sides, count and unused places are as said and its splits, taken in order as exact splits from a fresh map of those sides, are
+-- all accepted."
 unfoldable pub good : Map → Bool
 good m =
     replays (m .lines) && all isNoSplit (drop (m .lines .count) (m .lines .splits)) &&
