@@ -92,18 +92,22 @@ fn no_values_from(values: [u16; Table::MOST_BLENDS], from: usize) -> bool
     true
 }
 
-// A table without blends.
-fn no_table() -> Table
-    ensures { λ r. ⌜ r ≡ table [] ⌝ }
+// What a record that is not good gives, with a table without blends.
+fn not_good(map: Map) -> Opened
+    ensures { λ r. ⌜ r ≡ record { number = 2; map = map; table = table [] } ⌝ }
 {
     let zero = Triple { l: 0, m: 0, r: 0 };
     let none = Blend {
         across: zero,
         up: zero,
     };
-    Table {
-        count: 0,
-        blends: [none; Table::MOST_BLENDS],
+    Opened {
+        number: 2,
+        map: map,
+        table: Table {
+            count: 0,
+            blends: [none; Table::MOST_BLENDS],
+        },
     }
 }
 
@@ -111,24 +115,19 @@ fn no_table() -> Table
 pub fn open(map: Map) -> Opened
     ensures { λ r. ⌜ r ≡ opened map ⌝ }
 {
-    let refused = Opened {
-        number: 2,
-        map: map,
-        table: no_table(),
-    };
     let lines = map.lines;
     let found = replay(lines);
     if !found.ok {
-        return refused;
+        return not_good(map);
     }
     let splits = lines.splits;
     if !no_splits_from(splits, lines.count) {
-        return refused;
+        return not_good(map);
     }
     let table = found.table;
     let values = map.values;
     if !no_values_from(values, table.count) {
-        return refused;
+        return not_good(map);
     }
     Opened {
         number: 0,

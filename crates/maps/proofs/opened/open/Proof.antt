@@ -9,46 +9,40 @@ use Rattle.mesh.specs.declared.Table.{Table}
 use Rattle.mesh.specs.Lines.{layoutOf}
 use Rattle.mesh.specs.Sound.{table}
 use Rattle.mesh.specs.Splits.{liveOf}
-use Rattle.maps.specs.declared.opened.Opened.{Opened}
 use Rattle.maps.specs.Record.{isZero}
-use Rattle.maps.specs.Opened.{opened}
 use Rattle.mesh.proofs.BlendTables.{table-count}
-use Rattle.maps.proofs.Opening.{Passes, not-opened, is-opened, replay-says, replay-table}
+use Rattle.maps.proofs.Opening.{not-opened, is-opened, replay-says, replay-table}
 use Rattle.maps.proofs.opened.open.Statement.{statement}
 use Rattle.maps.proofs.opened.open.Tie as tie
 
--- every refusal hands back the same
-refusal : (c : tie.After-no-table) → (Passes (c .before .args .map) → ⊥) →
-    _≡_ {A = Opened} (record { number = 2; map = c .before .args .map; table = c .no-table .result }) (opened (c .before .args .map))
-refusal c f = rw (c .no-table .ensures) (sym (not-opened (c .before .args .map) f))
-
 returns : tie.Need-returns
 returns c =
-    refusal (c .before .before .before .before) (λ p. true-not-false _ (p .accepted?) (sym (replay-says _ (c .before .before .replay .ensures)) ∙ not-true _ (c .if1 .taken)))
+    c .not-good .ensures ∙
+    sym (not-opened _ (λ p. true-not-false _ (p .accepted?) (sym (replay-says _ (c .before .before .before .replay .ensures)) ∙ not-true _ (c .before .if1 .taken))))
 
 returns-2 : tie.Need-returns-2
 returns-2 c =
-    refusal (c .before .before .before .before .before .before .before)
-    (λ p. true-not-false _ (p .no-splits) (sym (c .before .no-splits-from .ensures) ∙ not-true _ (c .if2 .taken)))
+    c .not-good2 .ensures ∙
+    sym (not-opened _ (λ p. true-not-false _ (p .no-splits) (sym (c .before .before .no-splits-from .ensures) ∙ not-true _ (c .before .if2 .taken))))
 
 -- the table of a good record's lines
-whole : (c : tie.Else1) → c .before .before .replay .result .table ≡ table (liveOf (layoutOf (c .before .before .before .before .before .args .map .lines)))
+whole : (c : tie.Else1) → c .before .before .replay .result .table ≡ table (liveOf (layoutOf (c .before .before .before .before .args .map .lines)))
 whole c = replay-table _ (c .before .before .replay .ensures) (not-false _ (c .if1 .left))
 
 -- the values after its count are the unused ones
 unused : (c : tie.After-no-values-from) →
-    let m = c .before .before .before .before .before .before .before .before .before .before .before .args .map in
+    let m = c .before .before .before .before .before .before .before .before .before .before .args .map in
     all isZero (drop (length (liveOf (layoutOf (m .lines)))) (m .values)) ≡ c .no-values-from .result
 unused c =
     let e = c .before .before .before .before .before .before in
-    let lives = liveOf (layoutOf (e .before .before .before .before .before .args .map .lines)) in
+    let lives = liveOf (layoutOf (e .before .before .before .before .args .map .lines)) in
     let n : e .before .before .replay .result .table .count ≡ length lives = ap (λ (t : Table). t .count) (whole e) ∙ table-count lives in
     rw (← n) (sym (c .no-values-from .ensures))
 
 returns-3 : tie.Need-returns-3
 returns-3 c =
-    refusal (c .before .before .before .before .before .before .before .before .before .before .before)
-    (λ p. true-not-false _ (p .no-values) (unused (c .before) ∙ not-true _ (c .if3 .taken)))
+    c .not-good3 .ensures ∙
+    sym (not-opened _ (λ p. true-not-false _ (p .no-values) (unused (c .before .before) ∙ not-true _ (c .before .if3 .taken))))
 
 returns-4 : tie.Need-returns-4
 returns-4 c =
@@ -56,7 +50,7 @@ returns-4 c =
     let e = none .before .before .before in
     rw (whole e)
     (sym
-    (is-opened (e .before .before .before .before .before .args .map)
+    (is-opened (e .before .before .before .before .args .map)
     (record {
       accepted? = sym (replay-says _ (e .before .before .replay .ensures)) ∙ not-false _ (e .if1 .left);
       no-splits = sym (none .before .no-splits-from .ensures) ∙ not-false _ (none .if2 .left);
@@ -71,7 +65,9 @@ open-spec =
     (λ c κs. search needs)
     returns
     (λ c κs. search needs)
+    (λ c κs. search needs)
     returns-2
+    (λ c κs. search needs)
     (λ c κs. search needs)
     returns-3
     returns-4)
