@@ -2,10 +2,10 @@
 use crate::numbers::first;
 use crate::numbers::if_refused;
 use files::read_opened;
+use files::write;
 use files::write_opened;
 use maps::Map;
 use maps::opened::Opened;
-use maps::opened::open;
 use mesh::Split;
 ghost use mathlib.Core.Path.{_≡_};
 ghost use Rattle.maps.specs.Calls.{changed, setValue, exactSplit, lengthenedSplit};
@@ -46,10 +46,13 @@ pub extern "C" fn pump_fresh(w: usize, h: usize, buffer: &mut [u8], used: &mut u
         (now (used .exit) ≡ freshUsed w h (now (buffer .entry))) ⌝ }
 {
     let made = Map::fresh(w, h);
-    let mut next = open(made.map);
-    next.number = made.number;
     *used = 0;
-    replace(buffer, used, 0, next)
+    if made.number != 0 {
+        return made.number;
+    }
+    let file = write(made.map, buffer);
+    *used = file.length;
+    file.number
 }
 
 #[no_mangle]
