@@ -2,12 +2,12 @@
 use Prim.Native.Nat.{ℕ, zero, suc, _+_, _≤_, _<_, zero-le, suc-le-suc}
 use native.Mathlib.Omega.{arith}
 use mathlib.Core.Path.{_≡_, refl, sym, ap, ap₂, subst, _∙_}
-use mathlib.Core.Logic.{⊎-elim}
+use mathlib.Core.Logic.{_⊎_, inl, inr, ⊎-elim}
 use mathlib.Core.Bool.{Bool}
 use mathlib.Core.List.{List, [], _∷_, _++_, map, List·Memᴰ, List·Memᴰ·cases-cons, List·Memᴰ·append-cases, List·Memᴰ·not-nil}
 use mathlib.Core.List.List·Memᴰ.{List·Memᴰ·head, List·Memᴰ·tail}
 use lib.ListN.{length}
-use Rattle.axis.specs.Range.{each, only, Distinct}
+use Rattle.axis.specs.Range.{each, only, Distinct, Ordered}
 use Rattle.axis.proofs.Tests.{either, only-mem, each-mem}
 use Rattle.axis.proofs.Members.{map-mem}
 
@@ -85,9 +85,9 @@ module _ {ℓ} {A : Type ℓ} where
   nothing (x ∷ xs) f = absurd (f x (List·Memᴰ·head refl))
 
 module _ {ℓ} {A : Type ℓ} (key : A → ℕ) where
+  -- the keys rise strictly
   abbrev pub Ascending : List A → Type ℓ
-  Ascending [] = Unit
-  Ascending (x ∷ xs) = ((y : A) → List·Memᴰ y xs → key x < key y) × Ascending xs
+  Ascending xs = Ordered (λ x y. key x < key y) xs
 
   -- ascending lists with the same members are equal
   pub ascending-unique : (xs ys : List A) → Ascending xs → Ascending ys →
@@ -109,20 +109,22 @@ module _ {ℓ} {A : Type ℓ} (key : A → ℕ) where
       above : (u v : A) → key u < key v → u ≡ v → ⊥
       above u v lt q = let s = ap key q in omega arith
 
-  append-ascending : (xs ys : List A) → Ascending xs → Ascending ys →
-      ((x y : A) → List·Memᴰ x xs → List·Memᴰ y ys → key x < key y) → Ascending (xs ++ ys)
-  append-ascending [] ys a b f = b
-  append-ascending (x ∷ xs) ys a b f = (
+-- lists ordered one after the other
+module _ {ℓ} {A : Type ℓ} (before : A → A → Type 0) where
+  append-ordered : (xs ys : List A) → Ordered before xs → Ordered before ys →
+      ((x y : A) → List·Memᴰ x xs → List·Memᴰ y ys → before x y) → Ordered before (xs ++ ys)
+  append-ordered [] ys a b f = b
+  append-ordered (x ∷ xs) ys a b f = (
     λ y m. ⊎-elim (a .0 y) (λ n. f x y (List·Memᴰ·head refl) n) (List·Memᴰ·append-cases xs m),
-    append-ascending xs ys (a .1) b (λ u v mu mv. f u v (List·Memᴰ·tail mu) mv),
+    append-ordered xs ys (a .1) b (λ u v mu mv. f u v (List·Memᴰ·tail mu) mv),
   )
 
-  pub each-ascending : (from n : ℕ) (f : ℕ → List A) → ((k : ℕ) → Ascending (f k)) →
-      ((j k : ℕ) (x y : A) → j < k → k < from + n → List·Memᴰ x (f j) → List·Memᴰ y (f k) → key x < key y) → Ascending (each from n f)
-  each-ascending from zero f a lt = tt
-  each-ascending from (suc n) f a lt =
-      append-ascending (f from) (each (from + 1) n f) (a from)
-      (each-ascending (from + 1) n f a (λ j k x y l hi. lt j k x y l (omega arith)))
+  pub each-ordered : (from n : ℕ) (f : ℕ → List A) → ((k : ℕ) → Ordered before (f k)) →
+      ((j k : ℕ) (x y : A) → j < k → k < from + n → List·Memᴰ x (f j) → List·Memᴰ y (f k) → before x y) → Ordered before (each from n f)
+  each-ordered from zero f a lt = tt
+  each-ordered from (suc n) f a lt =
+      append-ordered (f from) (each (from + 1) n f) (a from)
+      (each-ordered (from + 1) n f a (λ j k x y l hi. lt j k x y l (omega arith)))
       (λ x y m r.
       let found = each-mem (from + 1) n f y r in
       let lo : from + 1 ≤ found .0 = found .1 in
@@ -130,7 +132,16 @@ module _ {ℓ} {A : Type ℓ} (key : A → ℕ) where
       lt from (found .0) x y (omega arith) (omega arith) m (found .3))
 
   -- a list of at most one kind of entry, without repeats
-  pub lone : (xs : List A) → Distinct xs → ((x y : A) → List·Memᴰ x xs → List·Memᴰ y xs → x ≡ y) → Ascending xs
+  pub lone : (xs : List A) → Distinct xs → ((x y : A) → List·Memᴰ x xs → List·Memᴰ y xs → x ≡ y) → Ordered before xs
   lone [] d e = tt
   lone (x ∷ []) d e = (λ y m. absurd (List·Memᴰ·not-nil m), tt)
   lone (x ∷ y ∷ ys) d e = absurd (d .0 (List·Memᴰ·head (e x y (List·Memᴰ·head refl) (List·Memᴰ·tail (List·Memᴰ·head refl)))))
+
+  -- the entries that pass a test, and the first of a list
+  pub only-ordered : (test : A → Bool) (xs : List A) → Ordered before xs → Ordered before (only test xs)
+  only-ordered test [] o = tt
+  only-ordered test (x ∷ xs) o =
+      ⊎-elim (λ t. rw t (λ y m. o .0 y (only-mem test xs y m .0), only-ordered test xs (o .1))) (λ t. rw t (only-ordered test xs (o .1))) (either (test x))
+
+  pub first-before : (x : A) (xs : List A) → Ordered before (x ∷ xs) → (y : A) → List·Memᴰ y (x ∷ xs) → (y ≡ x) ⊎ before x y
+  first-before x xs o y m = ⊎-elim inl (λ n. inr (o .0 y n)) (List·Memᴰ·cases-cons m)

@@ -132,6 +132,23 @@ pub each-none {ℓ} : {A : Type ℓ} (k n : ℕ) (f : ℕ → List A) → n ≤ 
 each-none k zero f h = refl
 each-none k (suc n) f h = absurd (omega arith)
 
+-- numbers in front that give nothing may be passed over
+pub each-skips {ℓ} : {A : Type ℓ} (n j : ℕ) (f : ℕ → List A) → j ≤ n → ((i : ℕ) → i < j → f i ≡ []) → each 0 n f ≡ each j (n - j) f
+each-skips n j f le none =
+    let e : 0 + j ≡ j = omega arith in
+    subst (λ (k : ℕ). each 0 n f ≡ each k (n - j) f) e (from-on 0 n j le (λ i lo hi. none i (omega arith)))
+  where
+    from-on : (k n j : ℕ) → j ≤ n → ((i : ℕ) → k ≤ i → i < k + j → f i ≡ []) → each k n f ≡ each (k + j) (n - j) f
+    from-on k n zero le none = rw (let e : k + 0 ≡ k = omega arith in e, let e : n - 0 ≡ n = omega arith in e)
+    from-on k n (suc j) le none =
+        let e : k + suc j ≡ k + 1 + j = omega arith in
+        let d : n - suc j ≡ n - 1 - j = omega arith in
+        each-turn k n f (omega arith) ∙
+        rw (none k (omega arith) (omega arith), e, d) (from-on (k + 1) (n - 1) j (omega arith) (λ i lo hi. none i (omega arith) (omega arith)))
+
+pub each-empty {ℓ} : {A : Type ℓ} (n : ℕ) (f : ℕ → List A) → ((i : ℕ) → i < n → f i ≡ []) → each 0 n f ≡ []
+each-empty n f none = each-skips n n f (omega arith) none ∙ each-none n (n - n) f (omega arith)
+
 module _ {ℓ} {A : Type ℓ} where
   pub all-at : (test : A → Bool) (xs : List A) → all test xs ≡ true → (x : A) → List·Memᴰ x xs → test x ≡ true
   all-at test [] e x h = absurd (List·Memᴰ·not-nil h)

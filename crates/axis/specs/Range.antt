@@ -48,3 +48,8 @@ agree test (x ∷ xs) (y ∷ ys) = test x y && agree test xs ys
 abbrev pub Distinct {ℓ} : {A : Type ℓ} → List A → Type ℓ
 Distinct [] = Unit
 Distinct (x ∷ xs) = (List·Memᴰ x xs → ⊥) × Distinct xs
+
+-- each entry of a list comes before all that stand after it
+abbrev pub Ordered {ℓ} : {A : Type ℓ} → (A → A → Type 0) → List A → Type ℓ
+Ordered before [] = Unit
+Ordered before (x ∷ xs) = ((y : _) → List·Memᴰ y xs → before x y) × Ordered before xs

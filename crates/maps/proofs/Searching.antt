@@ -5,7 +5,7 @@ use mathlib.Core.Path.{_≡_, refl, sym, ap, _∙_}
 use mathlib.Core.Logic.{⊎-elim}
 use mathlib.Core.Bool.{Bool, true, false, _&&_, not}
 use mathlib.Core.List.{List, [], _∷_, _++_, append-assoc}
-use borrow.Author.Tests.{leb-true, le-leb, lt-ltb, eqb-true}
+use borrow.Author.Tests.{leb-true, le-leb, lt-leb, lt-ltb, eqb-true}
 use lib.Dec.{leb, ltb, eqb}
 use lib.ListN.{take}
 use Rattle.mesh.specs.declared.Split.{Split}
@@ -13,24 +13,21 @@ use Rattle.mesh.specs.declared.Lines.{Lines}
 use Rattle.mesh.specs.declared.Table.{Table}
 use Rattle.axis.specs.Range.{each, only}
 use Rattle.mesh.specs.Lines.{Layout, layoutOf, upright, level, inRange, shares, ended, fits, meshOf}
-use Rattle.axis.proofs.Tests.{either, and-both, and-of, false-of, cond-true, cond-false, each-turn, each-none}
+use Rattle.axis.proofs.Tests.{either, and-both, and-of, and-first, false-of, cond-true, cond-false, each-turn, each-none, each-skips, each-empty}
 use Rattle.mesh.proofs.Ranges.{in-range-says}
+use Rattle.mesh.proofs.Containing.{line}
 use Rattle.maps.specs.declared.splits.Step.{Step}
 use Rattle.mesh.specs.Splits.{given, soundWith, reaching, run, containing, candidate, chosen}
 use Rattle.maps.specs.Inner.{HasTable, refusedStep, judged, found}
 use Rattle.maps.proofs.OneSplitMore.{Given, given-says, table-sides, splits-length}
 
 module _ (P : Layout) (s : Split) where
-  -- the line of a length from a start, where it keeps to the side; those of a length from a start on
-  abbrev pub line : ℕ → ℕ → List Split
-  line n from = only (λ c. leb (c .to) (run P s)) (reaching s from n ∷ [])
-
+  -- the lines of a length from a start on; those of length n and more; and those before them that are left of a length from a start on
   abbrev pub starts : ℕ → ℕ → List Split
-  starts n from = each from (s .from + 1 - from) (line n)
+  starts n from = each from (s .from + 1 - from) (line P s n)
 
-  -- the lines of length n and more; and those before them that are left of a length from a start on
   abbrev pub rows : ℕ → List Split
-  rows n = each n (run P s + 1 - n) (λ k. starts k (s .to - k))
+  rows n = each n (run P s + 1 - n) (λ k. each 0 (s .from + 1) (line P s k))
 
   abbrev pub ahead : ℕ → ℕ → List Split
   ahead n from = starts n from ++ rows (n + 1)
@@ -39,42 +36,51 @@ module _ (P : Layout) (s : Split) where
   unfoldable pub first : List Split → List Split
   first xs = take 1 (only (candidate P) xs)
 
-  chosen-first : s .to - s .from ≤ run P s → chosen P s ≡ first (rows (s .to - s .from))
-  unfolding chosen containing first
-  chosen-first le =
-      let e : run P s - (s .to - s .from) + 1 ≡ run P s + 1 - (s .to - s .from) = omega arith in rw e
+  -- no line ends before the given one, so the search may begin with the given length, and with the first start that reaches the given end
+  line-none : (n from : ℕ) → from + n < s .to → line P s n from ≡ []
+  line-none n from lt = cond-false _ _ _ (and-first _ _ (lt-leb _ _ lt))
 
-  rows-turn : (n : ℕ) → n ≤ run P s → rows n ≡ ahead n (s .to - n)
-  rows-turn n le =
+  chosen-first : s .from ≤ s .to → s .to ≤ run P s → chosen P s ≡ first (rows (s .to - s .from))
+  unfolding chosen containing first
+  chosen-first rises within =
+      ap first
+      (each-skips (run P s + 1) (s .to - s .from) (λ n. each 0 (s .from + 1) (line P s n)) (omega arith)
+      (λ n short. each-empty (s .from + 1) (line P s n) (λ from low. line-none n from (omega arith))))
+
+  rows-turn : (n : ℕ) → n ≤ run P s → s .to - s .from ≤ n → rows n ≡ ahead n (s .to - n)
+  rows-turn n le long =
       let e : run P s + 1 - n - 1 ≡ run P s + 1 - (n + 1) = omega arith in
-      each-turn n (run P s + 1 - n) _ (omega arith) ∙ rw e
+      each-turn n (run P s + 1 - n) _ (omega arith) ∙
+      rw (e, each-skips (s .from + 1) (s .to - n) (line P s n) (omega arith) (λ from low. line-none n from (omega arith)))
 
   rows-none : (n : ℕ) → run P s < n → rows n ≡ []
   rows-none n lt = each-none n (run P s + 1 - n) _ (omega arith)
 
-  starts-turn : (n from : ℕ) → from ≤ s .from → ahead n from ≡ line n from ++ ahead n (from + 1)
+  starts-turn : (n from : ℕ) → from ≤ s .from → ahead n from ≡ line P s n from ++ ahead n (from + 1)
   starts-turn n from le =
       let e : s .from + 1 - from - 1 ≡ s .from + 1 - (from + 1) = omega arith in
-      rw (each-turn from (s .from + 1 - from) (line n) (omega arith), e, append-assoc)
+      rw (each-turn from (s .from + 1 - from) (line P s n) (omega arith), e, append-assoc)
 
   starts-none : (n from : ℕ) → s .from < from → starts n from ≡ []
-  starts-none n from lt = each-none from (s .from + 1 - from) (line n) (omega arith)
+  starts-none n from lt = each-none from (s .from + 1 - from) (line P s n) (omega arith)
 
   -- a line that is no candidate is passed over, and the first that is one is taken
   line-passed : (n from : ℕ) (more : List Split) → (from + n ≤ run P s → candidate P (reaching s from n) ≡ false) →
-      first (line n from ++ more) ≡ first more
+      first (line P s n from ++ more) ≡ first more
   unfolding first
   line-passed n from more out =
       ⊎-elim
-      (λ e. ap (λ (xs : List Split). first (xs ++ more)) (cond-true _ _ _ e) ∙ ap (take 1) (cond-false _ _ _ (out (leb-true _ _ e))))
+      (λ e. ap (λ (xs : List Split). first (xs ++ more)) (cond-true _ _ _ e) ∙
+      ap (take 1) (cond-false _ _ _ (out (leb-true _ _ (and-both (leb (s .to) (from + n)) (leb (from + n) (run P s)) e .1)))))
       (λ e. ap (λ (xs : List Split). first (xs ++ more)) (cond-false _ _ _ e))
-      (either (leb (from + n) (run P s)))
+      (either (leb (s .to) (from + n) && leb (from + n) (run P s)))
 
-  line-taken : (n from : ℕ) (more : List Split) → from + n ≤ run P s → candidate P (reaching s from n) ≡ true →
-      first (line n from ++ more) ≡ reaching s from n ∷ []
+  line-taken : (n from : ℕ) (more : List Split) → s .to ≤ from + n → from + n ≤ run P s → candidate P (reaching s from n) ≡ true →
+      first (line P s n from ++ more) ≡ reaching s from n ∷ []
   unfolding first
-  line-taken n from more le ok =
-      ap (λ (xs : List Split). first (xs ++ more)) (cond-true _ _ _ (le-leb _ _ le)) ∙ ap (take 1) (cond-true _ _ _ ok)
+  line-taken n from more reaches le ok =
+      ap (λ (xs : List Split). first (xs ++ more)) (cond-true _ _ _ (and-of _ _ (le-leb _ _ reaches) (le-leb _ _ le))) ∙
+      ap (take 1) (cond-true _ _ _ ok)
 
 -- a line in range keeps to its ranges with other ends within the side that it runs along
 pub reaching-fits : (P : Layout) (s : Split) (from n : ℕ) → inRange (P .w) (P .h) s ≡ true → 0 < n → from + n ≤ run P s →
@@ -125,7 +131,7 @@ search-starts {L} {t} {s} hand e is =
       is-side = is;
       long = omega arith;
       unfound = refl;
-      rest = chosen-first (layoutOf L) s (omega arith);
+      rest = chosen-first (layoutOf L) s (omega arith) (ends .1);
     }
 
 run-most : (P : Layout) (s : Split) → P .w ≤ 128 → P .h ≤ 128 → run P s ≤ 128
@@ -161,7 +167,7 @@ module _ {L : Lines} {t : Table} {s : Split} {side n : ℕ} {answer : Step} wher
   pub search-enters : Search L t s side answer n (rows (layoutOf L) s n) → n ≤ side →
       Search L t s side answer n (ahead (layoutOf L) s n (s .to - n))
   search-enters at le =
-      onward at (omega arith) (ap (first (layoutOf L) s) (rows-turn (layoutOf L) s n (omega (arith, at .is-side))))
+      onward at (omega arith) (ap (first (layoutOf L) s) (rows-turn (layoutOf L) s n (omega (arith, at .is-side)) (at .long)))
 
   -- and one start after the other, a line that is no candidate is passed over,
   pub search-passes : {from : ℕ} → Search L t s side answer n (ahead (layoutOf L) s n from) → from ≤ s .from →
@@ -215,14 +221,14 @@ module _ {L : Lines} {t : Table} {s : Split} {side n : ℕ} {answer : Step} (fro
       unfolding judged
       tried-unsound ne = is-candidate ∙ false-of _ (λ o. ne (ap (λ (x : Step). x .number) (is ∙ cond-true _ _ _ o)))
 
-      pub tried-found : from ≤ s .from → R .number ≡ 0 →
+      pub tried-found : from ≤ s .from → s .to ≤ from + n → R .number ≡ 0 →
           R ≡ found L t s (chosen (layoutOf L) s)
       unfolding found judged
-      tried-found le z =
+      tried-found le reaches z =
           let ends = ends-in (layoutOf L) (reaching s from n) in-range in
           let o : soundWith (layoutOf L) (reaching s from n) ≡ true =
           ⊎-elim (λ y. y) (λ y. absurd (omega (arith, sym z ∙ ap (λ (x : Step). x .number) (is ∙ cond-false _ _ _ y)))) (either (soundWith (layoutOf L) (reaching s from n))) in
           is ∙ cond-true _ _ _ o ∙
           sym (ap (found L t s)
           (at .rest ∙ ap (first (layoutOf L) s) (starts-turn (layoutOf L) s n from le) ∙
-          line-taken (layoutOf L) s n from (ahead (layoutOf L) s n (from + 1)) (ends .1) (is-candidate ∙ o)))
+          line-taken (layoutOf L) s n from (ahead (layoutOf L) s n (from + 1)) reaches (ends .1) (is-candidate ∙ o)))

@@ -8,7 +8,7 @@ use Rattle.mesh.specs.Blends.{anchored, inTableOrder, place}
 use Rattle.mesh.specs.declared.Blend.{Blend}
 use Rattle.axis.proofs.Tests.{each-mem, only-mem}
 use Rattle.mesh.proofs.TableOrder.{anchored-at}
-use Rattle.axis.proofs.Distinct.{only-distinct, Ascending, each-ascending, lone}
+use Rattle.axis.proofs.Distinct.{only-distinct, Ascending, each-ordered, lone}
 
 -- no two of the blends have one anchor
 abbrev pub OwnAnchors : List Blend → Type 0
@@ -17,7 +17,7 @@ OwnAnchors bs = (B C : Blend) → List·Memᴰ B bs → List·Memᴰ C bs → B 
 pub order-ascending : (w h : ℕ) → h ≤ 128 → (bs : List Blend) → Distinct bs → OwnAnchors bs → Ascending place (inTableOrder w h bs)
 unfolding inTableOrder
 order-ascending w h hh bs d own =
-    each-ascending place 1 (w + 1) (λ m. each 1 (h + 1) (λ n. only (anchored m n) bs)) column
+    each-ordered (λ x y. place x < place y) 1 (w + 1) (λ m. each 1 (h + 1) (λ n. only (anchored m n) bs)) column
     (λ j k x y lt hi mx my.
     let a = in-column j x mx in
     let b = in-column k y my in
@@ -36,9 +36,9 @@ order-ascending w h hh bs d own =
 
     column : (m : ℕ) → Ascending place (each 1 (h + 1) (λ n. only (anchored m n) bs))
     column m =
-        each-ascending place 1 (h + 1) (λ n. only (anchored m n) bs)
+        each-ordered (λ x y. place x < place y) 1 (h + 1) (λ n. only (anchored m n) bs)
         (λ n.
-        lone place (only (anchored m n) bs) (only-distinct (anchored m n) bs d)
+        lone (λ x y. place x < place y) (only (anchored m n) bs) (only-distinct (anchored m n) bs d)
         (λ x y mx my.
         let ox = only-mem (anchored m n) bs x mx in
         let oy = only-mem (anchored m n) bs y my in

@@ -5,14 +5,15 @@ use native.Mathlib.Nat.{mul-pos, mul-lt-mul-of-pos-left, mul-lt-mul-of-pos-right
 use mathlib.Core.Path.{_≡_, refl, sym, ap, subst, _∙_}
 use mathlib.Core.Logic.{_⊎_, inl, inr, ⊎-elim}
 use mathlib.Core.Bool.{true, false, _&&_, not}
-use borrow.Author.Tests.{not-true}
+use borrow.Author.Tests.{not-true, eq-eqb, ne-eqb, eqb-false}
+use lib.Dec.{eqb}
 use Rattle.axis.specs.Triple.{Side, half, inside, between, rising, sameTriple}
 use Rattle.mesh.specs.Lines.{Direction, upright, level, other, Mesh}
-use Rattle.mesh.specs.Blends.{blend, crossed, along, coversBlend, cuts, halve, cutter, size, same}
+use Rattle.mesh.specs.Blends.{blend, crossed, along, coversBlend, cuts, halve, cutter, isCut, size, same}
 use Rattle.mesh.specs.Sound.{proper, nested, ProperIn}
 use Rattle.axis.specs.declared.Triple.{Triple}
 use Rattle.mesh.specs.declared.Blend.{Blend}
-use Rattle.axis.proofs.Tests.{either, true-not-false, false-of, and-both, and-of, every-at, every-of}
+use Rattle.axis.proofs.Tests.{either, true-not-false, false-of, and-both, and-of, or-either, or-left, or-right, every-at, every-of}
 use Rattle.axis.proofs.Nearest.{nearest-first}
 use Rattle.axis.proofs.Triples.{Rise, rising-facts, rising-of, rise-of, rises-wider, rises-within, Inside, inside-fact, inside-test, Within, within-refl, within-trans, same-triple, triple-same, half-rises, half-within, half-narrower, Knots, half-knots, keeps-middle, From, whole, part, cut-again, cut-once}
 
@@ -232,3 +233,26 @@ halve-knots P upright upright s z B k p = half-knots (P upright) s z (B .across)
 halve-knots P upright level s z B k p = k
 halve-knots P level upright s z B k p = k
 halve-knots P level level s z B k p = half-knots (P level) s z (B .up) k p
+
+-- Whether lines cut a blend, by the line of each direction that cuts first:
+module _ (M : Mesh) (B : Blend) where
+  pub some-line : (d : Direction) → (cutter M d B ≡ 0 → ⊥) → isCut M B ≡ true
+  unfolding isCut
+  some-line upright ne = or-left _ _ (ap not (ne-eqb _ _ ne))
+  some-line level ne = or-right (not (eqb (cutter M upright B) 0)) _ (ap not (ne-eqb _ _ ne))
+
+  pub no-line : cutter M upright B ≡ 0 → cutter M level B ≡ 0 → isCut M B ≡ false
+  unfolding isCut
+  no-line e f = rw (eq-eqb _ _ e, eq-eqb _ _ f)
+
+  -- exactly where one of some direction, at some position, does.
+  pub cut-exactly : RiseB B → (isCut M B ≡ true → (d : Direction) × (z : ℕ) × (cuts M d z B ≡ true)) ×
+      ((d : Direction) (z : ℕ) → cuts M d z B ≡ true → isCut M B ≡ true)
+  unfolding isCut
+  cut-exactly h = (
+    λ e. ⊎-elim (by upright) (by level) (or-either (not (eqb (cutter M upright B) 0)) _ e),
+    λ d z c. some-line d (λ none. true-not-false _ c (cutter-none M d B h none z)),
+  )
+    where
+      by : (e : Direction) → not (eqb (cutter M e B) 0) ≡ true → (d : Direction) × (z : ℕ) × (cuts M d z B ≡ true)
+      by e t = (e, cutter M e B, cutter-cuts M e B h (eqb-false _ _ (not-true _ t)))

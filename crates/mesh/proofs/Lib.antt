@@ -21,3 +21,4 @@ pub mod Fitted
 pub mod SingleSteps
 pub mod Recutting
 pub mod Replaying
+pub mod Containing

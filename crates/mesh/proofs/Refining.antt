@@ -2,20 +2,20 @@
 use Prim.Native.Nat.{ℕ, _≤_}
 use native.Mathlib.Omega.{arith}
 use mathlib.Core.Path.{_≡_, refl, sym, ap, subst, fun-ext, _∙_}
-use mathlib.Core.Bool.{Bool, true, false, _&&_, not}
+use mathlib.Core.Bool.{Bool, true, false, _&&_}
 use mathlib.Core.List.{List, [], _∷_, List·Memᴰ}
-use borrow.Author.Tests.{le-leb, leb-true, eq-eqb, ne-eqb}
-use lib.Dec.{leb, eqb}
+use borrow.Author.Tests.{le-leb, leb-true}
+use lib.Dec.{leb}
 use lib.ListN.{getD, set}
 use Rattle.axis.specs.Range.{all, any}
 use Rattle.mesh.specs.Lines.{Direction, upright, level, number, Mesh, layoutOf, meshOf, allowed}
-use Rattle.mesh.specs.Blends.{cutter, isCut, refine, leavesOf, firstFour, live}
+use Rattle.mesh.specs.Blends.{isCut, refine, leavesOf, firstFour, live}
 use Rattle.mesh.specs.Sound.{proper, table, blendsOf, fitted, refined, someCut, ProperIn}
 use Rattle.mesh.specs.Bytes.{Square, stepOn, bytesMesh, keepAll, walk, listed, empty, refused}
 use Rattle.mesh.specs.declared.Lines.{Lines}
 use Rattle.mesh.specs.declared.Table.{Table}
 use Rattle.mesh.specs.declared.Blend.{Blend}
-use Rattle.axis.proofs.Tests.{cond-true, cond-false, all-at, all-of, and-both, or-left, or-right}
+use Rattle.axis.proofs.Tests.{cond-true, cond-false, all-at, all-of, and-both}
 use Rattle.mesh.proofs.Ranges.{Allowed, allowed-says}
 use Rattle.mesh.proofs.Cuts.{proper-facts}
 use Rattle.mesh.proofs.BlendTables.{proper-most, table-count, table-blends}
@@ -141,14 +141,3 @@ pub four-set : (bs : List Blend) (A B C D : Blend) → bs ≡ table [] .blends �
     _≡_ {A = Table} (record { count = 4; blends = set (set (set (set bs 0 A) 1 B) 2 C) 3 D }) (table (A ∷ B ∷ C ∷ D ∷ []))
 unfolding table
 four-set bs A B C D e = ap (λ (l : List Blend). record { count = 4; blends = set (set (set (set l 0 A) 1 B) 2 C) 3 D }) e
-
--- whether lines cut a blend, by the line of each direction that cuts first
-module _ (M : Mesh) (B : Blend) where
-  pub some-line : (d : Direction) → (cutter M d B ≡ 0 → ⊥) → isCut M B ≡ true
-  unfolding isCut
-  some-line upright ne = or-left _ _ (ap not (ne-eqb _ _ ne))
-  some-line level ne = or-right (not (eqb (cutter M upright B) 0)) _ (ap not (ne-eqb _ _ ne))
-
-  pub no-line : cutter M upright B ≡ 0 → cutter M level B ≡ 0 → isCut M B ≡ false
-  unfolding isCut
-  no-line e f = rw (eq-eqb _ _ e, eq-eqb _ _ f)

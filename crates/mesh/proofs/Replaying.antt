@@ -24,12 +24,12 @@ use Rattle.mesh.specs.declared.Blend.{Blend}
 use Rattle.mesh.specs.declared.Lines.{Lines}
 use Rattle.mesh.specs.declared.Table.{Table}
 use Rattle.mesh.specs.declared.Found.{Found}
-use Rattle.axis.proofs.Tests.{either, true-not-false, false-of, and-both, and-of, and-first, and-last, or-either, or-left, cond-true, cond-false, all-of, any-same, any-append, only-mem, mem-only}
+use Rattle.axis.proofs.Tests.{either, same-test, true-not-false, false-of, and-both, and-of, and-first, and-last, or-either, or-left, cond-true, cond-false, all-of, any-same, any-append, only-mem, mem-only}
 use Rattle.mesh.proofs.Ranges.{Allowed}
 use Rattle.mesh.proofs.Drawing.{blank}
 use Rattle.axis.proofs.Entries.{left-turn, left-none}
 use Rattle.mesh.proofs.SingleSteps.{Small, in-range-small}
-use Rattle.mesh.proofs.Cuts.{RiseB, proper-facts, proper-rises, cutter-none, cutter-cuts}
+use Rattle.mesh.proofs.Cuts.{RiseB, proper-facts, proper-rises, cut-exactly}
 use Rattle.mesh.proofs.Order.{Rising, SameMembers, leavesOf-left, left-leavesOf, left-uncut, left-itself, finer-leaves}
 use Rattle.mesh.proofs.Places.{Kept, seen, mem-seen, seen-mem, keep-seen, kept-same, keep-list, nothing-kept}
 use Rattle.mesh.proofs.Live.{leaves-proper, finer-fitted}
@@ -37,7 +37,7 @@ use Rattle.mesh.proofs.Fresh.{fresh-positions, first-proper, firstFour-
 use Rattle.mesh.proofs.AtMost.{live-knots}
 use Rattle.mesh.proofs.SoundMaps.{live-left, live-proper, live-leaves, own-anchors}
 use Rattle.mesh.proofs.BlendTables.{table-blends, table-count, proper-most}
-use Rattle.mesh.proofs.Refining.{some-line, no-line, met-fitted, read-fitted}
+use Rattle.mesh.proofs.Refining.{met-fitted, read-fitted}
 use Rattle.mesh.proofs.Fitted.{fits-held, unfit-unsound, full-sound}
 use Rattle.mesh.proofs.Recutting.{clear-kept}
 
@@ -105,16 +105,8 @@ module _ (w h : ℕ) (ss : List Split) (s : Split) where
 
   is-cut-by : (B : Blend) → RiseB B → Uncut before B → isCut after B ≡ cuts after way knot B
   is-cut-by B rises u =
-      ⊎-elim
-      (λ e. some-line after B way (λ q. true-not-false _ e (cutter-none after way B rises q knot)) ∙ sym e)
-      (λ e. no-line after B (none e upright) (none e level) ∙ sym e)
-      (either (cuts after way knot B))
-    where
-      none : cuts after way knot B ≡ false → (d : Direction) → cutter after d B ≡ 0
-      none e d =
-          ⊎-elim (λ q. eqb-true _ _ q)
-          (λ q. absurd (true-not-false _ (cutter-cuts after d B rises (eqb-false _ _ q)) (still-uncut B u e d (cutter after d B))))
-          (either (eqb (cutter after d B) 0))
+      let exactly = cut-exactly after B rises in
+      same-test _ _ (λ e. let r = exactly .0 e in only-own B u (r .0) (r .1) (r .2)) (exactly .1 way knot)
 
 -- sides within their ranges
 pub record Sides (w h : ℕ) : Type 0 where

@@ -1,7 +1,9 @@
 -- Document 01, "Values, readings, splits" and "When a call says no", on lines alone: which splits are refused, and which line a lengthened one takes.
-use Prim.Native.Nat.{ℕ, _+_, _-_}
+use Prim.Native.Nat.{ℕ, _+_, _-_, _≤_, _<_}
+use mathlib.Core.Path.{_≡_}
+use mathlib.Core.Logic.{_⊎_}
 use mathlib.Core.Bool.{Bool, true, cond, _&&_, not}
-use mathlib.Core.List.{List, [], _∷_, _++_}
+use mathlib.Core.List.{List, [], _∷_, _++_, List·Memᴰ}
 use lib.Dec.{leb, eqb}
 use lib.ListN.{length, take}
 use Rattle.axis.specs.Limits.{mostSplits}
@@ -45,20 +47,34 @@ unfoldable pub accepted : Layout → List Split → Bool
 accepted P [] = true
 accepted P (s ∷ rest) = let more = accepted (withLine P s) rest in eqb (exactNumber P s) 0 && more
 
--- the same line with other ends
+-- the line at the split's position that begins at `from` and has `steps` unit steps
 abbrev pub reaching : Split → ℕ → ℕ → Split
-reaching s from length = record { direction = s .direction; position = s .position; from = from; to = from + length }
+reaching s from steps = record { direction = s .direction; position = s .position; from = from; to = from + steps }
 
 -- the side that the split runs along
 abbrev pub run : Layout → Split → ℕ
 run P s = side (other (direction (s .direction))) (P .w) (P .h)
 
--- all lines that contain the given one, by length "between 0 and the side", then by start
+-- "all lines that contain the given one", "between 0 and the side", by length, then by start: of each length, those that begin at the given start
+-- or lower, and reach the given end and not past the side
 unfoldable pub containing : Layout → Split → List Split
 containing P s =
-    let drawnLength = s .to - s .from in
-    each drawnLength (run P s - drawnLength + 1)
-    (λ n. each (s .to - n) (s .from + 1 - (s .to - n)) (λ from. only (λ c. leb (c .to) (run P s)) (reaching s from n ∷ [])))
+    each 0 (run P s + 1)
+    (λ steps. each 0 (s .from + 1) (λ from. only (λ c. leb (s .to) (c .to) && leb (c .to) (run P s)) (reaching s from steps ∷ [])))
+
+-- The same as a statement. `containing-complete`: the list has exactly these lines; `containing-ordered`: in this order.
+pub record Contains (P : Layout) (s c : Split) : Type 0 where
+  pub same-way : c .direction ≡ s .direction
+  pub same-place : c .position ≡ s .position
+  pub begins : c .from ≤ s .from
+  pub ends : s .to ≤ c .to
+  pub within : c .to ≤ run P s
+
+abbrev pub stepsOf : Split → ℕ
+stepsOf c = c .to - c .from
+
+abbrev pub Shorter : Split → Split → Type 0
+Shorter b c = (stepsOf b < stepsOf c) ⊎ ((stepsOf b ≡ stepsOf c) × (b .from < c .from))
 
 -- those that "have both ends on crossing lines, overlap nothing at their position by more than a point and leave a sound map"
 unfoldable pub candidate : Layout → Split → Bool
@@ -67,3 +83,10 @@ candidate P c = ended (meshOf P) c && not (shares (meshOf P) c) && soundWith P c
 -- the line that a lengthened split takes, if there is one: "the one of least length …, then of lowest start"
 unfoldable pub chosen : Layout → Split → List Split
 chosen P s = take 1 (only (candidate P) (containing P s))
+
+-- What `chosen-least` shows of it: the line is a candidate that contains the given one, and every other such line is longer, or as long and starts
+-- higher; where no line is taken, there is none.
+pub record Least (P : Layout) (s : Split) : Type 0 where
+  pub taken : (c : Split) → List·Memᴰ c (chosen P s) → Contains P s c × (candidate P c ≡ true)
+  pub first : (b c : Split) → List·Memᴰ c (chosen P s) → Contains P s b → candidate P b ≡ true → (b ≡ c) ⊎ Shorter c b
+  pub some : (b : Split) → Contains P s b → candidate P b ≡ true → (c : Split) × (chosen P s ≡ c ∷ [])

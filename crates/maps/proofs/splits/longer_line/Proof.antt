@@ -14,7 +14,7 @@ use Rattle.maps.proofs.splits.longer_line.Tie as tie
 
 abbrev Inv-loop : tie.InvT-loop
 Inv-loop lines live s run answer₀ length from₀ answer from =
-    (length ≤ run) × Search lines live s run answer length (ahead (layoutOf lines) s length from)
+    (length ≤ run) × (s .to ≤ from + length) × Search lines live s run answer length (ahead (layoutOf lines) s length from)
 
 abbrev μ-loop : tie.MeasureT-loop
 μ-loop lines live s run answer₀ length from₀ answer from = s .from + 1 - from
@@ -47,18 +47,19 @@ first-start c = ⊎-elim (λ w. w .2) (λ w. omega (arith, w .0 .left, w .1)) (c
 
 loop-holds : tie.Need-loop-holds Inv-loop μ-loop Inv-search μ-search
 loop-holds c =
-    let t = c .before .before in (t .search-test .taken, rw (first-start c) (search-enters (t .before .search .inv) (t .search-test .taken)))
+    let t = c .before .before in
+    (t .search-test .taken, omega (arith, first-start c), rw (first-start c) (search-enters (t .before .search .inv) (t .search-test .taken)))
 
 add-t13 : tie.Need-add-t13 Inv-loop μ-loop Inv-search μ-search
-add-t13 c = let b = bounds (c .before .before .before .loop .inv .1) in omega arith
+add-t13 c = let b = bounds (c .before .before .before .loop .inv .2) in omega arith
 
 may-stand-requires : tie.Need-may-stand-requires Inv-loop μ-loop Inv-search μ-search
-may-stand-requires c κs = c .before .before .before .loop .inv .1 .has-table .allowed?
+may-stand-requires c κs = c .before .before .before .loop .inv .2 .has-table .allowed?
 
 sound-step-requires : tie.Need-sound-step-requires Inv-loop μ-loop Inv-search μ-search
 sound-step-requires c κs =
     let at = c .before .before .before .before .before in
-    (at .loop .inv .1 .has-table, in-range (at .loop .from) (at .loop .inv .1) (c .before .may-stand .ensures) (c .if4 .taken), room (at .loop .inv .1))
+    (at .loop .inv .2 .has-table, in-range (at .loop .from) (at .loop .inv .2) (c .before .may-stand .ensures) (c .if4 .taken), room (at .loop .inv .2))
 
 -- a line that may not stand, or leaves no sound map, is no candidate
 passed : (c : tie.Joined4 Inv-loop μ-loop Inv-search μ-search) →
@@ -70,13 +71,13 @@ passed : (c : tie.Joined4 Inv-loop μ-loop Inv-search μ-search) →
 passed c le =
     let at = c .before .before .before .before .before in
     ⊎-elim
-    (λ w. tried-unsound (at .loop .from) (at .loop .inv .1) (c .before .may-stand .ensures) (w .0 .taken) (w .1 .ensures) (w .3 .left))
-    (λ w. tried-falls (at .loop .from) (at .loop .inv .1) (c .before .may-stand .ensures) (w .left) le)
+    (λ w. tried-unsound (at .loop .from) (at .loop .inv .2) (c .before .may-stand .ensures) (w .0 .taken) (w .1 .ensures) (w .3 .left))
+    (λ w. tried-falls (at .loop .from) (at .loop .inv .2) (c .before .may-stand .ensures) (w .left) le)
     (c .if4 .came)
 
 add-from : tie.Need-add-from Inv-loop μ-loop Inv-search μ-search
 add-from c =
-    let b = bounds (c .before .before .before .before .before .loop .inv .1) in omega (arith, c .before .before .before .if3 .taken)
+    let b = bounds (c .before .before .before .before .before .loop .inv .2) in omega (arith, c .before .before .before .if3 .taken)
 
 loop-less : tie.Need-loop-less Inv-loop μ-loop Inv-search μ-search
 loop-less c = omega (arith, c .before .before .before .if3 .taken)
@@ -84,16 +85,16 @@ loop-less c = omega (arith, c .before .before .before .if3 .taken)
 loop-again : tie.Need-loop-again Inv-loop μ-loop Inv-search μ-search
 loop-again c =
     let inv = c .before .before .before .before .before .loop .inv in
-    (inv .0, search-passes (inv .1) (c .before .before .before .if3 .taken) (passed c))
+    (inv .0, omega arith, search-passes (inv .2) (c .before .before .before .if3 .taken) (passed c))
 
 add-length : tie.Need-add-length Inv-loop μ-loop Inv-search μ-search
-add-length c = let b = bounds (c .before .before .loop .inv .1) in omega (arith, c .before .before .loop .inv .0)
+add-length c = let b = bounds (c .before .before .loop .inv .2) in omega (arith, c .before .before .loop .inv .0)
 
 search-less : tie.Need-search-less Inv-loop μ-loop Inv-search μ-search
 search-less c = let l = c .before .before .loop .inv .0 in omega arith
 
 search-again : tie.Need-search-again Inv-loop μ-loop Inv-search μ-search
-search-again c = search-leaves (c .before .before .loop .inv .1) (c .if3 .left)
+search-again c = search-leaves (c .before .before .loop .inv .2) (c .if3 .left)
 
 returns : tie.Need-returns Inv-loop μ-loop Inv-search μ-search
 returns c = search-fails (c .before .search .inv) (c .search-test .left)
@@ -103,8 +104,8 @@ returns-2 c =
     let r = c .before .before in
     let then = r .before in
     let at = then .before .before .before .before .before in
-    tried-found (at .loop .from) (at .loop .inv .1) (then .before .may-stand .ensures) (then .if4 .taken)
-    (r .sound-step .ensures) (then .before .before .before .if3 .taken) (c .if5 .taken)
+    tried-found (at .loop .from) (at .loop .inv .2) (then .before .may-stand .ensures) (then .if4 .taken)
+    (r .sound-step .ensures) (then .before .before .before .if3 .taken) (at .loop .inv .1) (c .if5 .taken)
 
 pub longer-line-spec : {M : Type 1} → statement M
 longer-line-spec =

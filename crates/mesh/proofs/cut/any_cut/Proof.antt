@@ -10,7 +10,7 @@ use Rattle.mesh.specs.Blends.{isCut}
 use Rattle.mesh.specs.Sound.{none, blendsOf}
 use Rattle.mesh.specs.Bytes.{bytesMesh}
 use Rattle.mesh.proofs.BlendTables.{blends-end, Next, next-blend}
-use Rattle.mesh.proofs.Refining.{some-line, no-line}
+use Rattle.mesh.proofs.Cuts.{some-line, no-line}
 use Rattle.mesh.proofs.cut.any_cut.Statement.{statement}
 use Rattle.mesh.proofs.cut.any_cut.Tie as tie
 
