@@ -1,20 +1,20 @@
 -- Document 01, "Pits on paper": the starred cases as one table under one theorem, and a second table of rows that they do not notice.
-use Prim.Native.Nat.{ℕ}
+use Prim.Native.Nat.{ℕ, _+_}
 use mathlib.Core.Path.{_≡_, refl}
 use mathlib.Core.List.{List, [], _∷_}
 use lib.ListN.{length, replicate}
 use Rattle.mesh.specs.declared.Split.{Split}
+use Rattle.axis.specs.Range.{only}
 use Rattle.axis.specs.Triple as Triple
 use Rattle.axis.specs.Nearest as Nearest
 use Rattle.mesh.specs.Lines.{Layout, layout}
 use Rattle.mesh.specs.Lines as Lines
 use Rattle.mesh.specs.Blends as Blends
+use Rattle.mesh.specs.Sound.{overSquare}
 use Rattle.mesh.specs.Sound as Sound
-use Rattle.maps.specs.declared.Changed.{Changed}
 use Rattle.maps.specs.Plain.{Plain, freshPlain, blends}
 use Rattle.maps.specs.Values.{readingAt, carried, drawn}
-use Rattle.mesh.specs.Splits.{given, exactNumber, containing, candidate, chosen}
-use Rattle.maps.specs.Record.{recordOf}
+use Rattle.mesh.specs.Splits.{liveOf, withLine, given, exactNumber, containing, candidate, chosen}
 use Rattle.maps.specs.Calls.{freshMap, setPlain}
 use Rattle.maps.specs.Histories.{Call, set, exact, lengthened, reads, Answer, number, placed, read, weighed, told, byMachine}
 
@@ -26,14 +26,14 @@ numberOf (read r) = r .number
 numberOf (weighed w) = w .number
 numberOf (told s) = s .number
 
--- a row: a call, its number, and the litres of a reading or else the count of live blends after the call
-record Row : Type 0 where
-  call : Call
-  number? : ℕ
-  shown : ℕ
-
-row : Call → ℕ → ℕ → Row
-row c n s = record { call = c; number? = n; shown = s }
+-- a row, on the map that the rows before it left
+data Row : Type 0 where
+  -- a call, its number, and the litres of a reading or else the count of live blends after the call
+  row : Call → ℕ → ℕ → Row
+  -- the ends with which the last split was drawn
+  drawnFrom : ℕ → ℕ → Row
+  -- with a line drawn as given, in how many supports the unit square at (x, y) lies
+  supports : Split → ℕ → ℕ → ℕ → Row
 
 shownBy : Answer → Plain → ℕ
 shownBy (number n) P = length (blends P)
@@ -42,38 +42,44 @@ shownBy (read r) P = r .litres
 shownBy (weighed w) P = length (blends P)
 shownBy (told s) P = length (blends P)
 
--- the rows hold, each call on what the one before it left
-Right : Plain → List Row → Type 0
-Right P [] = Unit
-Right P (r ∷ rs) =
-    let o = byMachine P (r .call) in
-    (numberOf (o .answer) ≡ r .number?) × (shownBy (o .answer) (o .next) ≡ r .shown) × Right (o .next) rs
-
--- rows on the fresh map of two sides
-record Case : Type 0 where
-  w : ℕ
-  h : ℕ
-  rows : List Row
-
-on : ℕ → ℕ → List Row → Case
-on w h rows = record { w = w; h = h; rows = rows }
-
-AllRight : List Case → Type 0
-AllRight [] = Unit
-AllRight (c ∷ cs) = Right (freshPlain (c .w) (c .h)) (c .rows) × AllRight cs
-
 upright : ℕ → ℕ → ℕ → Split
 upright p f t = record { direction = 0; position = p; from = f; to = t }
 
 level : ℕ → ℕ → ℕ → Split
 level p f t = record { direction = 1; position = p; from = f; to = t }
 
+last : List Split → Split
+last [] = upright 0 0 0
+last (s ∷ []) = s
+last (s ∷ t ∷ rest) = last (t ∷ rest)
+
+-- the rows hold, each call on what the one before it left
+Right : Plain → List Row → Type 0
+Right P [] = Unit
+Right P (row c n s ∷ rs) =
+    let o = byMachine P c in
+    (numberOf (o .answer) ≡ n) × (shownBy (o .answer) (o .next) ≡ s) × Right (o .next) rs
+Right P (drawnFrom f t ∷ rs) = (last (P .lines .splits) .from ≡ f) × (last (P .lines .splits) .to ≡ t) × Right P rs
+Right P (supports s x y n ∷ rs) = (length (only (overSquare (x + 1) (y + 1)) (liveOf (withLine (P .lines) s))) ≡ n) × Right P rs
+
+-- the number of a fresh map of two sides, and rows on it
+data Case : Type 0 where
+  sides : ℕ → ℕ → ℕ → Case
+  on : ℕ → ℕ → List Row → Case
+
+AllRight : List Case → Type 0
+AllRight [] = Unit
+AllRight (sides w h n ∷ cs) = (freshMap w h .number ≡ n) × AllRight cs
+AllRight (on w h rows ∷ cs) = (freshMap w h .number ≡ 0) × Right (freshPlain w h) rows × AllRight cs
+
 starred : List Case
 starred =
-    -- six blends, nine, ten; then exact 8 and lengthened fourteen
+    -- sides 0 and 129; sides 1 and 128
+    sides 0 8 1 ∷ sides 8 0 1 ∷ sides 129 8 1 ∷ sides 8 129 1 ∷ sides 1 128 0 ∷ sides 128 1 0 ∷
+    -- six blends, nine, ten; then exact 8, with square (0, 0) in five supports, and lengthened fourteen, drawn 0 to 8
     on 8 8
     (row (exact (upright 4 0 8)) 0 6 ∷ row (exact (level 4 0 8)) 0 9 ∷ row (exact (upright 2 0 4)) 0 10 ∷ row (exact (level 2 0 2)) 8 10 ∷
-    row (exact (level 2 0 4)) 8 10 ∷ row (lengthened (level 2 0 2)) 0 14 ∷ []) ∷
+    supports (level 2 0 2) 0 0 5 ∷ row (exact (level 2 0 4)) 8 10 ∷ row (lengthened (level 2 0 2)) 0 14 ∷ drawnFrom 0 8 ∷ []) ∷
     -- a line that cuts nothing, and one that does
     on 8 8
     (row (exact (level 2 0 8)) 0 6 ∷ row (exact (level 4 0 8)) 0 8 ∷ row (exact (upright 4 2 4)) 7 8 ∷ row (exact (upright 4 0 4)) 0 10 ∷ []) ∷
@@ -101,18 +107,13 @@ beside =
     on 1 1 (row (reads 1 1) 0 0 ∷ row (exact (upright 1 0 1)) 3 4 ∷ []) ∷
     []
 
--- "Sides 0 and 129: 1. Sides 1 and 128 go."
-fresh-sides : (freshMap 0 8 .number ≡ 1) × (freshMap 8 129 .number ≡ 1) × (freshMap 1 128 .number ≡ 0)
-unfolding freshMap
-fresh-sides = (refl, refl, refl)
-
 all-starred : AllRight starred
-unfolding AllRight on starred beside Right row upright level numberOf shownBy setPlain drawn given exactNumber containing candidate chosen readingAt carried freshPlain Triple.half Triple.hat Lines.inRange Lines.draws Lines.freshMesh Lines.mesh Lines.onLine Lines.shares Lines.ended Blends.halve Nearest.below Nearest.above Nearest.nearest Blends.isCut Blends.leaves Blends.leavesOf Blends.once Blends.inTableOrder Blends.refine Blends.live Sound.fourEverywhere Sound.noneNested Sound.sound
-all-starred = ((refl, refl, (refl, refl, (refl, refl, (refl, refl, (refl, refl, (refl, refl, tt)))))), ((refl, refl, (refl, refl, (refl, refl, (refl, refl, tt)))), ((refl, refl, (refl, refl, (refl, refl, (refl, refl, (refl, refl, tt))))), ((refl, refl, (refl, refl, (refl, refl, (refl, refl, tt)))), ((refl, refl, (refl, refl, (refl, refl, (refl, refl, (refl, refl, tt))))), tt)))))
+unfolding AllRight starred beside Right last upright level numberOf shownBy freshMap setPlain drawn given exactNumber containing candidate chosen readingAt carried freshPlain Triple.half Triple.hat Lines.inRange Lines.draws Lines.freshMesh Lines.mesh Lines.onLine Lines.shares Lines.ended Blends.halve Nearest.below Nearest.above Nearest.nearest Blends.isCut Blends.leaves Blends.leavesOf Blends.once Blends.inTableOrder Blends.refine Blends.live Sound.fourEverywhere Sound.noneNested Sound.sound
+all-starred = (refl, (refl, (refl, (refl, (refl, (refl, (refl, (refl, refl, (refl, refl, (refl, refl, (refl, refl, (refl, (refl, refl, (refl, refl, (refl, refl, tt)))))))), (refl, (refl, refl, (refl, refl, (refl, refl, (refl, refl, tt)))), (refl, (refl, refl, (refl, refl, (refl, refl, (refl, refl, (refl, refl, tt))))), (refl, (refl, refl, (refl, refl, (refl, refl, (refl, refl, tt)))), (refl, (refl, refl, (refl, refl, (refl, refl, (refl, refl, (refl, refl, tt))))), tt)))))))))))
 
 all-beside : AllRight beside
-unfolding AllRight on starred beside Right row upright level numberOf shownBy setPlain drawn given exactNumber containing candidate chosen readingAt carried freshPlain Triple.half Triple.hat Lines.inRange Lines.draws Lines.freshMesh Lines.mesh Lines.onLine Lines.shares Lines.ended Blends.halve Nearest.below Nearest.above Nearest.nearest Blends.isCut Blends.leaves Blends.leavesOf Blends.once Blends.inTableOrder Blends.refine Blends.live Sound.fourEverywhere Sound.noneNested Sound.sound
-all-beside = ((refl, refl, (refl, refl, (refl, refl, (refl, refl, tt)))), ((refl, refl, (refl, refl, (refl, refl, (refl, refl, (refl, refl, tt))))), ((refl, refl, (refl, refl, (refl, refl, (refl, refl, (refl, refl, (refl, refl, tt)))))), ((refl, refl, (refl, refl, tt)), tt))))
+unfolding AllRight starred beside Right last upright level numberOf shownBy freshMap setPlain drawn given exactNumber containing candidate chosen readingAt carried freshPlain Triple.half Triple.hat Lines.inRange Lines.draws Lines.freshMesh Lines.mesh Lines.onLine Lines.shares Lines.ended Blends.halve Nearest.below Nearest.above Nearest.nearest Blends.isCut Blends.leaves Blends.leavesOf Blends.once Blends.inTableOrder Blends.refine Blends.live Sound.fourEverywhere Sound.noneNested Sound.sound
+all-beside = (refl, (refl, refl, (refl, refl, (refl, refl, (refl, refl, tt)))), (refl, (refl, refl, (refl, refl, (refl, refl, (refl, refl, (refl, refl, tt))))), (refl, (refl, refl, (refl, refl, (refl, refl, (refl, refl, (refl, refl, (refl, refl, tt)))))), (refl, (refl, refl, (refl, refl, tt)), tt))))
 
 -- A map of 60 splits takes no more: 4 comes after 3 and before 5; with 59 the next check is made.
 crowded : ℕ → Layout
