@@ -50,7 +50,7 @@ module _ (s : Sum) (p d : ℕ) where
       }
 
 -- a sum over proper blends has a denominator
-value-positive : (w h : ℕ) (bs : List Blend) (vs : List ℕ) → all (proper w h) bs ≡ true → (u v : ℕ) → 0 < value (paired bs vs) u v 1 .den
+pub value-positive : (w h : ℕ) (bs : List Blend) (vs : List ℕ) → all (proper w h) bs ≡ true → (u v : ℕ) → 0 < value (paired bs vs) u v 1 .den
 value-positive w h [] vs e u v = omega arith
 value-positive w h (B ∷ bs) [] e u v = omega arith
 value-positive w h (B ∷ bs) (c ∷ vs) e u v =
@@ -58,12 +58,12 @@ value-positive w h (B ∷ bs) (c ∷ vs) e u v =
     mul-pos (mul-pos (omega arith) (weight-den w h B (p .0) u v 1 (omega arith))) (value-positive w h bs vs (p .1) u v)
 
 -- the values of some entries times their weights
-abbrev parts : ℕ → ℕ → ℕ → ℕ → List ℕ → List Entry → List Fraction
+abbrev pub parts : ℕ → ℕ → ℕ → ℕ → List ℕ → List Entry → List Fraction
 parts x y u v values = map (λ (a : Entry). portion x y u v (a .blend) (getD values (a .place) 0))
 
 -- At a corner (u, v) of the square from (x, y) the sum over all blends is that over the blends over the square, since the others weigh 0 there.
 module _ (x y u v : ℕ) (e : End x u) (f : End y v) (values : List ℕ) where
-  value-over : (bs : List Blend) (vs : List ℕ) (i : ℕ) → all (proper 128 128) bs ≡ true → length bs ≡ length vs →
+  pub value-over : (bs : List Blend) (vs : List ℕ) (i : ℕ) → all (proper 128 128) bs ≡ true → length bs ≡ length vs →
       ((k : ℕ) → k < length vs → getD vs k 0 ≡ getD values (i + k) 0) →
       Equal (value (paired bs vs) u v 1) (total (parts x y u v values (entriesOver (overSquare x y) bs i)))
   unfolding weightAt

@@ -18,3 +18,4 @@ pub mod Opening
 pub mod Rebuilding
 pub mod Squares
 pub mod Tabled
+pub mod ByWeights

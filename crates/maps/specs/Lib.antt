@@ -8,3 +8,4 @@ pub mod Histories
 pub mod Demand
 pub mod Inner
 pub mod Cases
+pub mod ByWeights
