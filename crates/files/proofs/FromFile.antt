@@ -15,7 +15,7 @@ use Rattle.maps.specs.Demand.{leftBy, DemandFrom}
 use Rattle.maps.proofs.Readings.{Valued}
 use Rattle.maps.proofs.Reached.{Reached, holds-reached, fresh-reached, Leads, ending-leads}
 use Rattle.maps.proofs.Rebuilding.{AcceptedTo, accepted-join, accepted-ends, accepted-more, library-accepts, ending-join, outcomes-join, withValues, splits-drawn, value-set}
-use Rattle.maps.proofs.Demand3.{reached-demand, demand-three}
+use Rattle.maps.proofs.Demand3.{both-tabled, reached-demand, demand-three}
 use Rattle.maps.proofs.Following.{ending-follows}
 use Rattle.files.specs.File.{wordAt, splitCount, guessed}
 use Rattle.files.specs.Calls.{readFile}
@@ -121,6 +121,9 @@ from-file bytes e small =
       left-after = λ cs. ending-join byLibrary start (fileCalls P) cs ∙ ap (λ (m : Map). ending byLibrary m cs) left;
       whole = λ cs. demand-three (P .lines .w) (P .lines .h) (at .holds .taken .across) (at .holds .taken .up) (fileCalls P ++ cs);
       own = read-demand bytes e small;
+      same-blends = λ other o few wide tall cs ds f g bs tabled.
+          rw (read-record bytes small e) at
+          (both-tabled P (readPlain other) at (read-reached other few o) wide tall cs ds f g bs (rw (← read-record other few o) at tabled));
     }
 
 -- Writes and payloads leave the map that they got, so they are left out of a list and it answers and ends as before.

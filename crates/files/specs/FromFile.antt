@@ -1,15 +1,17 @@
 -- Document 01, "Histories": lists of calls on a map that was read from a file, and lists with writing and payloads among them.
-use Prim.Native.Nat.{ℕ, _-_}
+use Prim.Native.Nat.{ℕ, _-_, _<_}
 use mathlib.Core.Path.{_≡_}
 use mathlib.Core.List.{List, [], _∷_, _++_, map, List·Memᴰ}
 use Rattle.axis.specs.Range.{joined}
+use Rattle.mesh.specs.declared.Blend.{Blend}
+use Rattle.mesh.specs.Order.{Coarser}
 use Rattle.mesh.specs.Weight.{Term}
 use Rattle.maps.specs.declared.Map.{Map}
 use Rattle.maps.specs.Plain.{Plain, freshPlain, blends}
 use Rattle.maps.specs.Values.{paired}
 use Rattle.maps.specs.Record.{recordOf, plain}
 use Rattle.maps.specs.Histories.{Call, set, exact, Answer, number, Outcome, outcome, byLibrary, outcomes, ending}
-use Rattle.maps.specs.Demand.{leftBy, DemandFrom, Demand3}
+use Rattle.maps.specs.Demand.{leftBy, Tabled, meshBy, DemandFrom, Demand3}
 use Rattle.files.specs.declared.Written.{Written}
 use Rattle.files.specs.Calls.{written, after, readFile, payloadNumber, payloadAt}
 
@@ -44,6 +46,11 @@ pub record FromFile (bytes : List ℕ) : Type 0 where
   -- of which demand 3 holds; and it holds of the list on its own.
   pub whole : (cs : List Call) → let P = readPlain bytes in Demand3 (P .lines .w) (P .lines .h) (fileCalls P ++ cs)
   pub own : (cs : List Call) → DemandFrom (readPlain bytes) cs
+  -- "lists on equal sides whose lines cover the same points end with the same blends", also where both start from files.
+  pub same-blends : (other : List ℕ) → readFile other .number ≡ 0 → ((b : ℕ) → List·Memᴰ b other → b < 256) →
+      let P = readPlain bytes in let Q = readPlain other in Q .lines .w ≡ P .lines .w → Q .lines .h ≡ P .lines .h → (cs ds : List Call) →
+      Coarser (meshBy P cs) (meshBy Q ds) → Coarser (meshBy Q ds) (meshBy P cs) →
+      (bs : List Blend) → Tabled (ending byLibrary (readFile other .map) ds) bs → Tabled (ending byLibrary (readFile bytes .map) cs) bs
 
 -- "Writing and asking for a record's payload change no map, so they may come anywhere between these calls": a call of such a list, on the map,
 -- a write of it to a lent buffer, or a payload at a byte place of lent bytes.

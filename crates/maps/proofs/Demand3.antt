@@ -10,6 +10,7 @@ use lib.Dec.{eqb}
 use Rattle.mesh.specs.declared.Split.{Split}
 use Rattle.mesh.specs.Lines.{allowedSide}
 use Rattle.mesh.specs.Blends.{live}
+use Rattle.mesh.specs.declared.Blend.{Blend}
 use Rattle.mesh.specs.Order.{Coarser}
 use Rattle.axis.proofs.Tests.{either, and-of, same-test, cond-true}
 use Rattle.mesh.proofs.Order.{same-steps}
@@ -81,6 +82,11 @@ same-lines P Q at from cs ds wide tall f g =
     ending-blends ds Q from ∙ ap₂ (λ (w h : ℕ). live w h (meshBy Q ds)) wide tall ∙
     same-steps (P .lines .w) (P .lines .h) (meshBy Q ds) (meshBy P cs) (λ d z k. same-test _ _ (g d z k) (f d z k)) ∙ sym (ending-blends cs P at)
 
+pub both-tabled : (P Q : Plain) → Reached P → Reached Q → Q .lines .w ≡ P .lines .w → Q .lines .h ≡ P .lines .h → (cs ds : List Call) →
+    Coarser (meshBy P cs) (meshBy Q ds) → Coarser (meshBy Q ds) (meshBy P cs) → (bs : List Blend) → Tabled (leftBy Q ds) bs → Tabled (leftBy P cs) bs
+both-tabled P Q at from wide tall cs ds f g bs tabled =
+    rw (tabled-once tabled (end-tabled Q from ds) ∙ same-lines P Q at from cs ds wide tall f g) (end-tabled P at cs)
+
 -- The demand holds of it,
 pub reached-demand : (P : Plain) → Reached P → (cs : List Call) → DemandFrom P cs
 reached-demand P at cs =
@@ -96,8 +102,7 @@ reached-demand P at cs =
       gentle = λ earlier c later e i. any-gentle P at earlier c i;
       are-lines = end-lines P at cs;
       same-blends = λ R start wide tall ds f g bs tabled.
-          let from = start-reached R start in
-          tabled-once tabled (end-tabled R from ds) ∙ same-lines P R at from cs ds wide tall f g;
+          tabled-once (both-tabled P R at (start-reached R start) wide tall cs ds f g bs tabled) (end-tabled P at cs);
     }
 
 -- and so of every list on a fresh map.
