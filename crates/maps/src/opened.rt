@@ -24,6 +24,7 @@ use mesh::Blend;
 use mesh::Split;
 use mesh::Table;
 use mesh::replay::replay;
+use mesh::tables::fresh_table;
 ghost use mathlib.Core.Path.{_≡_};
 ghost use mathlib.Core.List.{[]};
 ghost use mathlib.Core.Bool.{true};
@@ -35,7 +36,7 @@ ghost use Rattle.mesh.specs.Sound.{table};
 ghost use Rattle.mesh.specs.Splits.{withLine, liveOf, soundWith};
 ghost use Rattle.maps.specs.Record.{isNoSplit, isZero, good, plain, recordOf};
 ghost use Rattle.maps.specs.Values.{drawn};
-ghost use Rattle.maps.specs.Calls.{changed, setValue, tablePlace, reading, weights, exactSplit, lengthenedSplit};
+ghost use Rattle.maps.specs.Calls.{changed, freshMap, setValue, tablePlace, reading, weights, exactSplit, lengthenedSplit};
 ghost use Rattle.maps.specs.Sameness.{sameness};
 ghost use Rattle.maps.specs.Opened.{withTable, opened, Opens};
 ghost use Rattle.maps.specs.Inner.{Drawable, drawnBy};
@@ -133,6 +134,20 @@ pub fn open(map: Map) -> Opened
         number: 0,
         map: map,
         table: table,
+    }
+}
+
+// The fresh map of two sides, opened without a replay: its table is that of the first four blends.
+pub fn fresh(w: usize, h: usize) -> Opened
+    ensures { λ r. ⌜ r ≡ withTable (freshMap w h) ⌝ }
+{
+    let made = Map::fresh(w, h);
+    let map = made.map;
+    let lines = map.lines;
+    Opened {
+        number: made.number,
+        map: map,
+        table: fresh_table(lines.w, lines.h),
     }
 }
 

@@ -7,8 +7,8 @@ use lib.ListN.{length, take, replicate}
 use Rattle.axis.specs.Limits.{largestSide, mostBlends}
 use Rattle.axis.specs.Range.{every, all, any, only}
 use Rattle.axis.specs.Triple.{triple, rising, spans, stepsIn, between, RisesIn}
-use Rattle.mesh.specs.Lines.{layoutOf, meshOf, allowed}
-use Rattle.mesh.specs.Blends.{blend, same, anchored, isCut, refine, live}
+use Rattle.mesh.specs.Lines.{layoutOf, meshOf, allowedSide, allowed}
+use Rattle.mesh.specs.Blends.{blend, same, anchored, isCut, refine, live, firstFour}
 use Rattle.mesh.specs.declared.Blend.{Blend}
 use Rattle.mesh.specs.declared.Lines.{Lines}
 use Rattle.mesh.specs.declared.Table.{Table}
@@ -67,6 +67,10 @@ table bs = record { count = length bs; blends = bs ++ replicate (mostBlends - le
 
 abbrev pub blendsOf : Table → List Blend
 blendsOf t = take (t .count) (t .blends)
+
+-- the table of a fresh map: its live blends are the first four (`fresh-live`); an empty one where a side is out of range
+unfoldable pub freshTable : ℕ → ℕ → Table
+freshTable w h = cond (allowedSide w && allowedSide h) (table (firstFour w h)) (table [])
 
 -- Whether the areas of a table's blends add up to four times the domain; no where sides or count are out of range.
 -- Of the live blends of a map this says that it is sound: `by-area`.

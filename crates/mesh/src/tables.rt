@@ -14,7 +14,7 @@ ghost use Rattle.axis.specs.Limits.{largestSide, mostBlends};
 ghost use Rattle.axis.specs.Range.{all};
 ghost use Rattle.axis.specs.Triple as triples;
 ghost use Rattle.mesh.specs.Blends.{firstFour};
-ghost use Rattle.mesh.specs.Sound.{none, proper, blendsOf, table};
+ghost use Rattle.mesh.specs.Sound.{none, proper, blendsOf, table, freshTable};
 ghost use Rattle.mesh.specs.Sound as sounds;
 ghost use Rattle.mesh.specs.Bytes.{refused};
 
@@ -85,6 +85,19 @@ pub(crate) fn first_four(w: usize, h: usize) -> Table
     };
     t.count = 4;
     t
+}
+
+// The table of a fresh map; an empty one where a side is out of range.
+pub fn fresh_table(w: usize, h: usize) -> Table
+    ensures { λ r. ⌜ r ≡ freshTable w h ⌝ }
+{
+    if !allowed_side(w) {
+        return refusal().table;
+    }
+    if !allowed_side(h) {
+        return refusal().table;
+    }
+    first_four(w, h)
 }
 
 // Whether the table's blends all rise within the sides.
