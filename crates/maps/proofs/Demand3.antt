@@ -20,7 +20,7 @@ use Rattle.maps.specs.Values.{drawn}
 use Rattle.maps.specs.Record.{recordOf, plain}
 use Rattle.maps.specs.Calls.{freshMap}
 use Rattle.maps.specs.Histories.{Call, number, Outcome, outcome, firstDrawn, byLibrary, byMachine, ending}
-use Rattle.maps.specs.Demand.{leftBy, Tabled, Gentle, IsSplit, exact-split, lengthened-split, linesOf, meshBy, DemandFrom, Demand3}
+use Rattle.maps.specs.Demand.{leftBy, Tabled, Gentle, IsSplit, exact-split, lengthened-split, linesBy, meshBy, DemandFrom, Demand3}
 use Rattle.maps.proofs.GoodRecords.{record-good}
 use Rattle.maps.proofs.ChosenLine.{chosen-exact}
 use Rattle.maps.proofs.Reached.{Reached, fresh-reached, start-reached, ending-leads}
@@ -69,7 +69,7 @@ module _ (P : Plain) (at : Reached P) (cs : List Call) where
   end-tabled : Tabled (leftBy P cs) (blends (ending byMachine P cs))
   end-tabled = rw (ending-follows cs P at) (holds-tabled (ending byMachine P cs) (end .holds))
 
-  end-lines : plain (leftBy P cs) .lines .splits ≡ P .lines .splits ++ linesOf P cs
+  end-lines : plain (leftBy P cs) .lines .splits ≡ P .lines .splits ++ linesBy P cs
   end-lines = rw (ending-follows cs P at, record-good (end .holds) .1) (ending-leads cs P at .more)
 
   any-gentle : (c : Call) → IsSplit c → let m = leftBy P cs in byLibrary m c .answer ≡ number 0 → Gentle m (byLibrary m c .next)

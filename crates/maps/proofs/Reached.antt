@@ -18,7 +18,7 @@ use Rattle.mesh.specs.Splits.{given, exactNumber, containing, candidate, chosen
 use Rattle.maps.specs.Record.{good}
 use Rattle.maps.specs.Calls.{setPlain}
 use Rattle.maps.specs.Histories.{Call, set, exact, lengthened, place, reads, weighs, sameAs, Outcome, firstDrawn, byMachine, ending}
-use Rattle.maps.specs.Demand.{Start, fresh, lineOf, linesOf}
+use Rattle.maps.specs.Demand.{Start, fresh, lineBy, linesBy}
 use Rattle.maps.proofs.OneSplitMore.{exact-says}
 use Rattle.maps.proofs.GoodRecords.{Holds, replays-sides, replays-stands, fresh-holds, set-holds, drawn-holds}
 use Rattle.maps.proofs.Readings.{Valued, set-valued, drawn-valued}
@@ -99,7 +99,7 @@ module _ (P : Plain) (at : Reached P) where
   by-test lines true x y f g = f refl
   by-test lines false x y f g = g refl
 
-  pub step-leads : (c : Call) → Leads P (lineOf P c) (byMachine P c .next)
+  pub step-leads : (c : Call) → Leads P (lineBy P c) (byMachine P c .next)
   unfolding chosen
   step-leads (set i j v) =
       by-test [] (ltb (placeOf (blends P) (i + 1) (j + 1)) (length (blends P))) _ _ (λ e. set-leads i j (v % 65536) (mod-lt v (omega arith)))
@@ -113,7 +113,7 @@ module _ (P : Plain) (at : Reached P) where
   step-leads (sameAs m) = by-test [] (good m) _ _ (λ e. leads-nowhere) (λ e. leads-nowhere)
 
 -- A list of calls:
-pub ending-leads : (cs : List Call) (P : Plain) → Reached P → Leads P (linesOf P cs) (ending byMachine P cs)
+pub ending-leads : (cs : List Call) (P : Plain) → Reached P → Leads P (linesBy P cs) (ending byMachine P cs)
 ending-leads [] P at = leads-nowhere P at
 ending-leads (c ∷ cs) P at =
     let first = step-leads P at c in
@@ -122,5 +122,5 @@ ending-leads (c ∷ cs) P at =
       reached = rest .reached;
       wide = rest .wide ∙ first .wide;
       tall = rest .tall ∙ first .tall;
-      more = rest .more ∙ ap (λ (l : List Split). l ++ linesOf (byMachine P c .next) cs) (first .more) ∙ append-assoc (P .lines .splits) _ _;
+      more = rest .more ∙ ap (λ (l : List Split). l ++ linesBy (byMachine P c .next) cs) (first .more) ∙ append-assoc (P .lines .splits) _ _;
     }

@@ -29,7 +29,7 @@ use Rattle.maps.specs.Calls.{setPlain}
 use Rattle.mesh.specs.Splits.{exactNumber, withLine, accepted}
 use Rattle.maps.specs.Record.{recordOf}
 use Rattle.maps.specs.Histories.{Call, set, exact, number, Outcome, outcome, byLibrary, byMachine, outcomes, ending}
-use Rattle.maps.specs.Demand.{recorded, linesOf}
+use Rattle.maps.specs.Demand.{recorded, linesBy}
 use Rattle.maps.proofs.Readings.{Valued, blends-proper}
 use Rattle.maps.proofs.Reached.{Reached}
 use Rattle.maps.proofs.Following.{outcomes-follow}
@@ -77,7 +77,7 @@ accepted-more c cs P Q R e a = rw e (refl, a)
 
 -- Splits that a record may have are accepted as calls, and are the lines of those calls.
 pub splits-drawn : (ss : List Split) (P : Plain) → accepted (P .lines) ss ≡ true →
-    (Q : Plain) × AcceptedTo P (map exact ss) Q × (linesOf P (map exact ss) ≡ ss)
+    (Q : Plain) × AcceptedTo P (map exact ss) Q × (linesBy P (map exact ss) ≡ ss)
 unfolding accepted drawn
 splits-drawn [] P e = (P, refl, refl)
 splits-drawn (s ∷ ss) P e =

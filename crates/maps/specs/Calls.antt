@@ -30,17 +30,18 @@ unfoldable pub freshMap : ℕ → ℕ → Changed
 freshMap w h =
     cond (allowedSide w && allowedSide h) (changed 0 (recordOf (freshPlain w h))) (changed 1 (recordOf (freshPlain 1 1)))
 
--- A call on a good record goes on with what it holds; else it is refused with 2.
+-- A call on a record that is not good is refused with 2; on a good one it goes on with what that holds.
+
 -- Setting the value at the anchor (m, n): 9 where no live blend has it.
 unfoldable pub setPlain : Plain → ℕ → ℕ → ℕ → Plain
 setPlain P m n v = record { lines = P .lines; values = set (P .values) (placeOf (blends P) (m + 1) (n + 1)) v }
 
 unfoldable pub setValue : Map → ℕ → ℕ → ℕ → Changed
-setValue map m n v =
-    let P = plain map in
-    cond (not (good map)) (changed 2 map)
+setValue old m n v =
+    let P = plain old in
+    cond (not (good old)) (changed 2 old)
     (cond (ltb (placeOf (blends P) (m + 1) (n + 1)) (length (blends P))) (changed 0 (recordOf (setPlain P m n v)))
-    (changed 9 map))
+    (changed 9 old))
 
 -- a blend in document 01's coordinates
 abbrev pub shape : Blend → Shape
@@ -101,22 +102,22 @@ weights m u v = cond (not (good m)) (noWeights 2) (weightsOn (plain m) u v)
 
 -- The exact split.
 unfoldable pub exactSplit : Map → Split → Changed
-exactSplit map s =
-    let P = plain map in
+exactSplit old s =
+    let P = plain old in
     let n = exactNumber (P .lines) s in
-    cond (not (good map)) (changed 2 map)
+    cond (not (good old)) (changed 2 old)
     (cond (eqb n 0) (changed 0 (recordOf (drawn P s)))
-    (changed n map))
+    (changed n old))
 
 -- The lengthened split: refusals 3 to 7 look at the split as given; 8 where no lengthened line exists.
 abbrev pub drawnFirst : Map → Plain → List Split → Changed
-drawnFirst map P [] = changed 8 map
-drawnFirst map P (c ∷ cs) = changed 0 (recordOf (drawn P c))
+drawnFirst old P [] = changed 8 old
+drawnFirst old P (c ∷ cs) = changed 0 (recordOf (drawn P c))
 
 unfoldable pub lengthenedSplit : Map → Split → Changed
-lengthenedSplit map s =
-    let P = plain map in
+lengthenedSplit old s =
+    let P = plain old in
     let n = given (P .lines) s in
-    cond (not (good map)) (changed 2 map)
-    (cond (eqb n 0) (drawnFirst map P (chosen (P .lines) s))
-    (changed n map))
+    cond (not (good old)) (changed 2 old)
+    (cond (eqb n 0) (drawnFirst old P (chosen (P .lines) s))
+    (changed n old))

@@ -16,15 +16,7 @@ use Rattle.maps.specs.Plain.{Plain, freshPlain, blends}
 use Rattle.maps.specs.Values.{readingAt, carried, drawn}
 use Rattle.mesh.specs.Splits.{liveOf, withLine, given, exactNumber, containing, candidate, chosen}
 use Rattle.maps.specs.Calls.{freshMap, setPlain}
-use Rattle.maps.specs.Histories.{Call, set, exact, lengthened, reads, Answer, number, placed, read, weighed, told, byMachine}
-
--- the number of an answer; a reading has its litres beside it
-numberOf : Answer → ℕ
-numberOf (number n) = n
-numberOf (placed p) = p .number
-numberOf (read r) = r .number
-numberOf (weighed w) = w .number
-numberOf (told s) = s .number
+use Rattle.maps.specs.Histories.{Call, set, exact, lengthened, reads, Answer, number, placed, read, weighed, told, numberOf, byMachine}
 
 -- a row, on the map that the rows before it left
 data Row : Type 0 where
@@ -108,11 +100,11 @@ beside =
     []
 
 all-starred : AllRight starred
-unfolding AllRight starred beside Right last upright level numberOf shownBy freshMap setPlain drawn given exactNumber containing candidate chosen readingAt carried freshPlain Triple.half Triple.hat Lines.inRange Lines.draws Lines.freshMesh Lines.mesh Lines.onLine Lines.shares Lines.ended Blends.halve Nearest.below Nearest.above Nearest.nearest Blends.isCut Blends.leaves Blends.leavesOf Blends.once Blends.inTableOrder Blends.refine Blends.live Sound.fourEverywhere Sound.noneNested Sound.sound
+unfolding AllRight starred beside Right last upright level shownBy freshMap setPlain drawn given exactNumber containing candidate chosen readingAt carried freshPlain Triple.half Triple.hat Lines.inRange Lines.draws Lines.freshMesh Lines.mesh Lines.onLine Lines.shares Lines.ended Blends.halve Nearest.below Nearest.above Nearest.nearest Blends.isCut Blends.leaves Blends.leavesOf Blends.once Blends.inTableOrder Blends.refine Blends.live Sound.fourEverywhere Sound.noneNested Sound.sound
 all-starred = (refl, (refl, (refl, (refl, (refl, (refl, (refl, (refl, refl, (refl, refl, (refl, refl, (refl, refl, (refl, (refl, refl, (refl, refl, (refl, refl, tt)))))))), (refl, (refl, refl, (refl, refl, (refl, refl, (refl, refl, tt)))), (refl, (refl, refl, (refl, refl, (refl, refl, (refl, refl, (refl, refl, tt))))), (refl, (refl, refl, (refl, refl, (refl, refl, (refl, refl, tt)))), (refl, (refl, refl, (refl, refl, (refl, refl, (refl, refl, (refl, refl, tt))))), tt)))))))))))
 
 all-beside : AllRight beside
-unfolding AllRight starred beside Right last upright level numberOf shownBy freshMap setPlain drawn given exactNumber containing candidate chosen readingAt carried freshPlain Triple.half Triple.hat Lines.inRange Lines.draws Lines.freshMesh Lines.mesh Lines.onLine Lines.shares Lines.ended Blends.halve Nearest.below Nearest.above Nearest.nearest Blends.isCut Blends.leaves Blends.leavesOf Blends.once Blends.inTableOrder Blends.refine Blends.live Sound.fourEverywhere Sound.noneNested Sound.sound
+unfolding AllRight starred beside Right last upright level shownBy freshMap setPlain drawn given exactNumber containing candidate chosen readingAt carried freshPlain Triple.half Triple.hat Lines.inRange Lines.draws Lines.freshMesh Lines.mesh Lines.onLine Lines.shares Lines.ended Blends.halve Nearest.below Nearest.above Nearest.nearest Blends.isCut Blends.leaves Blends.leavesOf Blends.once Blends.inTableOrder Blends.refine Blends.live Sound.fourEverywhere Sound.noneNested Sound.sound
 all-beside = (refl, (refl, refl, (refl, refl, (refl, refl, (refl, refl, tt)))), (refl, (refl, refl, (refl, refl, (refl, refl, (refl, refl, (refl, refl, tt))))), (refl, (refl, refl, (refl, refl, (refl, refl, (refl, refl, (refl, refl, (refl, refl, tt)))))), (refl, (refl, refl, (refl, refl, tt)), tt))))
 
 -- A map of 60 splits takes no more: 4 comes after 3 and before 5; with 59 the next check is made.

@@ -86,21 +86,21 @@ pub data IsSplit : Call → Type 0 where
   lengthened-split : (s : Split) → IsSplit (lengthened s)
 
 -- "The lines of a history are the fresh map's and those of its accepted splits, as drawn or as lengthened, run out and joined."
-abbrev pub lineOf : Plain → Call → List Split
-lineOf P (exact s) = cond (eqb (exactNumber (P .lines) s) 0) (s ∷ []) []
-lineOf P (lengthened s) = cond (eqb (given (P .lines) s) 0) (chosen (P .lines) s) []
-lineOf P (set i j v) = []
-lineOf P (place i) = []
-lineOf P (reads u v) = []
-lineOf P (weighs u v) = []
-lineOf P (sameAs m) = []
+abbrev pub lineBy : Plain → Call → List Split
+lineBy P (exact s) = cond (eqb (exactNumber (P .lines) s) 0) (s ∷ []) []
+lineBy P (lengthened s) = cond (eqb (given (P .lines) s) 0) (chosen (P .lines) s) []
+lineBy P (set i j v) = []
+lineBy P (place i) = []
+lineBy P (reads u v) = []
+lineBy P (weighs u v) = []
+lineBy P (sameAs m) = []
 
-abbrev pub linesOf : Plain → List Call → List Split
-linesOf P [] = []
-linesOf P (c ∷ cs) = lineOf P c ++ linesOf (byMachine P c .next) cs
+abbrev pub linesBy : Plain → List Call → List Split
+linesBy P [] = []
+linesBy P (c ∷ cs) = lineBy P c ++ linesBy (byMachine P c .next) cs
 
 abbrev pub meshBy : Plain → List Call → Mesh
-meshBy P cs = mesh (P .lines .w) (P .lines .h) (P .lines .splits ++ linesOf P cs)
+meshBy P cs = mesh (P .lines .w) (P .lines .h) (P .lines .splits ++ linesBy P cs)
 
 -- The demand on a list of calls, of a map that holds P at its start.
 pub record DemandFrom (P : Plain) (cs : List Call) : Type 0 where
@@ -122,7 +122,7 @@ pub record DemandFrom (P : Plain) (cs : List Call) : Type 0 where
       let m = leftBy P earlier in byLibrary m c .answer ≡ number 0 → Gentle m (byLibrary m c .next)
   -- 5. Any two lists on equal sides whose lines cover the same points end with the same blends: "Two histories' lines cover the same points when
   -- every unit step along a line of either lies on a line of the other." The record left after a list holds its lines.
-  pub are-lines : plain (leftBy P cs) .lines .splits ≡ P .lines .splits ++ linesOf P cs
+  pub are-lines : plain (leftBy P cs) .lines .splits ≡ P .lines .splits ++ linesBy P cs
   pub same-blends : (Q : Plain) → Start Q → Q .lines .w ≡ P .lines .w → Q .lines .h ≡ P .lines .h → (ds : List Call) →
       Coarser (meshBy P cs) (meshBy Q ds) → Coarser (meshBy Q ds) (meshBy P cs) →
       (bs : List Blend) → Tabled (leftBy Q ds) bs → bs ≡ blends

@@ -33,6 +33,13 @@ pub data Answer : Type 0 where
   weighed : Weights → Answer
   told : Same → Answer
 
+abbrev pub numberOf : Answer → ℕ
+numberOf (number n) = n
+numberOf (placed p) = p .number
+numberOf (read r) = r .number
+numberOf (weighed w) = w .number
+numberOf (told s) = s .number
+
 -- a call's answer, and the map, or what it holds, for the next call
 pub record Outcome (State : Type 0) : Type 0 where
   pub answer : Answer

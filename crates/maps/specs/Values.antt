@@ -43,7 +43,7 @@ weightAt x y u v B =
 abbrev pub over : Plain → ℕ → ℕ → List Blend
 over P u v = only (overSquare (corner (P .lines .w) u + 1) (corner (P .lines .h) v + 1)) (blends P)
 
--- the value at an anchor: its place in the table, counted from 0, or the table's length where no blend has the anchor
+-- the table place, from 0, of the blend whose anchor is at knots (m, n); the table's length where no blend has it
 abbrev pub placeOf : List Blend → ℕ → ℕ → ℕ
 placeOf [] m n = 0
 placeOf (B ∷ bs) m n = let rest = placeOf bs m n + 1 in cond (anchored m n B) 0 rest

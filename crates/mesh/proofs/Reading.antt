@@ -12,7 +12,7 @@ use lib.Seq.{set-at}
 use Rattle.axis.specs.Range.{each}
 use Rattle.mesh.specs.Sound.{none, table}
 use Rattle.mesh.specs.Blends.{at}
-use Rattle.mesh.specs.Bytes.{Idle, kept, unpacked, walk, listed, refused}
+use Rattle.mesh.specs.Bytes.{Idle, kept, unpacked, walk, ifRoom, refused}
 use Rattle.mesh.specs.declared.Blend.{Blend}
 use Rattle.axis.proofs.Tests.{either, cond-true, cond-false, each-turn, each-none}
 
@@ -95,15 +95,15 @@ read-more {whole} {left} {blends} {count} {B} h r = let next : 1024 - count ≡ 
   split = append-assoc (r .done) (B ∷ []) left ∙ r .split;
 }
 
-pub read-full : {whole left blends : List Blend} {count : ℕ} {B : Blend} → count ≡ 1024 → Reading whole (B ∷ left) count blends → listed whole ≡ refused
-unfolding listed
+pub read-full : {whole left blends : List Blend} {count : ℕ} {B : Blend} → count ≡ 1024 → Reading whole (B ∷ left) count blends → ifRoom whole ≡ refused
+unfolding ifRoom
 read-full {whole} {left} {blends} {count} {B} h r =
     let n : length whole ≡ length (r .done) + length (B ∷ left) = sym (ap length (r .split)) ∙ length-append (r .done) (B ∷ left) in
     let more : 1024 < length whole = let l = r .long in omega arith in
     rw (lt-leb (length whole) 1024 more)
 
-pub read-all : {whole blends : List Blend} {count : ℕ} → Reading whole [] count blends → listed whole ≡ record { ok = true; table = record { count = count; blends = blends } }
-unfolding listed table
+pub read-all : {whole blends : List Blend} {count : ℕ} → Reading whole [] count blends → ifRoom whole ≡ record { ok = true; table = record { count = count; blends = blends } }
+unfolding ifRoom table
 read-all {whole} {blends} {count} r =
     let e : whole ≡ r .done = sym (r .split) ∙ append-nil (r .done) in
     let n : length whole ≡ count = ap length e ∙ r .long in

@@ -11,7 +11,7 @@ use Rattle.axis.specs.Range.{all, any}
 use Rattle.mesh.specs.Lines.{Direction, upright, level, number, Mesh, layoutOf, meshOf, allowed}
 use Rattle.mesh.specs.Blends.{isCut, refine, leavesOf, firstFour, live}
 use Rattle.mesh.specs.Sound.{proper, table, blendsOf, fitted, refined, someCut, ProperIn}
-use Rattle.mesh.specs.Bytes.{Square, stepOn, bytesMesh, keepAll, walk, listed, empty, refused}
+use Rattle.mesh.specs.Bytes.{Square, stepOn, bytesMesh, keepAll, walk, ifRoom, empty, refused}
 use Rattle.mesh.specs.declared.Lines.{Lines}
 use Rattle.mesh.specs.declared.Table.{Table}
 use Rattle.mesh.specs.declared.Blend.{Blend}
@@ -98,10 +98,10 @@ module _ (w h : ℕ) (hw : w ≤ 128) (hh : h ≤ 128) (M : Mesh) (bs : List Ble
   unfolding refine
   met-fitted ne = sym (clash-unfit _ (met-clash w h hw hh P (leavesOf M bs) K ne))
 
-  pub read-fitted : getD P 0 0 ≡ 0 → listed (walk w h P) ≡ fitted (refine w h M bs)
-  unfolding refine fitted listed
+  pub read-fitted : getD P 0 0 ≡ 0 → ifRoom (walk w h P) ≡ fitted (refine w h M bs)
+  unfolding refine fitted ifRoom
   read-fitted z =
-      ap listed (walk-table w h hw hh P (leavesOf M bs) K z) ∙ sym (rw (none-met w h hw hh P (leavesOf M bs) K z))
+      ap ifRoom (walk-table w h hw hh P (leavesOf M bs) K z) ∙ sym (rw (none-met w h hw hh P (leavesOf M bs) K z))
 
 -- Places that hold what is left of a table's blends, cut by lines, where there was nothing before. That they were empty is an equation, so
 -- that no proof writes out their zeros.
@@ -133,7 +133,7 @@ module _ {L : Lines} {t : Table} {P : List ℕ} (c : Cut L t P) where
   places-square = holds .square
 
   -- else reading the places out answers
-  pub read-refined : getD P 0 0 ≡ 0 → listed (walk (L .w) (L .h) P) ≡ refined L t
+  pub read-refined : getD P 0 0 ≡ 0 → ifRoom (walk (L .w) (L .h) P) ≡ refined L t
   read-refined z = read-fitted (L .w) (L .h) w-most h-most (meshOf (layoutOf L)) (blendsOf t) holds z ∙ sym (is-refined (c .ranges))
 
 -- four blends at the front of an empty table

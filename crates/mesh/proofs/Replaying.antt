@@ -16,7 +16,7 @@ use Rattle.mesh.specs.Lines.{Direction, upright, level, number, directio
 use Rattle.mesh.specs.Blends.{along, crossed, cuts, cutter, isCut, leavesOf, refine, firstFour, live, at}
 use Rattle.mesh.specs.Order.{Uncut, Coarser}
 use Rattle.mesh.specs.Sound.{sound, table, blendsOf, fitted, full, proper}
-use Rattle.mesh.specs.Bytes.{Square, Marked, Idle, stepOn, bytesMesh, keepAll, clearAll, recut, walk, listed, empty, refused}
+use Rattle.mesh.specs.Bytes.{Square, Marked, Idle, stepOn, bytesMesh, keepAll, clearAll, recut, walk, ifRoom, empty, refused}
 use Rattle.mesh.specs.Splits.{given, exactNumber, accepted}
 use Rattle.mesh.specs.Replay.{replays, replayed}
 use Rattle.mesh.specs.declared.Split.{Split}
@@ -228,7 +228,7 @@ module _ {w h : ℕ} (sides : Sides w h) {ss : List Split} {ups lvs places : Lis
     finer =
         finer-fitted w h (sides .up .1) (mesh w h ss) M (coarser w h ss s) (firstFour w h) (first-proper w h (sides .across .0) (sides .up .0))
 
-    module _ {r : Found} (e : r ≡ cond (any cutBy lives && eqb (getD recutPlaces 0 0) 0) (listed (walk w h recutPlaces)) refused) where
+    module _ {r : Found} (e : r ≡ cond (any cutBy lives && eqb (getD recutPlaces 0 0) 0) (ifRoom (walk w h recutPlaces)) refused) where
       found : any cutBy lives ≡ true → r ≡ fitted next
       found some =
           ⊎-elim
@@ -280,7 +280,7 @@ module _ {w h : ℕ} (sides : Sides w h) {ss : List Split} {ups lvs places : Lis
     abbrev pub Answer : Mesh → List Blend → Found → List ℕ → Type 0
     Answer N bs r places' =
         let P = recut N (direction (s .direction)) (s .position + 1) bs places in
-        (r ≡ cond (any (cuts N (direction (s .direction)) (s .position + 1)) bs && eqb (getD P 0 0) 0) (listed (walk w h P)) refused) ×
+        (r ≡ cond (any (cuts N (direction (s .direction)) (s .position + 1)) bs && eqb (getD P 0 0) 0) (ifRoom (walk w h P)) refused) ×
         (r .ok ≡ true → places' ≡ P)
 
     pub answer-on : (N : Mesh) (bs : List Blend) (r : Found) (places' : List ℕ) → N ≡ M → bs ≡ lives → Answer N bs r places' → Answer M lives r places'

@@ -78,5 +78,5 @@ pub record Drawn (before after : List ℕ) (z from to : ℕ) : Type 0 where
 abbrev pub refused : Found
 refused = record { ok = false; table = table [] }
 
-unfoldable pub listed : List Blend → Found
-listed bs = cond (leb (length bs) mostBlends) (record { ok = true; table = table bs }) refused
+unfoldable pub ifRoom : List Blend → Found
+ifRoom bs = cond (leb (length bs) mostBlends) (record { ok = true; table = table bs }) refused

@@ -72,7 +72,7 @@ blendsOf t = take (t .count) (t .blends)
 unfoldable pub freshTable : ℕ → ℕ → Table
 freshTable w h = cond (allowedSide w && allowedSide h) (table (firstFour w h)) (table [])
 
--- Whether the areas of a table's blends add up to four times the domain; no where sides or count are out of range.
+-- Whether the areas of a table's blends add up to four times the domain; no where a side or the count is above its limit.
 -- Of the live blends of a map this says that it is sound: `by-area`.
 unfoldable pub full : ℕ → ℕ → Table → Bool
 full w h t = leb w largestSide && leb h largestSide && leb (t .count) mostBlends && eqb (areas w h (blendsOf t)) (4 * (w * h))

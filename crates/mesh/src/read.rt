@@ -10,7 +10,7 @@ ghost use Prim.Native.Nat.{_+_, _≤_, _<_};
 ghost use lib.Dec.{eqb};
 ghost use lib.ListN.{length, getD};
 ghost use Rattle.axis.specs.Limits.{largestSide};
-ghost use Rattle.mesh.specs.Bytes.{Square, Idle, walk, listed};
+ghost use Rattle.mesh.specs.Bytes.{Square, Idle, walk, ifRoom};
 
 // The knot from which a column of places is read: a column without a mark has none.
 fn first_row(marks: &[u8], m: usize, h: usize) -> usize
@@ -26,7 +26,7 @@ fn first_row(marks: &[u8], m: usize, h: usize) -> usize
 // The table of the kept blends; a refusal where they are more than it holds. Columns without a mark hold none.
 pub(crate) fn read_out(places: &[u32], marks: &[u8], w: usize, h: usize) -> Found
     requires { ⌜ Square (now places) × (length (now marks) ≡ 131) × (w ≤ largestSide) × (h ≤ largestSide) × Idle (now marks) (now places) ⌝ }
-    ensures { λ r. ⌜ r ≡ listed (walk w h (now (places .entry))) ⌝ }
+    ensures { λ r. ⌜ r ≡ ifRoom (walk w h (now (places .entry))) ⌝ }
 {
     let mut blends = [nothing(); Table::MOST_BLENDS];
     let mut count = 0;

@@ -30,7 +30,7 @@ ghost use Rattle.mesh.specs.Lines.{Direction, direction, draws, inRange,
 ghost use Rattle.mesh.specs.Blends.{cuts, leavesOf};
 ghost use Rattle.mesh.specs.Sound.{proper, blendsOf, Proper};
 ghost use Rattle.mesh.specs.Bytes as bytes;
-ghost use Rattle.mesh.specs.Bytes.{Square, Idle, stepOn, bytesMesh, keepAll, clearAll, walk, listed, refused};
+ghost use Rattle.mesh.specs.Bytes.{Square, Idle, stepOn, bytesMesh, keepAll, clearAll, walk, ifRoom, refused};
 ghost use Rattle.mesh.specs.Replay.{replayed};
 
 // Whether some of the n steps from knot `from` on, of the line at knot z, is on.
@@ -195,7 +195,7 @@ fn recut(
         getD P 0 0 ≡ 0 → Idle (now marks) P) ⌝ }
     ensures { λ r. ⌜ (let M = bytesMesh (now (uprights .entry)) (now (levels .entry)) in
         let P = bytes.recut M (direction number) z (blendsOf table) (now (places .entry)) in
-        (r ≡ cond (any (cuts M (direction number) z) (blendsOf table) && eqb (getD P 0 0) 0) (listed (walk w h P)) refused) ×
+        (r ≡ cond (any (cuts M (direction number) z) (blendsOf table) && eqb (getD P 0 0) 0) (ifRoom (walk w h P)) refused) ×
         (r .ok ≡ true → now (places .exit) ≡ P)) ⌝ }
 {
     if !clear_cut(uprights, levels, number, z, table, places) {

@@ -2,3 +2,4 @@ pub mod Refusals
 pub mod Coordinates
 pub mod Known
 pub mod Changing
+pub mod Histories

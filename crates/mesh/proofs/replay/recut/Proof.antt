@@ -10,7 +10,7 @@ use Rattle.axis.specs.Range.{any}
 use Rattle.mesh.specs.Lines.{direction}
 use Rattle.mesh.specs.Blends.{cuts}
 use Rattle.mesh.specs.Sound.{blendsOf}
-use Rattle.mesh.specs.Bytes.{Idle, bytesMesh, recut, walk, listed, refused}
+use Rattle.mesh.specs.Bytes.{Idle, bytesMesh, recut, walk, ifRoom, refused}
 use Rattle.mesh.specs.declared.Found.{Found}
 use Rattle.axis.proofs.Tests.{failed, passed, and-of, and-first, cond-true, cond-false, true-not-false}
 use Rattle.mesh.proofs.Recutting.{recut-done, met-none}
@@ -69,7 +69,7 @@ returns-3 c =
     let apart = c .before .before in
     let cut = apart .before .before .before .before in
     let a = cut .before .before .before .before .before .before .before .before .before .before .before .args in (
-      c .read-out .ensures ∙ ap (λ (P : List ℕ). listed (walk (a .w) (a .h) P)) (done cut) ∙
+      c .read-out .ensures ∙ ap (λ (P : List ℕ). ifRoom (walk (a .w) (a .h) P)) (done cut) ∙
           sym (cond-true _ _ _ (and-of _ _ (some (cut .before .before)) (eq-eqb _ _ (sym (ap (λ (P : List ℕ). getD P 0 0) (done cut)) ∙ apart .if2 .left)))),
       λ f. done cut,
     )

@@ -1,0 +1,146 @@
+-- Lists of calls on one buffer follow the plain machine at the border: the buffer begins with the file of what it holds, so each call reads its map.
+use Prim.Native.Nat.{ℕ, _+_, _-_, _≤_, _%_}
+use native.Mathlib.Omega.{arith}
+use mathlib.Core.Path.{_≡_, refl, sym, ap, subst, _∙_}
+use mathlib.Core.Logic.{⊎-elim}
+use mathlib.Core.Bool.{Bool, true, false, cond, _&&_}
+use mathlib.Core.List.{List, [], _∷_, _++_, map, List·Memᴰ}
+use mathlib.Core.List.List·Memᴰ.{List·Memᴰ·head, List·Memᴰ·tail}
+use borrow.Author.Tests.{le-leb, leb-false}
+use lib.Dec.{leb, ltb}
+use lib.ListN.{length, take, drop, length-append}
+use lib.Seq.{take-append-seam, drop-append-add, drop-drop}
+use Rattle.axis.proofs.Tests.{either, and-both, cond-true, cond-false}
+use Rattle.mesh.specs.declared.Split.{Split}
+use Rattle.mesh.specs.Lines.{allowedSide}
+use Rattle.maps.specs.declared.Map.{Map}
+use Rattle.maps.specs.declared.Changed.{Changed}
+use Rattle.maps.specs.Plain.{Plain, freshPlain}
+use Rattle.maps.specs.Values.{inDomain}
+use Rattle.maps.specs.Record.{recordOf, plain, good}
+use Rattle.maps.specs.Calls.{changed, freshMap, tablePlace, reading, weights, setValue, exactSplit, lengthenedSplit}
+use Rattle.maps.specs.Sameness.{sameness}
+use Rattle.maps.specs.Histories as Maps
+use Rattle.maps.specs.Histories.{Call, Outcome, numberOf, byLibrary, byMachine, ending}
+use Rattle.maps.specs.Demand.{recorded}
+use Rattle.maps.proofs.GoodRecords.{record-good}
+use Rattle.maps.proofs.Reached.{Reached, fresh-reached, step-leads}
+use Rattle.maps.proofs.Following.{step-follows}
+use Rattle.maps.proofs.Rebuilding.{ending-join}
+use Rattle.maps.proofs.Demand3.{demand-three}
+use Rattle.files.specs.File.{fileOf}
+use Rattle.files.specs.Calls.{ifRefused, writeNumber, readFile}
+use Rattle.files.specs.Listing.{textNumber}
+use Rattle.files.proofs.GoodFiles.{reads-back}
+use Rattle.files.proofs.ReadMaps.{read-holds}
+use Rattle.pump.specs.Border.{newNumber, newBytes, newUsed, freshNumber, lent, placeNumber, placeAfter, weightsNumber, weightsAfter, readingNumber, readingLitres, sameNumber, sameYes}
+use Rattle.pump.specs.Histories.{PumpCall, fresh, set, exact, lengthened, place, reads, weighs, sameAs, sameTo, checks, payloads, lists, PumpAnswer, answer, PumpOutcome, outcome, Buffer, buffer, changing, byBorder, Desk, desk, refuses, puts, changes, byRules, outcomes, left, lentBy, shown, Past, past, after, pastBy, begun, BorderDemand}
+
+-- What holds of the desk throughout: its map was reached, and the buffer begins with that map's file.
+pub record At (d : Desk) : Type 0 where
+  pub reached : Reached (d .holds)
+  pub rest : List ℕ
+  pub begins : d .bytes ≡ fileOf (d .holds) ++ rest
+
+-- bytes behind other bytes in front of them
+past-front : (front bytes : List ℕ) (k : ℕ) → length front ≤ k → drop k (front ++ drop (length front) bytes) ≡ drop k bytes
+past-front front bytes k le =
+    let more = k - length front in
+    let e : length front + more ≡ k = omega arith in
+    subst (λ (j : ℕ). drop j (front ++ drop (length front) bytes) ≡ drop j bytes) e
+    (drop-append-add front (drop (length front) bytes) more ∙ drop-drop more (length front) bytes)
+
+-- a new map on the desk, or its refusal, is what writing it into the buffer gives
+module _ (d : Desk) where
+  new-shown : (n : ℕ) (Q : Plain) → Reached Q → (r : Changed) → r ≡ changed n (recordOf Q) →
+      outcome (answer (newNumber 0 r (d .bytes)) [] []) (buffer (newBytes 0 r (d .bytes)) (newUsed 0 r (d .bytes) (length (fileOf (d .holds))))) ≡
+      shown (ifRefused n (refuses d n) (puts d Q))
+  unfolding newNumber newBytes newUsed writeNumber
+  new-shown n Q at r is =
+      let g = record-good (at .holds) in
+      ⊎-elim (λ (t : leb 1 n ≡ true). rw (is, t, t))
+      (λ (f : leb 1 n ≡ false).
+      rw (is, g .0, g .1, f)
+      (⊎-elim (λ (t : ltb (length (d .bytes)) (length (fileOf Q)) ≡ true). rw t) (λ (u : ltb (length (d .bytes)) (length (fileOf Q)) ≡ false). rw u)
+      (either (ltb (length (d .bytes)) (length (fileOf Q))))))
+      (either (leb 1 n))
+
+  puts-at : At d → (Q : Plain) → Reached Q → At (puts d Q .next)
+  puts-at at Q reached =
+      ⊎-elim (λ (t : ltb (length (d .bytes)) (length (fileOf Q)) ≡ true). rw t at)
+      (λ (u : ltb (length (d .bytes)) (length (fileOf Q)) ≡ false).
+      rw u (record { reached = reached; rest = drop (length (fileOf Q)) (d .bytes); begins = refl }))
+      (either (ltb (length (d .bytes)) (length (fileOf Q))))
+
+  -- bytes past a file that is put in front are as they were
+  puts-untouched : (k : ℕ) (Q : Plain) → length (fileOf (puts d Q .next .holds)) ≤ k → drop k (puts d Q .next .bytes) ≡ drop k (d .bytes)
+  puts-untouched k Q le =
+      ⊎-elim (λ (t : ltb (length (d .bytes)) (length (fileOf Q)) ≡ true). rw t)
+      (λ (u : ltb (length (d .bytes)) (length (fileOf Q)) ≡ false). rw u (past-front (fileOf Q) (d .bytes) k (rw u at le)))
+      (either (ltb (length (d .bytes)) (length (fileOf Q))))
+
+module _ {d : Desk} (at : At d) where
+  is-lent : lent (d .bytes) (length (fileOf (d .holds))) ≡ fileOf (d .holds)
+  is-lent =
+      let short : length (fileOf (d .holds)) ≤ length (fileOf (d .holds) ++ at .rest) = simp length-append (omega arith) in
+      rw (at .begins, le-leb _ _ short, take-append-seam)
+
+  is-read : readFile (lent (d .bytes) (length (fileOf (d .holds)))) ≡ changed 0 (recordOf (d .holds))
+  is-read =
+      ap readFile is-lent ∙
+      reads-back (d .holds) (at .reached .valued .small) (at .reached .valued .counted) (record-good (at .reached .holds) .0)
+
+  -- a change of the map,
+  change-shown : (c : Call) (call : Map → Changed) →
+      (let r = call (recordOf (d .holds)) in Maps.outcome (Maps.number (r .number)) (r .map) ≡ recorded (byMachine (d .holds) c)) →
+      changing call (lentBy d) ≡ shown (changes d c)
+  change-shown c call e =
+      let o = byMachine (d .holds) c in
+      let n = ap (λ (x : Outcome Map). numberOf (x .answer)) e in
+      let m = ap (λ (x : Outcome Map). x .next) e in
+      rw is-read
+      (new-shown d (numberOf (o .answer)) (o .next) (step-leads (d .holds) (at .reached) c .reached) (call (recordOf (d .holds)))
+      (λ i. changed (n i) (m i)))
+
+  -- a question to it,
+  same-map : (other : List ℕ) → good (readFile other .map) ≡ true
+  same-map other = let h = read-holds other in rw (h .2) (record-good (h .1) .0)
+
+  itself : (n : ℕ) → ifRefused n n 0 ≡ n
+  itself n =
+      ⊎-elim (λ (t : leb 1 n ≡ true). rw t) (λ (f : leb 1 n ≡ false). let z : n ≡ 0 = (let le = leb-false 1 n f in omega arith) in rw z) (either (leb 1 n))
+
+  pub step-shown : (c : PumpCall) → byBorder (lentBy d) c ≡ shown (byRules d c)
+  unfolding freshMap placeNumber placeAfter tablePlace weightsNumber weightsAfter weights readingNumber readingLitres reading sameNumber sameYes sameness textNumber
+  step-shown (fresh w h) =
+      ⊎-elim
+      (λ (t : allowedSide w && allowedSide h ≡ true).
+      let b = and-both (allowedSide w) (allowedSide h) t in
+      new-shown d 0 (freshPlain w h) (fresh-reached w h (b .0) (b .1)) (freshMap w h) (cond-true _ _ _ t) ∙ ap shown (sym (cond-true _ _ _ t)))
+      (λ (f : allowedSide w && allowedSide h ≡ false).
+      new-shown d 1 (freshPlain 1 1) (fresh-reached 1 1 refl refl) (freshMap w h) (cond-false _ _ _ f) ∙ ap shown (sym (cond-false _ _ _ f)))
+      (either (allowedSide w && allowedSide h))
+  step-shown (set m n v) =
+      change-shown (Maps.set m n v) (λ old. setValue old m n (v % 65536)) (step-follows (d .holds) (at .reached) (Maps.set m n v))
+  step-shown (exact s) = change-shown (Maps.exact s) (λ old. exactSplit old s) (step-follows (d .holds) (at .reached) (Maps.exact s))
+  step-shown (lengthened s) =
+      change-shown (Maps.lengthened s) (λ old. lengthenedSplit old s) (step-follows (d .holds) (at .reached) (Maps.lengthened s))
+  step-shown (place i out) = let g = record-good (at .reached .holds) in rw (is-read, g .0, g .1)
+  step-shown (reads u v) =
+      let g = record-good (at .reached .holds) in
+      rw (is-read, g .0, g .1)
+      (⊎-elim (λ (t : inDomain (d .holds) u v ≡ true). rw t) (λ (f : inDomain (d .holds) u v ≡ false). rw f) (either (inDomain (d .holds) u v)))
+  step-shown (weighs u v out) = let g = record-good (at .reached .holds) in rw (is-read, g .0, g .1)
+  step-shown (sameAs other) = let g = record-good (at .reached .holds) in rw (is-read, g .0, g .1, same-map other, itself)
+  step-shown (sameTo other) = let g = record-good (at .reached .holds) in rw (is-read, g .0, g .1, same-map other, itself)
+  step-shown checks = rw is-read
+  step-shown (payloads i) = rw is-lent
+  step-shown (lists out) = let g = record-good (at .reached .holds) in rw (is-read, g .1)
+
+  -- so the next call finds the desk and the buffer in the same state.
+  changes-at : (c : Call) → At (changes d c .next)
+  changes-at c =
+      let n = numberOf (byMachine (d .holds) c .answer) in
+      ⊎-elim (λ (t : leb 1 n ≡ true). rw t at)
+      (λ (f : leb 1 n ≡ false). rw f (puts-at d at (byMachine (d .holds) c .next) (step-leads (d .holds) (at .reached) c .reached)))
+      (either (leb 1 n))

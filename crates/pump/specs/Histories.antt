@@ -1,0 +1,202 @@
+-- Document 01, "Histories", at the border to C: lists of `pump_` calls on one buffer, and the plain machine beside it.
+use Prim.Native.Nat.{ℕ, _≤_, _%_}
+use mathlib.Core.Path.{_≡_}
+use mathlib.Core.Bool.{Bool, cond, _&&_}
+use mathlib.Core.List.{List, [], _∷_, _++_, map, List·Memᴰ}
+use lib.Dec.{ltb}
+use lib.ListN.{length, take, drop}
+use Rattle.mesh.specs.declared.Split.{Split}
+use Rattle.mesh.specs.Lines.{allowedSide}
+use Rattle.maps.specs.declared.Map.{Map}
+use Rattle.maps.specs.declared.Changed.{Changed}
+use Rattle.maps.specs.Plain.{Plain, freshPlain}
+use Rattle.maps.specs.Record.{plain}
+use Rattle.maps.specs.Calls.{setValue, exactSplit, lengthenedSplit, placeOn, readingOn, weightsOn}
+use Rattle.maps.specs.Sameness.{samePlain}
+use Rattle.maps.specs.Histories as Maps
+use Rattle.maps.specs.Histories.{Call, numberOf, byMachine, ending}
+use Rattle.maps.specs.Demand.{Demand3}
+use Rattle.files.specs.File.{fileOf}
+use Rattle.files.specs.Calls.{ifRefused, shortOf, answered, readFile, payloadNumber}
+use Rattle.files.specs.Listing.{tableText, textNumber, textWritten, textAfter}
+use Rattle.pump.specs.Border.{lent, freshNumber, freshBytes, freshUsed, changeNumber, changeBytes, changeUsed, placeNumber, placeBytes, placeAfter, weightsNumber, weightsBytes, weightsAfter, readingNumber, readingLitres, sameNumber, sameYes, checkNumber, payloadFrom, payloadCount}
+
+-- A call on the map in the buffer. What it is lent beside the buffer stands with its arguments: bytes for an answer, another map's file.
+pub data PumpCall : Type 0 where
+  fresh : ℕ → ℕ → PumpCall
+  set : ℕ → ℕ → ℕ → PumpCall
+  exact lengthened : Split → PumpCall
+  place : ℕ → List ℕ → PumpCall
+  reads : ℕ → ℕ → PumpCall
+  weighs : ℕ → ℕ → List ℕ → PumpCall
+  sameAs sameTo : List ℕ → PumpCall
+  checks : PumpCall
+  payloads : ℕ → PumpCall
+  lists : List ℕ → PumpCall
+
+-- What it answers: its number, the numbers handed back, and the bytes lent for an answer as they then are.
+pub record PumpAnswer : Type 0 where
+  pub number : ℕ
+  pub numbers : List ℕ
+  pub out : List ℕ
+
+abbrev pub answer : ℕ → List ℕ → List ℕ → PumpAnswer
+answer n numbers out = record { number = n; numbers = numbers; out = out }
+
+-- a call's answer, and the buffer, or what the machine holds, for the next call
+pub record PumpOutcome (State : Type 0) : Type 0 where
+  pub answered : PumpAnswer
+  pub next : State
+
+abbrev pub outcome : {State : Type 0} → PumpAnswer → State → PumpOutcome State
+outcome a s = record { answered = a; next = s }
+
+-- The lent buffer: its bytes, and how many of them are the map's file.
+pub record Buffer : Type 0 where
+  pub bytes : List ℕ
+  pub used : ℕ
+
+abbrev pub buffer : List ℕ → ℕ → Buffer
+buffer bytes used = record { bytes = bytes; used = used }
+
+-- The calls of the library: each step is the definition that the call's public contract cites. A question is asked of the first `used` bytes, and
+-- sameness with the other file behind the map in the buffer (`sameAs`) or before it (`sameTo`). A value is a 16-bit number.
+abbrev pub changing : (Map → Changed) → Buffer → PumpOutcome Buffer
+changing call b =
+    outcome (answer (changeNumber call (b .bytes) (b .used)) [] []) (buffer (changeBytes call (b .bytes) (b .used)) (changeUsed call (b .bytes) (b .used)))
+
+abbrev pub asking : Buffer → (List ℕ → PumpAnswer) → PumpOutcome Buffer
+asking b question = outcome (question (lent (b .bytes) (b .used))) b
+
+abbrev pub byBorder : Buffer → PumpCall → PumpOutcome Buffer
+byBorder b (fresh w h) =
+    outcome (answer (freshNumber w h (b .bytes)) [] []) (buffer (freshBytes w h (b .bytes)) (freshUsed w h (b .bytes) (b .used)))
+byBorder b (set m n v) = changing (λ old. setValue old m n (v % 65536)) b
+byBorder b (exact s) = changing (λ old. exactSplit old s) b
+byBorder b (lengthened s) = changing (λ old. lengthenedSplit old s) b
+byBorder b (place i out) = asking b (λ file. answer (placeNumber file i out) [] (placeAfter file i out))
+byBorder b (reads u v) = asking b (λ file. answer (readingNumber file u v) (readingLitres file u v ∷ []) [])
+byBorder b (weighs u v out) = asking b (λ file. answer (weightsNumber file u v out) [] (weightsAfter file u v out))
+byBorder b (sameAs other) = asking b (λ file. answer (sameNumber file other) (sameYes file other ∷ []) [])
+byBorder b (sameTo other) = asking b (λ file. answer (sameNumber other file) (sameYes other file ∷ []) [])
+byBorder b checks = asking b (λ file. answer (checkNumber file) [] [])
+byBorder b (payloads at) = asking b (λ file. answer (payloadNumber file at) (payloadFrom file at ∷ payloadCount file at ∷ []) [])
+byBorder b (lists out) = asking b (λ file. answer (textNumber file out) (textWritten file out .length ∷ []) (textAfter file out))
+
+-- The plain machine at the border: it holds what the record of a map holds, and what the buffer's bytes are to be.
+pub record Desk : Type 0 where
+  pub holds : Plain
+  pub bytes : List ℕ
+
+abbrev pub desk : Plain → List ℕ → Desk
+desk P bytes = record { holds = P; bytes = bytes }
+
+abbrev pub refuses : Desk → ℕ → PumpOutcome Desk
+refuses d n = outcome (answer n [] []) d
+
+-- A new map: 12 where the buffer is shorter than its file, else the file in front, and "Bytes after a written file stay."
+abbrev pub puts : Desk → Plain → PumpOutcome Desk
+puts d Q =
+    cond (ltb (length (d .bytes)) (length (fileOf Q))) (refuses d 12)
+    (outcome (answer 0 [] []) (desk Q (fileOf Q ++ drop (length (fileOf Q)) (d .bytes))))
+
+-- A change of the map, as the plain machine of maps makes it; its refusals come before 12.
+abbrev pub changes : Desk → Call → PumpOutcome Desk
+changes d c =
+    let o = byMachine (d .holds) c in
+    let n = numberOf (o .answer) in
+    ifRefused n (refuses d n) (puts d (o .next))
+
+-- An answer of bytes: its refusals, then 12 where the bytes lent for it are too few.
+abbrev pub tells : Desk → ℕ → List ℕ → ℕ → List ℕ → PumpOutcome Desk
+tells d refused bytes size out =
+    let n = ifRefused refused refused (shortOf size out) in outcome (answer n [] (answered n bytes out)) d
+
+abbrev pub compares : Desk → ℕ → Bool → PumpOutcome Desk
+compares d n yes = outcome (answer n (ifRefused n 0 (cond yes 1 0) ∷ []) []) d
+
+abbrev pub byRules : Desk → PumpCall → PumpOutcome Desk
+byRules d (fresh w h) = cond (allowedSide w && allowedSide h) (puts d (freshPlain w h)) (refuses d 1)
+byRules d (set m n v) = changes d (Maps.set m n v)
+byRules d (exact s) = changes d (Maps.exact s)
+byRules d (lengthened s) = changes d (Maps.lengthened s)
+byRules d (place i out) = let p = placeOn (d .holds) i in tells d (p .number) (placeBytes p) 14 out
+byRules d (reads u v) = let r = readingOn (d .holds) u v in outcome (answer (r .number) (r .litres ∷ []) []) d
+byRules d (weighs u v out) = let w = weightsOn (d .holds) u v in tells d (w .number) (weightsBytes w) 64 out
+byRules d (sameAs other) = let f = readFile other in compares d (f .number) (samePlain (d .holds) (plain (f .map)))
+byRules d (sameTo other) = let f = readFile other in compares d (f .number) (samePlain (plain (f .map)) (d .holds))
+byRules d checks = outcome (answer 0 [] []) d
+byRules d (payloads at) =
+    let file = fileOf (d .holds) in
+    outcome (answer (payloadNumber file at) (payloadFrom file at ∷ payloadCount file at ∷ []) []) d
+byRules d (lists out) =
+    let text = tableText (d .holds) in
+    let n = shortOf (length text) out in
+    outcome (answer n (ifRefused n 0 (length text) ∷ []) (answered n text out)) d
+
+-- a list of calls: the outcomes in order, and what is left in the end
+abbrev pub outcomes : {State : Type 0} → (State → PumpCall → PumpOutcome State) → State → List PumpCall → List (PumpOutcome State)
+outcomes step s [] = []
+outcomes step s (c ∷ cs) = step s c ∷ outcomes step (step s c .next) cs
+
+abbrev pub left : {State : Type 0} → (State → PumpCall → PumpOutcome State) → State → List PumpCall → State
+left step s [] = s
+left step s (c ∷ cs) = left step (step s c .next) cs
+
+-- the buffer of what the machine holds; and an outcome of the machine with it
+abbrev pub lentBy : Desk → Buffer
+lentBy d = buffer (d .bytes) (length (fileOf (d .holds)))
+
+abbrev pub shown : PumpOutcome Desk → PumpOutcome Buffer
+shown o = outcome (o .answered) (lentBy (o .next))
+
+-- The history of the map in the buffer: the sides of the last accepted `pump_fresh`, and the accepted changes since then.
+pub record Past : Type 0 where
+  pub w : ℕ
+  pub h : ℕ
+  pub calls : List Call
+
+abbrev pub past : ℕ → ℕ → List Call → Past
+past w h calls = record { w = w; h = h; calls = calls }
+
+abbrev pub with : Past → Call → Past
+with t c = past (t .w) (t .h) (t .calls ++ c ∷ [])
+
+abbrev pub after : Past → PumpCall → Past
+after t (fresh w h) = past w h []
+after t (set m n v) = with t (Maps.set m n v)
+after t (exact s) = with t (Maps.exact s)
+after t (lengthened s) = with t (Maps.lengthened s)
+after t (place i out) = t
+after t (reads u v) = t
+after t (weighs u v out) = t
+after t (sameAs other) = t
+after t (sameTo other) = t
+after t checks = t
+after t (payloads at) = t
+after t (lists out) = t
+
+abbrev pub pastBy : Past → Desk → List PumpCall → Past
+pastBy t d [] = t
+pastBy t d (c ∷ cs) = let o = byRules d c in pastBy (ifRefused (o .answered .number) t (after t c)) (o .next) cs
+
+-- what the machine holds after an accepted `pump_fresh`
+abbrev pub begun : ℕ → ℕ → Buffer → Desk
+begun w h start = let file = fileOf (freshPlain w h) in desk (freshPlain w h) (file ++ drop (length file) (start .bytes))
+
+-- Demand 3 at the border: from an accepted `pump_fresh`, after any list of `pump_` calls on that buffer, refused ones and fresh maps among them.
+pub record BorderDemand (w h : ℕ) (start : Buffer) (cs : List PumpCall) : Type 0 where
+  pub made : byBorder start (fresh w h) ≡ outcome (answer 0 [] []) (lentBy (begun w h start))
+  -- At every call the number, every number and byte handed back, the buffer and its length in use are those of the plain machine: the file of what
+  -- it holds stands in front, and bytes after it are as they were before the call. So it is after the list.
+  pub same-outcomes : outcomes byBorder (lentBy (begun w h start)) cs ≡ map shown (outcomes byRules (begun w h start) cs)
+  pub same-left : left byBorder (lentBy (begun w h start)) cs ≡ lentBy (left byRules (begun w h start) cs)
+  pub begins : let d = left byRules (begun w h start) cs in take (length (fileOf (d .holds))) (d .bytes) ≡ fileOf (d .holds)
+  -- Bytes after every file that the buffer held are as they were before the list.
+  pub untouched : (k : ℕ) → length (fileOf (freshPlain w h)) ≤ k →
+      ((o : PumpOutcome Desk) → List·Memᴰ o (outcomes byRules (begun w h start) cs) → length (fileOf (o .next .holds)) ≤ k) →
+      drop k (left byRules (begun w h start) cs .bytes) ≡ drop k (start .bytes)
+  -- The map in the buffer is the one that its history leaves, and demand 3 holds of that.
+  pub history : let t = pastBy (past w h []) (begun w h start) cs in
+      left byRules (begun w h start) cs .holds ≡ ending byMachine (freshPlain (t .w) (t .h)) (t .calls)
+  pub demand : let t = pastBy (past w h []) (begun w h start) cs in Demand3 (t .w) (t .h) (t .calls)
