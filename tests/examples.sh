@@ -1,5 +1,6 @@
 #!/usr/bin/env bash
-# Builds the archive for C and runs the C and Python examples; what the C example prints is held to c/first.out.
+# Builds the archive for C and runs the C and Python examples; what the C example prints is held to c/first.out. Then
+# measures the stack that the calls need.
 set -eu
 cd "$(dirname "$0")/.."
 rt staticlib pump >target/staticlib.log 2>&1 || { tail -5 target/staticlib.log; exit 1; }
@@ -9,3 +10,5 @@ diff c/first.out target/first.out
 echo "examples: the C example prints what c/first.out has"
 cc -shared -o target/libpump.so -Wl,--whole-archive target/staticlib/libpump.a -Wl,--no-whole-archive
 python3 c/engineer.py target/libpump.so
+cc -std=c99 -Wall -Wextra -Werror -O2 -pthread -o target/stack tests/stack.c target/staticlib/libpump.a
+target/stack

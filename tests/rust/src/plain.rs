@@ -7,7 +7,6 @@ type No = usize;
 
 const LARGEST_SIDE: usize = 128;
 const MOST_SPLITS: usize = 60;
-const TABLE_TEXT: usize = 65_536;
 const ENTRY: usize = 14;
 const WEIGHTS: usize = 64;
 const FOURS: [u8; LARGEST_SIDE * LARGEST_SIDE] = [4; LARGEST_SIDE * LARGEST_SIDE];
@@ -397,8 +396,8 @@ fn put(numbers: impl Iterator<Item = i16>, size: usize, out: &mut [u8]) -> Resul
     Ok(())
 }
 
-/// Writes a number and a mark after it.
-fn put_number(out: &mut [u8], at: &mut usize, number: i32, mark: u8) {
+/// Adds a number and a mark after it.
+fn put_number(text: &mut Vec<u8>, number: i32, mark: u8) {
     let mut digits = [0; 8];
     let mut count = 0;
     let mut rest = number.unsigned_abs();
@@ -414,12 +413,9 @@ fn put_number(out: &mut [u8], at: &mut usize, number: i32, mark: u8) {
         digits[count] = b'-';
         count += 1;
     }
-    for digit in digits[..count].iter().rev() {
-        out[*at] = *digit;
-        *at += 1;
-    }
-    out[*at] = mark;
-    *at += 1;
+    digits[..count].reverse();
+    text.extend_from_slice(&digits[..count]);
+    text.push(mark);
 }
 
 fn payload(bytes: &[u8], place: usize) -> Result<(usize, usize), No> {
@@ -446,7 +442,6 @@ impl Pump for Plain {
     }
 
     fn fresh(&self, w: usize, h: usize, buffer: &mut [u8], used: &mut usize) -> usize {
-        *used = 0;
         number(Map::fresh(w, h).and_then(|map| map.write(buffer, used)))
     }
 
@@ -517,17 +512,17 @@ impl Pump for Plain {
     fn table(&self, file: &[u8], out: &mut [u8], count: &mut usize) -> usize {
         *count = 0;
         number(Map::read(file).and_then(|map| {
-            if out.len() < TABLE_TEXT {
-                return Err(12);
-            }
-            put_number(out, count, map.table.len() as i32, b'\n');
+            let mut text = Vec::with_capacity(32 * (1 + map.table.len()));
+            put_number(&mut text, map.table.len() as i32, b'\n');
             for (blend, value) in map.table.iter().zip(&map.values) {
                 let Blend { m, n, l, r, b, t } = *blend;
                 for number in [l, m, r, b, n, t] {
-                    put_number(out, count, number as i32, b' ');
+                    put_number(&mut text, number as i32, b' ');
                 }
-                put_number(out, count, *value as i32, b'\n');
+                put_number(&mut text, *value as i32, b'\n');
             }
+            out.get_mut(..text.len()).ok_or(12usize)?.copy_from_slice(&text);
+            *count = text.len();
             Ok(())
         }))
     }

@@ -89,7 +89,11 @@ fn damaged_files() {
                 Call::Payload(_) => Call::Check,
                 call => call,
             };
-            let room = if call.changes() { Lent::buffer(&bad, bad.len() + 400) } else { lent.clone() };
+            let room = match call.changes() {
+                true => Lent::buffer(&bad, bad.len() + 400),
+                // Bytes that are no file are refused with 11 even where no answer would fit.
+                false => Lent { out: random.pick(&[0, 65_536]), ..lent.clone() },
+            };
             let number = compare(&call, &room, &story).number;
             assert!(checked == 0 || number == 11);
         }

@@ -55,7 +55,7 @@ impl Seen {
 }
 
 /// The bytes lent: the file with room after it or none, sometimes too little, sometimes a length beyond the bytes.
-fn lend(random: &mut Random, call: &Call, file: &[u8]) -> Lent {
+fn lend(random: &mut Random, call: &Call, map: &Map, file: &[u8]) -> Lent {
     if call.changes() {
         let size = match random.below(20) {
             0 => file.len(),
@@ -77,7 +77,11 @@ fn lend(random: &mut Random, call: &Call, file: &[u8]) -> Lent {
     lent.out = match call {
         Call::Place(_) => random.pick(&[0, 13, 14, 14, 14, 15, 40]),
         Call::Weights(..) => random.pick(&[0, 63, 64, 64, 64, 65, 100]),
-        _ => random.pick(&[0, 65_535, 65_536, 65_536, 65_536, 65_600]),
+        Call::Table => {
+            let text = map.text().len();
+            random.pick(&[0, text - 1, text, text, text + 1, 65_536])
+        }
+        _ => 0,
     };
     if random.chance(2) {
         lent.used = random.below(file.len());
@@ -98,9 +102,9 @@ fn history(random: &mut Random, seen: &mut Seen, (w, h): (usize, usize), length:
             true => Call::Lengthened(draw::split(random, &map, &map.lines())),
             false => draw::call(random, &map, &others),
         };
-        let lent = lend(random, &call, &file);
-        story.push((call.clone(), lent.bytes.len(), lent.used));
-        let tell = || format!("sides {w} by {h}; calls, each with size and used: {story:?}");
+        let lent = lend(random, &call, &map, &file);
+        story.push((call.clone(), lent.bytes.len(), lent.used, lent.out));
+        let tell = || format!("sides {w} by {h}; calls, each with size, used and size of out: {story:?}");
         let outcome = compare(&call, &lent, &tell);
         seen.note(&call, &outcome);
         if outcome.number != 0 || !call.changes() {
@@ -190,6 +194,19 @@ fn most_blends() {
     }
 }
 
+/// A table's text goes into bytes that just hold it, and into no fewer: the shortest text, and that of the most blends.
+#[test]
+fn table_that_just_fits() {
+    for file in [Map::fresh(1, 1).unwrap().write(), largest(&maps::grid())] {
+        let table = |out| compare(&Call::Table, &Lent { out, ..Lent::file(&file) }, &String::new);
+        let text = table(65_536).numbers[0];
+        for (out, want) in [(0, 12), (1, 12), (text - 1, 12), (text, 0), (text + 1, 0), (65_535, 0)] {
+            let outcome = table(out);
+            assert_eq!((outcome.number, outcome.numbers[0]), (want, if want == 0 { text } else { 0 }));
+        }
+    }
+}
+
 /// A lengthened split that finds its line as the last of very many.
 #[test]
 fn longest_search() {
@@ -230,6 +247,7 @@ fn fresh_maps() {
         let mut lent = Lent::buffer(&[], random.pick(&[0, 1, 51, 52, 53, 100]));
         lent.used = round;
         let outcome = compare(&call, &lent, &String::new);
+        assert_eq!(outcome.used, if outcome.number == 0 { 52 } else { round });
         seen.note(&call, &outcome);
     }
     assert!([0, 1, 12].iter().all(|number| seen.count("fresh", *number) > 100));
