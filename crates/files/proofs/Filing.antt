@@ -18,14 +18,14 @@ use Rattle.maps.proofs.Changing.{GoodMap, few, live-table, live-count}
 use Rattle.files.specs.declared.Written.{Written}
 use Rattle.files.specs.File.{fileOf, put}
 use Rattle.files.specs.Calls.{writeNumber, written, after}
-use Rattle.files.specs.Inner.{Listed, filed}
+use Rattle.files.specs.Inner.{WellFormed, filed}
 use Rattle.files.proofs.RoundTrip.{file-length}
 
 -- an opened map's table is fit for its file
 pub record Ready (m : Map) (t : Table) : Type 0 where
   pub is-good : good m ≡ true
   pub few : m .lines .count ≤ 60
-  pub listed : Listed t
+  pub well-formed : WellFormed t
   pub is-file : filed m t ≡ fileOf (plain m)
   pub size : length (fileOf (plain m)) ≡ 12 + 12 * m .lines .count + 10 * t .count
 
@@ -36,7 +36,7 @@ ready {m} {t} g =
     record {
       is-good = g .is-good;
       few = f .few;
-      listed =
+      well-formed =
           record {
             few = few g;
             rise = λ B mem. proper-largest (m .lines .w) (m .lines .h) B (f .across .1) (f .up .1)

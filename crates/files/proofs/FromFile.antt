@@ -1,11 +1,10 @@
 -- Demand 3 of lists of calls on a map that was read from a file.
-use Prim.Native.Nat.{ℕ, zero, suc, _+_, _*_, _-_, _/_, _<_}
+use Prim.Native.Nat.{ℕ, _<_}
 use native.Mathlib.Omega.{arith}
 use mathlib.Core.Path.{_≡_, refl, sym, ap, subst, _∙_}
-use mathlib.Core.List.{List, [], _∷_, _++_, map, append-assoc, List·Memᴰ, List·Memᴰ·eq-of-singleton}
-use lib.ListN.{length, getD, length-append}
+use mathlib.Core.List.{List, [], _∷_, _++_, map, append-assoc, List·Memᴰ}
+use lib.ListN.{length, length-append}
 use Rattle.mesh.specs.declared.Blend.{Blend}
-use Rattle.axis.proofs.Tests.{each-mem}
 use Rattle.maps.specs.declared.Map.{Map}
 use Rattle.maps.specs.Plain.{Plain, freshPlain, blends}
 use Rattle.maps.specs.Values.{paired}
@@ -17,45 +16,27 @@ use Rattle.maps.proofs.Reached.{Reached, holds-reached, fresh-reached, Leads, e
 use Rattle.maps.proofs.Rebuilding.{AcceptedTo, accepted-join, accepted-ends, accepted-more, library-accepts, ending-join, outcomes-join, withValues, splits-drawn, value-set}
 use Rattle.maps.proofs.Demand3.{both-tabled, reached-demand, demand-three}
 use Rattle.maps.proofs.Following.{ending-follows}
-use Rattle.files.specs.File.{wordAt, splitCount, guessed}
+use Rattle.files.specs.File.{guessed}
 use Rattle.files.specs.Calls.{readFile}
 use Rattle.files.specs.FromFile.{readPlain, setting, fileCalls, AllAccepted, FromFile, AnyCall, onMap, writes, payloads, AmongFiles}
 use Rattle.files.proofs.RoundTrip.{accepted-file}
-use Rattle.files.proofs.ReadMaps.{told-held, guessed-holds}
+use Rattle.files.proofs.ReadMaps.{told-held, guessed-holds, guessed-small}
 use Rattle.mesh.specs.Lines.{layout}
 
--- The numbers of a file are numbers of 16 bits.
-module _ (bytes : List ℕ) (small : (b : ℕ) → List·Memᴰ b bytes → b < 256) where
-  word-small : (at : ℕ) → wordAt bytes at < 65536
-  word-small at = omega (arith, byte bytes small at, byte bytes small (at + 1))
-    where
-      byte : (xs : List ℕ) → ((b : ℕ) → List·Memᴰ b xs → b < 256) → (i : ℕ) → getD xs i 0 < 256
-      byte [] f i = omega arith
-      byte (x ∷ xs) f zero = f x (List·Memᴰ.List·Memᴰ·head refl)
-      byte (x ∷ xs) f (suc i) = byte xs (λ b m. f b (List·Memᴰ.List·Memᴰ·tail m)) i
+-- What an accepted file tells is what the map that is read holds, and a map that calls may have reached.
+module _ (bytes : List ℕ) (e : readFile bytes .number ≡ 0) where
+  read-held : readPlain bytes ≡ guessed bytes
+  read-held = ap plain (accepted-file bytes e .2) ∙ told-held bytes e
 
-  guessed-small : (v : ℕ) → List·Memᴰ v (guessed bytes .values) → v < 65536
-  unfolding guessed
-  guessed-small v m =
-      let s = splitCount bytes 8 60 in
-      let r = each-mem 0 ((length bytes - 12 - 12 * s) / 10) (λ i. wordAt bytes (8 + 12 * s + 10 * i + 8) ∷ []) v m in
-      rw (List·Memᴰ·eq-of-singleton (r .3)) (word-small (8 + 12 * s + 10 * r .0 + 8))
+  read-reached : Reached (readPlain bytes)
+  read-reached = rw read-held (holds-reached (guessed bytes) (guessed-holds bytes e) (guessed-small bytes e))
 
-  -- What an accepted file tells is what the map that is read holds, and a map that calls may have reached.
-  module _ (e : readFile bytes .number ≡ 0) where
-    pub read-held : readPlain bytes ≡ guessed bytes
-    read-held = ap plain (accepted-file bytes e .2) ∙ told-held bytes e
-
-    pub read-reached : Reached (readPlain bytes)
-    read-reached = rw read-held (holds-reached (guessed bytes) (guessed-holds bytes e) guessed-small)
-
-    pub read-record : recordOf (readPlain bytes) ≡ readFile bytes .map
-    read-record = ap recordOf read-held ∙ sym (accepted-file bytes e .2)
+  read-record : recordOf (readPlain bytes) ≡ readFile bytes .map
+  read-record = ap recordOf read-held ∙ sym (accepted-file bytes e .2)
 
 -- Demand 3 holds of every list on a map that was read.
-pub read-demand : (bytes : List ℕ) → readFile bytes .number ≡ 0 → ((b : ℕ) → List·Memᴰ b bytes → b < 256) → (cs : List Call) →
-    DemandFrom (readPlain bytes) cs
-read-demand bytes e small = reached-demand (readPlain bytes) (read-reached bytes small e)
+pub read-demand : (bytes : List ℕ) → readFile bytes .number ≡ 0 → (cs : List Call) → DemandFrom (readPlain bytes) cs
+read-demand bytes e = reached-demand (readPlain bytes) (read-reached bytes e)
 
 -- Setting the values of a table in order leaves those values, whatever stood there.
 module _ (P : Plain) (valued : Valued P) where
@@ -107,12 +88,12 @@ module _ (P : Plain) (at : Reached P) where
   calls-accepted = library-accepts (fileCalls P) fresh P from-fresh calls-lead
 
 -- "Reading a file makes a map of its own: demand 3 holds of lists that start from it too."
-pub from-file : (bytes : List ℕ) → readFile bytes .number ≡ 0 → ((b : ℕ) → List·Memᴰ b bytes → b < 256) → FromFile bytes
-from-file bytes e small =
+pub from-file : (bytes : List ℕ) → readFile bytes .number ≡ 0 → FromFile bytes
+from-file bytes e =
     let P = readPlain bytes in
-    let at = read-reached bytes small e in
+    let at = read-reached bytes e in
     let start = recordOf (freshPlain (P .lines .w) (P .lines .h)) in
-    let left : leftBy (freshPlain (P .lines .w) (P .lines .h)) (fileCalls P) ≡ readFile bytes .map = calls-left P at ∙ read-record bytes small e in
+    let left : leftBy (freshPlain (P .lines .w) (P .lines .h)) (fileCalls P) ≡ readFile bytes .map = calls-left P at ∙ read-record bytes e in
     record {
       all-accepted = calls-accepted P at;
       left = left;
@@ -120,10 +101,10 @@ from-file bytes e small =
           ap (λ (m : Map). outcomes byLibrary start (fileCalls P) ++ outcomes byLibrary m cs) left;
       left-after = λ cs. ending-join byLibrary start (fileCalls P) cs ∙ ap (λ (m : Map). ending byLibrary m cs) left;
       whole = λ cs. demand-three (P .lines .w) (P .lines .h) (at .holds .taken .across) (at .holds .taken .up) (fileCalls P ++ cs);
-      own = read-demand bytes e small;
-      same-blends = λ other o few wide tall cs ds f g bs tabled.
-          rw (read-record bytes small e) at
-          (both-tabled P (readPlain other) at (read-reached other few o) wide tall cs ds f g bs (rw (← read-record other few o) at tabled));
+      own = read-demand bytes e;
+      same-blends = λ other o wide tall cs ds f g bs tabled.
+          rw (read-record bytes e) at
+          (both-tabled P (readPlain other) at (read-reached other o) wide tall cs ds f g bs (rw (← read-record other o) at tabled));
     }
 
 -- Writes and payloads leave the map that they got, so they are left out of a list and it answers and ends as before.

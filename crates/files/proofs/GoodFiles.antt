@@ -1,8 +1,8 @@
--- The files of good records: a written map reads back, and an accepted file is the writer's.
+-- The files of good records: a written map reads back, and bytes are accepted exactly where they are such a file.
 use Prim.Native.Nat.{ℕ, _≤_, _<_}
 use native.Mathlib.Omega.{arith}
-use mathlib.Core.Path.{_≡_, ap, _∙_}
-use mathlib.Core.Logic.{⊎-elim}
+use mathlib.Core.Path.{_≡_, sym, ap, _∙_}
+use mathlib.Core.Logic.{inl, inr, ⊎-elim}
 use mathlib.Core.Bool.{true, false}
 use mathlib.Core.List.{List, List·Memᴰ, Memᴰ·append-left}
 use borrow.Author.Tests.{leb-true, eqb-true}
@@ -11,16 +11,20 @@ use lib.ListN.{length, drop, take-append-drop}
 use Rattle.mesh.specs.declared.Split.{Split}
 use Rattle.mesh.specs.Lines.{Direction, upright, level, number, side, other, allowedSide, inRange, layoutOf}
 use Rattle.axis.proofs.Tests.{either, and-both, all-at}
+use Rattle.axis.proofs.Members.{placed}
 use Rattle.mesh.proofs.Ranges.{in-range-says}
 use Rattle.maps.specs.declared.Map.{Map}
+use Rattle.maps.specs.declared.Changed.{Changed}
 use Rattle.maps.specs.Plain.{Plain, blends}
 use Rattle.maps.specs.Record.{recordOf, plain, good}
 use Rattle.maps.specs.Calls.{changed}
 use Rattle.maps.proofs.GoodRecords.{Replays, replays-stands, good-facts}
-use Rattle.files.specs.File.{fileOf, guessed}
+use Rattle.files.specs.File.{fileOf}
 use Rattle.files.specs.Calls.{readFile}
-use Rattle.files.proofs.RoundTrip.{Small, Fits, accepted-file, all-values, written-reads}
-use Rattle.files.proofs.Reading.{good-replays, good-short}
+use Rattle.files.specs.Accepted.{Held, IsFile, Accepts}
+use Rattle.files.proofs.RoundTrip.{Small, Fits, accepted-file, written-reads, read-either}
+use Rattle.files.proofs.Reading.{good-replays}
+use Rattle.files.proofs.ReadMaps.{map-held}
 use Rattle.mesh.specs.Splits.{liveOf}
 
 most : (s : ℕ) → allowedSide s ≡ true → s ≤ 128
@@ -70,20 +74,30 @@ module _ (P : Plain) (values : (v : ℕ) → List·Memᴰ v (P .values) → v < 
   reads-back g = written-reads P (good-fits (good-replays P g)) g
 
 -- A good record that is written reads back.
-pub map-reads-back : (m : Map) → length (m .lines .splits) ≡ 60 → length (m .values) ≡ 1024 → ((v : ℕ) → List·Memᴰ v (m .values) → v < 65536) →
-    good m ≡ true → readFile (fileOf (plain m)) ≡ changed 0 m
+pub map-reads-back : {m : Map} → Held m → good m ≡ true → readFile (fileOf (plain m)) ≡ changed 0 m
 unfolding plain
-map-reads-back m places room values g =
-    let f = good-facts m places room g in
+map-reads-back {m} held g =
+    let f = good-facts m (held .splits) (held .values) g in
     let k = length (liveOf (layoutOf (m .lines))) in
-    let held : (v : ℕ) → List·Memᴰ v (plain m .values) → v < 65536 =
-    λ v i. values v (rw (take-append-drop k (m .values)) at (Memᴰ·append-left (drop k (m .values)) i)) in
-    reads-back (plain m) held (f .holds .counted) (ap good (f .is-record) ∙ g) ∙ ap (changed 0) (f .is-record)
+    let small : (v : ℕ) → List·Memᴰ v (plain m .values) → v < 65536 =
+    λ v i. let p = placed (m .values) v 0 (rw (take-append-drop k (m .values)) at (Memᴰ·append-left (drop k (m .values)) i)) in
+    rw (← p .2) (held .small (p .0)) in
+    reads-back (plain m) small (f .holds .counted) (ap good (f .is-record) ∙ g) ∙ ap (changed 0) (f .is-record)
 
--- Bytes that are accepted are the file of the map that is read.
-pub accepted-is-written : (bytes : List ℕ) → readFile bytes .number ≡ 0 →
-    (bytes ≡ fileOf (guessed bytes)) × (readFile bytes .map ≡ recordOf (guessed bytes)) × (good (recordOf (guessed bytes)) ≡ true)
-accepted-is-written bytes e =
-    let a = accepted-file bytes e in
-    let held = all-values bytes (good-short (guessed bytes) (a .0)) (a .1) in
-    (a .1 ∙ ap fileOf held, a .2, a .0)
+-- Which bytes are accepted.
+pub accepts : (bytes : List ℕ) → Accepts bytes
+accepts bytes =
+    record {
+      accepted = λ m e.
+          let a = accepted-file bytes (ap (λ (c : Changed). c .number) e) in
+          let is : readFile bytes .map ≡ m = ap (λ (c : Changed). c .map) e in
+          let told = sym (a .2) ∙ is in
+          record { held = rw is at (map-held bytes); is-good = rw told at (a .0); is-file = a .1 ∙ ap (λ (n : Map). fileOf (plain n)) told };
+      is-read = back;
+      number = ⊎-elim (λ z. inl z) (λ f. inr (rw f)) (read-either bytes);
+      no-file = λ n m is. let z : _≡_ {A = ℕ} 11 0 = sym n ∙ ap (λ (c : Changed). c .number) (back m is) in omega arith;
+      fresh = λ n. ⊎-elim (λ z. absurd (omega (arith, n, z))) (λ f. ap (λ (c : Changed). c .map) f) (read-either bytes);
+    }
+  where
+    back : (m : Map) → IsFile bytes m → readFile bytes ≡ changed 0 m
+    back m is = rw (is .is-file) (map-reads-back (is .held) (is .is-good))

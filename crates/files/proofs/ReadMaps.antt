@@ -1,15 +1,16 @@
 -- The map that reading hands back, the fresh 1 by 1 map where the bytes are no file: a good record, with its table.
-use Prim.Native.Nat.{ℕ, zero, _-_}
+use Prim.Native.Nat.{ℕ, _+_, _*_, _-_, _/_, _<_}
 use native.Mathlib.Omega.{arith}
 use mathlib.Core.Path.{_≡_, refl, ap, _∙_}
 use mathlib.Core.Logic.{⊎-elim}
-use mathlib.Core.Bool.{true, false}
-use mathlib.Core.List.{List}
-use lib.Dec.{eqb}
+use mathlib.Core.Bool.{Bool, true}
+use mathlib.Core.List.{List, [], _∷_, _++_, List·Memᴰ, List·Memᴰ·eq-of-singleton}
+use lib.Dec.{ltb}
 use lib.ListN.{length, replicate, length-append, length-replicate}
-use borrow.Author.Tests.{eqb-true}
-use Rattle.axis.proofs.Tests.{either, true-not-false}
-use Rattle.maps.specs.declared.Map.{Map}
+use borrow.Author.Tests.{ltb-true, lt-ltb}
+use Rattle.axis.specs.Range.{all}
+use Rattle.axis.proofs.Tests.{all-at, all-of, all-append, each-mem}
+use Rattle.axis.proofs.Padding.{padding-passes}
 use Rattle.maps.specs.declared.Changed.{Changed}
 use Rattle.maps.specs.declared.opened.Opened.{Opened}
 use Rattle.maps.specs.Plain.{Plain, freshPlain}
@@ -18,9 +19,11 @@ use Rattle.maps.specs.Opened.{withTable, Opens}
 use Rattle.maps.specs.Calls.{changed}
 use Rattle.maps.proofs.GoodRecords.{Holds, replays-short, record-good, fresh-holds}
 use Rattle.maps.proofs.Changing.{GoodMap, opened-map}
-use Rattle.files.specs.File.{guessed}
+use Rattle.files.specs.File.{wordAt, splitCount, guessed}
 use Rattle.files.specs.Calls.{readFile}
-use Rattle.files.proofs.RoundTrip.{held-values, accepted-file, all-values, is-read, is-refused}
+use Rattle.files.specs.Accepted.{Held}
+use Rattle.files.proofs.Words.{isByte, file-bytes, all-places, word-small}
+use Rattle.files.proofs.RoundTrip.{held-values, accepted-file, all-values, read-either}
 use Rattle.files.proofs.Reading.{good-replays, good-short}
 
 -- What an accepted file tells is what the map that is read holds.
@@ -38,37 +41,60 @@ module _ (bytes : List ℕ) (e : readFile bytes .number ≡ 0) where
         counted = rw told-held at (held-values (guessed bytes) (good-short (guessed bytes) is-good));
       }
 
--- whether or not they are a file
-pub read-holds : (bytes : List ℕ) → (P : Plain) × Holds P × (readFile bytes .map ≡ recordOf P)
+  pub guessed-small : (v : ℕ) → List·Memᴰ v (guessed bytes .values) → v < 65536
+  unfolding guessed
+  guessed-small v m =
+      let s = splitCount bytes 8 60 in
+      let r = each-mem 0 ((length bytes - 12 - 12 * s) / 10) (λ i. wordAt bytes (8 + 12 * s + 10 * i + 8) ∷ []) v m in
+      let small : all isByte bytes ≡ true = rw (accepted-file bytes e .1) (file-bytes (plain (recordOf (guessed bytes)))) in
+      rw (List·Memᴰ·eq-of-singleton (r .3)) (word-small bytes small (8 + 12 * s + 10 * r .0 + 8))
+
+-- The record of what a good record may hold has all the places of its arrays.
+all-held : {P : Plain} → Holds P → ((v : ℕ) → List·Memᴰ v (P .values) → v < 65536) → Held (recordOf P)
+unfolding recordOf linesOf
+all-held {P} p small =
+    let few = replays-short (p .taken) in
+    let isSmall : ℕ → Bool = λ v. ltb v 65536 in
+    let unused = 1024 - length (P .values) in
+    let all-small =
+    all-append isSmall (P .values) (replicate unused 0) (all-of isSmall (P .values) (λ v m. lt-ltb v 65536 (small v m))) (padding-passes isSmall 0 refl unused) in
+    record {
+      splits = rw (length-append, length-replicate) (omega (arith, p .taken .few));
+      values = rw (length-append, length-replicate) (omega (arith, p .counted, few));
+      small = λ i. ltb-true _ 65536 (all-places isSmall refl (P .values ++ replicate unused 0) all-small i);
+    }
+
+-- the map that is handed back, whether or not they are a file
+pub record Read (bytes : List ℕ) : Type 0 where
+  pub of : Plain
+  pub holds : Holds of
+  pub small : (v : ℕ) → List·Memᴰ v (of .values) → v < 65536
+  pub is : readFile bytes .map ≡ recordOf of
+
+read-holds : (bytes : List ℕ) → Read bytes
+unfolding freshPlain
 read-holds bytes =
     ⊎-elim
-    (λ (t : eqb (readFile bytes .number) 0 ≡ true). let z = eqb-true _ _ t in (guessed bytes, guessed-holds bytes z, accepted-file bytes z .2))
-    (λ (f : eqb (readFile bytes .number) 0 ≡ false). (
-      freshPlain 1 1,
-      fresh-holds 1 1 refl refl,
-      ap (λ (c : Changed). c .map) (is-refused bytes (λ g s. true-not-false _ (rw (is-read bytes g s)) f)),
-    ))
-    (either (eqb (readFile bytes .number) 0))
+    (λ z. record { of = guessed bytes; holds = guessed-holds bytes z; small = guessed-small bytes z; is = accepted-file bytes z .2 })
+    (λ f.
+    record {
+      of = freshPlain 1 1;
+      holds = fresh-holds 1 1 refl refl;
+      small = λ v m. ltb-true v 65536 (all-at (λ v. ltb v 65536) (replicate 4 0) refl v m);
+      is = ap (λ (c : Changed). c .map) f;
+    })
+    (read-either bytes)
 
--- a record's arrays have all their places
-module _ {P : Plain} (p : Holds P) where
-  all-places : length (recordOf P .lines .splits) ≡ 60
-  unfolding recordOf linesOf
-  all-places = rw (length-append, length-replicate) (omega (arith, p .taken .few))
-
-  all-room : length (recordOf P .values) ≡ 1024
-  unfolding recordOf
-  all-room = rw (length-append, length-replicate) (omega (arith, p .counted, replays-short (p .taken)))
+pub map-held : (bytes : List ℕ) → Held (readFile bytes .map)
+map-held bytes = let h = read-holds bytes in rw (h .is) (all-held (h .holds) (h .small))
 
 -- so it is an opened map
 module _ (bytes : List ℕ) {file : Opened} (is : file ≡ withTable (readFile bytes)) where
   pub read-opens : Opens file
-  read-opens = let h = read-holds bytes in rw is (record { is-good = rw (h .2) (record-good (h .1) .0); is-table = refl })
+  read-opens = let h = read-holds bytes in rw is (record { is-good = rw (h .is) (record-good (h .holds) .0); is-table = refl })
 
   pub read-map : GoodMap (file .map) (file .table)
-  read-map =
-      let h = read-holds bytes in
-      opened-map read-opens (rw (is, h .2) (all-places (h .1))) (rw (is, h .2) (all-room (h .1)))
+  read-map = let h = map-held bytes in opened-map read-opens (rw is (h .splits)) (rw is (h .values))
 
   pub read-answer : changed (file .number) (file .map) ≡ readFile bytes
   read-answer = ap (λ (o : Opened). changed (o .number) (o .map)) is

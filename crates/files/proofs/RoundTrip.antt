@@ -3,7 +3,7 @@ use Prim.Native.Nat.{ℕ, zero, suc, _+_, _*_, _-_, _/_, _≤_, _<_}
 use native.Mathlib.Omega.{arith}
 use native.Mathlib.Nat.{add-zero}
 use mathlib.Core.Path.{_≡_, refl, sym, ap, _∙_}
-use mathlib.Core.Logic.{⊎-elim}
+use mathlib.Core.Logic.{_⊎_, inl, inr, ⊎-elim}
 use mathlib.Core.Bool.{Bool, true, _&&_}
 use mathlib.Core.List.{List, [], _∷_, _++_, map, map-id, append-assoc, List·Memᴰ, List·Memᴰ·not-nil}
 use lib.ListN.{length, take, drop, replicate, length-append, length-drop, length-replicate}
@@ -199,6 +199,10 @@ module _ (bytes : List ℕ) where
   pub is-refused : (good told ≡ true → bytes ≡ fileOf (plain told) → ⊥) → readFile bytes ≡ changed 11 (recordOf (freshPlain 1 1))
   unfolding readFile
   is-refused f = cond-false _ _ _ (false-of isFile (λ t. let b = says t in f (b .0) (b .1)))
+
+  pub read-either : (readFile bytes .number ≡ 0) ⊎ (readFile bytes ≡ changed 11 (recordOf (freshPlain 1 1)))
+  unfolding readFile
+  read-either = ⊎-elim (λ t. inl (rw t)) (λ f. inr (rw f)) (either isFile)
 
   -- an accepted file is the one that its map is written to
   pub accepted-file : readFile bytes .number ≡ 0 → (good told ≡ true) × (bytes ≡ fileOf (plain told)) × (readFile bytes .map ≡ told)

@@ -1,25 +1,27 @@
--- A table's text: lines of at most 42 bytes, put in a row one by one.
+-- A table's text: lines put in a row one by one, of at most 42 bytes each.
 use Prim.Native.Nat.{ℕ, _+_, _*_, _-_, _/_, _≤_, _<_}
 use native.Mathlib.Omega.{arith}
-use native.Mathlib.Nat.{mul-le-mul-left}
-use mathlib.Core.Path.{_≡_, ap, _∙_}
+use mathlib.Core.Path.{_≡_, refl, ap, _∙_}
 use mathlib.Core.Logic.{⊎-elim}
-use mathlib.Core.List.{List, _++_}
+use mathlib.Core.List.{List, [], _∷_, _++_, List·Memᴰ}
+use mathlib.Core.List.List·Memᴰ.{List·Memᴰ·head, List·Memᴰ·tail}
 use borrow.Author.Tests.{ltb-true, ltb-false, eqb-true, eqb-false}
 use lib.Dec.{ltb, eqb}
-use lib.ListN.{length, take, getD, length-append}
+use lib.ListN.{length, take, getD, length-append, take-append-drop}
 use lib.Seq.{take-all}
 use Rattle.axis.specs.declared.Triple.{Triple}
 use Rattle.mesh.specs.Weight.{Term}
 use Rattle.axis.specs.Range.{joined}
 use Rattle.axis.specs.Triple.{Rises}
-use Rattle.mesh.specs.Sound.{Proper}
+use Rattle.mesh.specs.declared.Table.{Table}
+use Rattle.mesh.specs.Sound.{none, Proper}
 use Rattle.axis.proofs.Tests.{either}
-use Rattle.files.specs.Inner.{Puts}
-use Rattle.files.specs.Listing.{digits, spaced, ended, knots, line}
+use Rattle.files.specs.Inner.{WellFormed, terms, tabled, Puts}
+use Rattle.files.specs.Listing.{digits, spaced, numberLine, knots, line}
 use Rattle.files.proofs.Putting.{put-none, put-length}
-use Rattle.axis.proofs.Members.{joined-more}
-use Rattle.files.proofs.Texts.{puts-then, one-digit, more-digits, outer-coordinate, inner-coordinate}
+use Rattle.files.proofs.Terms.{term, terms-length, terms-at, terms-rise}
+use Rattle.axis.proofs.Members.{placed, joined-append, joined-more}
+use Rattle.files.proofs.Texts.{next-room, puts-then, one-digit, more-digits, outer-coordinate, inner-coordinate}
 
 -- a number that is less than ten times another has at most one digit more
 tenth : (k most : ℕ) → ((m : ℕ) → m < most → length (digits m) ≤ k) → (n : ℕ) → n < 10 * most → length (digits n) ≤ k + 1
@@ -41,8 +43,8 @@ spaced-short k le =
     rw (length-append, inner-coordinate k (eqb-false k 0 e)) (omega (arith, s)))
     (either (eqb k 0))
 
-pub ended-short : (n : ℕ) → n < 100000 → length (ended n) ≤ 6
-ended-short n lt = let s = digits-short n lt in rw length-append (omega (arith, s))
+pub number-line-short : (n : ℕ) → n < 100000 → length (numberLine n) ≤ 6
+number-line-short n lt = let s = digits-short n lt in rw length-append (omega (arith, s))
 
 knots-short : (t : Triple) → Rises t → length (knots t) ≤ 18
 unfolding knots
@@ -57,45 +59,60 @@ unfolding line
 line-short t p lt =
     let a = knots-short (t .of .across) (p .across) in
     let u = knots-short (t .of .up) (p .up) in
-    let v = ended-short (t .multiple) (omega arith) in
-    rw (length-append (knots (t .of .across) ++ knots (t .of .up)) (ended (t .multiple)), length-append (knots (t .of .across)) (knots (t .of .up)))
+    let v = number-line-short (t .multiple) (omega arith) in
+    rw (length-append (knots (t .of .across) ++ knots (t .of .up)) (numberLine (t .multiple)), length-append (knots (t .of .across)) (knots (t .of .up)))
     (omega (arith, a, u, v))
 
--- Entries of at most some length, put in a row one by one:
-module _ {A : Type 0} (entry : A → List ℕ) (most : ℕ) (xs : List A) (before : List ℕ) (at : ℕ) where
-  -- the first i of them are put
-  pub record Rows (i : ℕ) (bytes : List ℕ) (next : ℕ) : Type 0 where
-    pub within : i ≤ length xs
-    pub puts : Puts before at (joined entry (take i xs)) bytes next
-    pub short : next ≤ at + most * i
+-- Entries put in a row one by one, where there is room for all of them:
+module _ {A : Type 0} (entry : A → List ℕ) (xs : List A) where
+  part-long : (i : ℕ) → length (joined entry (take i xs)) ≤ length (joined entry xs)
+  part-long i = omega (arith, simp (joined-append, length-append) at (ap (λ (l : List A). length (joined entry l)) (take-append-drop i xs)))
 
-  pub rows-none : Rows 0 before at
-  rows-none = record { within = omega arith; puts = record { is = put-none before at; ends = omega arith }; short = omega arith }
+  module _ (before : List ℕ) (at : ℕ) where
+    -- the first i of them are put
+    pub record Rows (i : ℕ) (bytes : List ℕ) (next : ℕ) : Type 0 where
+      pub puts : Puts before at (joined entry (take i xs)) bytes next
 
-  module _ (room : at + most * length xs ≤ length before) {i : ℕ} {bytes : List ℕ} {next : ℕ} (s : Rows i bytes next) where
-    fits : at + length (joined entry (take i xs)) ≤ length before
-    fits = omega (arith, s .puts .ends, s .short, mul-le-mul-left most (s .within))
+    pub rows-none : Rows 0 before at
+    rows-none = record { puts = record { is = put-none before at; ends = omega arith } }
 
-    pub rows-length : length bytes ≡ length before
-    rows-length = ap length (s .puts .is) ∙ put-length before at _ fits
+    module _ (room : at + length (joined entry xs) ≤ length before) {i : ℕ} {bytes : List ℕ} {next : ℕ} (s : Rows i bytes next) where
+      pub rows-length : length bytes ≡ length before
+      rows-length = ap length (s .puts .is) ∙ put-length before at _ (omega (arith, part-long i))
 
-    module _ (d : A) (lt : i < length xs) (short : length (entry (getD xs i d)) ≤ most) where
-      pub rows-room : next + length (entry (getD xs i d)) ≤ length bytes
-      rows-room = rw rows-length (omega (arith, s .short, short, mul-le-mul-left most lt))
+      module _ (d : A) (lt : i < length xs) where
+        next-fits : at + length (joined entry (take i xs) ++ entry (getD xs i d)) ≤ length before
+        next-fits = rw (← joined-more entry xs i d lt) (omega (arith, part-long (i + 1)))
 
-      pub rows-more : {after : List ℕ} {end : ℕ} → Puts bytes next (entry (getD xs i d)) after end → Rows (i + 1) after end
-      rows-more p =
-          record {
-            within = omega arith;
-            puts =
-                rw (joined-more entry xs i d lt)
-                (puts-then before at (joined entry (take i xs)) (entry (getD xs i d))
-                (rw (length-append, ← rows-length) (omega (arith, rows-room, s .puts .ends))) (s .puts) p);
-            short = omega (arith, p .ends, s .short, short);
-          }
+        pub rows-room : next + length (entry (getD xs i d)) ≤ length bytes
+        rows-room = next-room before at (joined entry (take i xs)) (entry (getD xs i d)) next-fits (s .puts)
 
-    pub rows-done : length xs ≤ i → Puts before at (joined entry xs) bytes next
-    rows-done le = rw (take-all i xs le) at (s .puts)
+        pub rows-more : {after : List ℕ} {end : ℕ} → Puts bytes next (entry (getD xs i d)) after end → Rows (i + 1) after end
+        rows-more p = record { puts = rw (joined-more entry xs i d lt) (puts-then before at (joined entry (take i xs)) (entry (getD xs i d)) next-fits (s .puts) p) }
 
-    pub rows-fit : length xs ≤ i → at + length (joined entry xs) ≤ length before
-    rows-fit le = rw (take-all i xs le) at fits
+    pub rows-done : {i : ℕ} {bytes : List ℕ} {next : ℕ} → Rows i bytes next → length xs ≤ i → Puts before at (joined entry xs) bytes next
+    rows-done {i} s le = rw (take-all i xs le) at (s .puts)
+
+-- a row of entries of at most some length
+row-most : {A : Type 0} (entry : A → List ℕ) (most : ℕ) (xs : List A) → ((x : A) → List·Memᴰ x xs → length (entry x) ≤ most) →
+    length (joined entry xs) ≤ most * length xs
+row-most entry most [] short = omega arith
+row-most entry most (x ∷ xs) short =
+    rw length-append
+    (omega (arith, short x (List·Memᴰ·head refl), row-most entry most xs (λ y m. short y (List·Memᴰ·tail m))))
+
+-- so a table's text has at most 6 + 42 * 1,024 bytes
+module _ (t : Table) (values : List ℕ) (ok : WellFormed t) (places : length (t .blends) ≡ 1024) (full : length values ≡ 1024)
+    (words : (i : ℕ) → getD values i 0 < 65536) where
+  pub tabled-most : length (tabled t values) ≤ 65536
+  tabled-most =
+      let first = number-line-short (t .count) (omega (arith, ok .few)) in
+      let rows = row-most line 42 (terms t values) each-short in
+      rw length-append (omega (arith, first, rows, terms-length t values ok places full, ok .few))
+    where
+      each-short : (x : Term) → List·Memᴰ x (terms t values) → length (line x) ≤ 42
+      each-short x m =
+          let p = placed (terms t values) x (term none 0) m in
+          let lt = rw (terms-length t values ok places full) at (p .1) in
+          let e = terms-at t values ok places full (p .0) lt (term none 0) in
+          rw (← p .2, e) (line-short _ (terms-rise t values ok places full (p .0) lt) (words (p .0)))

@@ -2,60 +2,76 @@
 use Prim.Native.Nat.{ℕ, _≤_, _<_}
 use native.Mathlib.Omega.{arith}
 use native.Mathlib.Nat.{zero-add}
-use mathlib.Core.Path.{_≡_, ap, _∙_}
+use mathlib.Core.Path.{_≡_, refl}
 use mathlib.Core.Logic.{⊎-elim}
 use mathlib.Core.Bool.{true, false}
-use mathlib.Core.List.{List, _++_}
-use borrow.Author.Tests.{lt-ltb, le-ltb, eq-eqb, eqb-true}
-use lib.Dec.{eqb, ltb}
-use lib.ListN.{length, length-append}
-use Rattle.axis.specs.Range.{joined}
+use mathlib.Core.List.{List}
+use borrow.Author.Tests.{lt-ltb, le-ltb, leb-true, leb-false, le-leb}
+use lib.Dec.{leb}
+use lib.ListN.{length, drop, length-append, length-replicate}
 use Rattle.mesh.specs.declared.Table.{Table}
-use Rattle.axis.proofs.Tests.{either, false-of}
+use Rattle.mesh.specs.Sound.{table}
+use Rattle.axis.proofs.Tests.{either}
 use Rattle.maps.specs.declared.Map.{Map}
-use Rattle.maps.specs.declared.Changed.{Changed}
 use Rattle.maps.specs.Record.{plain}
 use Rattle.mesh.proofs.BlendTables.{table-blends, table-count}
 use Rattle.maps.proofs.Changing.{GoodMap, live-table}
+use Rattle.files.proofs.Filing.{ready}
+use Rattle.files.proofs.ReadMaps.{map-held, read-map}
+use Rattle.files.proofs.TableLines.{tabled-most}
 use Rattle.files.specs.declared.Written.{Written}
-use Rattle.files.specs.Calls.{readFile}
-use Rattle.files.specs.Inner.{Puts, terms}
-use Rattle.files.specs.Listing.{ended, line, tableText, refusal, listing, textWritten, textAfter}
+use Rattle.files.specs.Calls.{readFile, shortOf, counted, answered}
+use Rattle.files.specs.Inner.{tabled, Puts}
+use Rattle.files.specs.Listing.{tableText, largestText, textOf, textNumber, textWritten, textAfter}
 
 -- an opened map's table has the map's text
-pub opened-text : {m : Map} {t : Table} → GoodMap m t → ended (t .count) ++ joined line (terms t (m .values)) ≡ tableText (plain m)
+pub opened-text : {m : Map} {t : Table} → GoodMap m t → tabled t (m .values) ≡ tableText (plain m)
 unfolding plain
 opened-text g = rw (live-table g, table-blends, table-count)
 
--- what putting a text answers and leaves
-module _ (text out : List ℕ) where
+-- what putting it answers and leaves
+module _ {m : Map} {t : Table} (g : GoodMap m t) (out : List ℕ) where
   abbrev outcome : ℕ → ℕ → List ℕ → Type 0
-  outcome number long left = (_≡_ {A = Written} (record { number = number; length = long }) (textWritten text out)) × (left ≡ textAfter text out)
+  outcome number long left =
+      let text = tableText (plain m) in
+      let n = shortOf (length text) out in
+      (_≡_ {A = Written} (record { number = number; length = long }) (counted n text)) × (left ≡ answered n text out)
 
-  pub text-short : length out < 65536 → outcome 12 0 out
-  unfolding textWritten textAfter
-  text-short lt = let s = lt-ltb (length out) 65536 lt in (rw s, rw s)
+  pub text-short : leb (length (tabled t (m .values))) (length out) ≡ false → outcome 12 0 out
+  text-short f = let s = lt-ltb _ _ (rw (opened-text g) at (leb-false (length (tabled t (m .values))) (length out) f)) in (rw s, rw s)
 
-  pub text-put : 65536 ≤ length out → {left : List ℕ} {long : ℕ} → Puts out 0 text left long → outcome 0 long left
-  unfolding textWritten textAfter
-  text-put room p = let s = le-ltb (length out) 65536 room in (rw (s, p .ends, zero-add), rw (s, p .is, zero-add))
+  pub text-put : leb (length (tabled t (m .values))) (length out) ≡ true → {left : List ℕ} {long : ℕ} → Puts out 0 (tabled t (m .values)) left long →
+      outcome 0 long left
+  text-put room q =
+      let s = le-ltb _ _ (rw (opened-text g) at (leb-true (length (tabled t (m .values))) (length out) room)) in
+      let p = rw (opened-text g) at q in
+      (rw (s, p .ends, zero-add), rw (s, p .is, zero-add))
+
+-- bytes that are no file, and a file's text
+module _ (bytes out : List ℕ) where
+  pub lists-refusal : (readFile bytes .number ≡ 0 → ⊥) →
+      (_≡_ {A = Written} (record { number = readFile bytes .number; length = 0 }) (textWritten bytes out)) × (out ≡ textAfter bytes out)
+  unfolding textNumber
+  lists-refusal ne = let s = le-leb 1 (readFile bytes .number) (omega arith) in (rw (s, s), rw (s, s))
+
+  pub lists-text : readFile bytes .number ≡ 0 → shortOf (length (textOf bytes)) out ≡ textNumber bytes out
+  unfolding textNumber
+  lists-text z = rw z
 
   -- the buffer holds as many bytes as the answer says
-  pub list-fits : {w : Written} {left : List ℕ} → w ≡ textWritten text out → left ≡ textAfter text out → w .length ≤ length left
-  unfolding textWritten textAfter
-  list-fits {w} {left} p q =
-      ⊎-elim (λ (t : ltb (length out) 65536 ≡ true). let z : w .length ≡ 0 = ap (λ (x : Written). x .length) p ∙ rw t in omega (arith, z))
-      (λ (f : ltb (length out) 65536 ≡ false).
-      let z : w .length ≡ length text = ap (λ (x : Written). x .length) p ∙ rw f in
-      rw (q, f, z, length-append) (omega arith))
-      (either (ltb (length out) 65536))
+  pub list-fits : {w : Written} {left : List ℕ} → w ≡ textWritten bytes out → left ≡ textAfter bytes out → w .length ≤ length left
+  list-fits p q =
+      ⊎-elim (λ (t : leb 1 (textNumber bytes out) ≡ true). rw (p, q, t) (omega arith))
+      (λ (f : leb 1 (textNumber bytes out) ≡ false). rw (p, q, f) (omega (arith, length-append (textOf bytes) (drop (length (textOf bytes)) out))))
+      (either (leb 1 (textNumber bytes out)))
 
--- the text that is listed: the line of a refusal, or the table of the map that is read
-module _ (bytes : List ℕ) {r : Changed} (e : r ≡ readFile bytes) where
-  pub lists-refusal : (r .number ≡ 0 → ⊥) → listing bytes ≡ refusal
-  unfolding listing
-  lists-refusal ne = let f : eqb (readFile bytes .number) 0 ≡ false = false-of _ (λ t. ne (rw e (eqb-true _ _ t))) in rw f
+-- 65,536 bytes hold every text
+all-places : {m : Map} {t : Table} → GoodMap m t → length (t .blends) ≡ 1024
+unfolding table
+all-places g = rw (live-table g, length-append, length-replicate) (omega (arith, g .facts .is-short))
 
-  pub lists-table : r .number ≡ 0 → listing bytes ≡ tableText (plain (r .map))
-  unfolding listing
-  lists-table z = let t : eqb (readFile bytes .number) 0 ≡ true = eq-eqb (readFile bytes .number) 0 (rw (← e) z) in rw (t, e)
+pub text-most : (bytes : List ℕ) → length (textOf bytes) ≤ largestText
+text-most bytes =
+    let g = read-map bytes refl in
+    let h = map-held bytes in
+    rw (← opened-text g) (tabled-most _ _ (ready g .well-formed) (all-places g) (h .values) (h .small))

@@ -13,7 +13,7 @@ use Rattle.axis.specs.Range.{joined}
 use Rattle.maps.specs.declared.Map.{Map}
 use Rattle.maps.specs.Values.{paired}
 use Rattle.axis.proofs.Members.{entry}
-use Rattle.files.specs.Inner.{Listed, terms, filed}
+use Rattle.files.specs.Inner.{WellFormed, terms, filed}
 use Rattle.files.specs.File.{put, head, splitEntry, valueEntry, tail}
 use Rattle.files.proofs.Words.{joined-length}
 use Rattle.files.proofs.Putting.{put-then}
@@ -29,7 +29,7 @@ paired-at (B ∷ bs) [] i d p q = absurd (omega arith)
 paired-at (B ∷ bs) (v ∷ vs) zero d p q = refl
 paired-at (B ∷ bs) (v ∷ vs) (suc i) d p q = paired-at bs vs i d (omega arith) (omega arith)
 
-module _ (t : Table) (values : List ℕ) (ok : Listed t) (places : length (t .blends) ≡ 1024) (full : length values ≡ 1024) where
+module _ (t : Table) (values : List ℕ) (ok : WellFormed t) (places : length (t .blends) ≡ 1024) (full : length values ≡ 1024) where
   blends-length : length (blendsOf t) ≡ t .count
   blends-length = length-take-le (t .count) (t .blends) (omega (arith, ok .few))
 
@@ -51,7 +51,7 @@ module _ (t : Table) (values : List ℕ) (ok : Listed t) (places : length (t .bl
         (rw (getD-take (t .count) (t .blends) i none lt) at (entry (blendsOf t) i none (rw blends-length lt)))
 
 -- A file, put part by part: its head, the splits, the values and the end.
-module _ (m : Map) (t : Table) (ok : Listed t) (places : length (t .blends) ≡ 1024) (full : length (m .values) ≡ 1024)
+module _ (m : Map) (t : Table) (ok : WellFormed t) (places : length (t .blends) ≡ 1024) (full : length (m .values) ≡ 1024)
     (used : length (take (m .lines .count) (m .lines .splits)) ≡ m .lines .count) where
   abbrev splits : List ℕ
   splits = joined splitEntry (take (m .lines .count) (m .lines .splits))

@@ -1,12 +1,18 @@
 -- Numbers of 16 bits in bytes: what is put at a place is read there.
-use Prim.Native.Nat.{ℕ, _+_, _*_, _<_}
+use Prim.Native.Nat.{ℕ, zero, suc, _+_, _-_, _*_, _/_, _%_, _<_}
 use native.Mathlib.Omega.{arith}
 use mathlib.Core.Path.{_≡_, refl, ap, _∙_}
+use mathlib.Core.Bool.{Bool, true}
 use mathlib.Core.List.{List, [], _∷_, _++_, map, append-assoc, List·Memᴰ}
-use lib.ListN.{length, drop, length-append}
+use borrow.Author.Tests.{ltb-true, lt-ltb}
+use lib.Dec.{ltb}
+use lib.ListN.{length, getD, drop, length-append}
 use lib.Seq.{getD-drop, drop-drop, drop-at}
-use Rattle.axis.specs.Range.{each, joined}
-use Rattle.files.specs.File.{word, wordAt}
+use Rattle.axis.specs.Range.{each, joined, all}
+use Rattle.axis.proofs.Tests.{and-both, and-of, all-append}
+use Rattle.maps.specs.Plain.{Plain, blends}
+use Rattle.maps.specs.Values.{paired}
+use Rattle.files.specs.File.{word, entry, wordAt, head, splitEntry, valueEntry, tail, fileOf}
 
 little : (n : ℕ) → n < 65536 → wordAt (word n) 0 ≡ n
 little n lt = omega arith
@@ -46,3 +52,46 @@ module _ {A : Type 0} (entry : A → List ℕ) (size : ℕ) (long : (x : A) → 
           reads x (List·Memᴰ.List·Memᴰ·head refl) k (joined entry xs ++ rest) here,
           each-read xs rest (k + 1) next (λ y m. reads y (List·Memᴰ.List·Memᴰ·tail m)),
         )
+
+-- The bytes of a file are numbers of 8 bits.
+abbrev pub isByte : ℕ → Bool
+isByte b = ltb b 256
+
+word-bytes : (n : ℕ) → all isByte (word n) ≡ true
+word-bytes n = and-of _ _ (lt-ltb (n % 256) 256 (omega arith)) (and-of _ true (lt-ltb (n / 256 % 256) 256 (omega arith)) refl)
+
+joined-bytes : {A : Type 0} (entry : A → List ℕ) → ((x : A) → all isByte (entry x) ≡ true) → (xs : List A) → all isByte (joined entry xs) ≡ true
+joined-bytes entry bytes [] = refl
+joined-bytes entry bytes (x ∷ xs) = all-append isByte (entry x) (joined entry xs) (bytes x) (joined-bytes entry bytes xs)
+
+entry-bytes : (kind : ℕ) (payload : List ℕ) → all isByte (entry kind payload) ≡ true
+entry-bytes kind payload =
+    let size = 2 + 2 * length payload in
+    all-append isByte (word size ++ word kind) (joined word payload)
+    (all-append isByte (word size) (word kind) (word-bytes size) (word-bytes kind))
+    (joined-bytes word word-bytes payload)
+
+pub file-bytes : (P : Plain) → all isByte (fileOf P) ≡ true
+unfolding fileOf
+file-bytes P =
+    let start = head (P .lines .w) (P .lines .h) in
+    let splits = joined splitEntry (P .lines .splits) in
+    let values = joined valueEntry (paired (blends P) (P .values)) in
+    let splits-bytes = joined-bytes splitEntry (λ s. entry-bytes 2 (s .direction ∷ s .position ∷ s .from ∷ s .to ∷ [])) (P .lines .splits) in
+    let values-bytes =
+    joined-bytes valueEntry (λ t. entry-bytes 3 ((t .of .across .m - 1) ∷ (t .of .up .m - 1) ∷ t .multiple ∷ [])) (paired (blends P) (P .values)) in
+    all-append isByte (start ++ splits ++ values) tail
+    (all-append isByte (start ++ splits) values
+    (all-append isByte start splits (entry-bytes 1 (P .lines .w ∷ P .lines .h ∷ [])) splits-bytes) values-bytes)
+    (entry-bytes 4 [])
+
+-- a test that zero and all numbers of a list pass is passed at every place
+pub all-places : (test : ℕ → Bool) → test 0 ≡ true → (xs : List ℕ) → all test xs ≡ true → (i : ℕ) → test (getD xs i 0) ≡ true
+all-places test none [] e i = none
+all-places test none (x ∷ xs) e zero = and-both (test x) (all test xs) e .0
+all-places test none (x ∷ xs) e (suc i) = all-places test none xs (and-both (test x) (all test xs) e .1) i
+
+pub word-small : (bytes : List ℕ) → all isByte bytes ≡ true → (at : ℕ) → wordAt bytes at < 65536
+word-small bytes e at =
+    let byte : (i : ℕ) → getD bytes i 0 < 256 = λ i. ltb-true _ 256 (all-places isByte refl bytes e i) in
+    omega (arith, byte at, byte (at + 1))

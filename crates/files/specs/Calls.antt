@@ -25,14 +25,16 @@ shortOf size buffer = cond (ltb (length buffer) size) 12 0
 abbrev pub answered : ℕ → List ℕ → List ℕ → List ℕ
 answered number answer bytes = ifRefused number bytes (answer ++ drop (length answer) bytes)
 
+-- the number, and how many bytes the answer has; 0 on a refusal
+abbrev pub counted : ℕ → List ℕ → Written
+counted number answer = record { number = number; length = ifRefused number 0 (length answer) }
+
 -- Write: 2 for a record that is not good, 12 where the buffer is shorter than the file.
 unfoldable pub writeNumber : Map → List ℕ → ℕ
 writeNumber m buffer = cond (not (good m)) 2 (shortOf (length (fileOf (plain m))) buffer)
 
 abbrev pub written : Map → List ℕ → Written
-written m buffer =
-    let n = writeNumber m buffer in
-    record { number = n; length = ifRefused n 0 (length (fileOf (plain m))) }
+written m buffer = counted (writeNumber m buffer) (fileOf (plain m))
 
 abbrev pub after : Map → List ℕ → List ℕ
 after m buffer = answered (writeNumber m buffer) (fileOf (plain m)) buffer

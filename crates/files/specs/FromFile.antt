@@ -1,5 +1,5 @@
 -- Document 01, "Histories": lists of calls on a map that was read from a file, and lists with writing and payloads among them.
-use Prim.Native.Nat.{ℕ, _-_, _<_}
+use Prim.Native.Nat.{ℕ, _-_}
 use mathlib.Core.Path.{_≡_}
 use mathlib.Core.List.{List, [], _∷_, _++_, map, List·Memᴰ}
 use Rattle.axis.specs.Range.{joined}
@@ -47,7 +47,7 @@ pub record FromFile (bytes : List ℕ) : Type 0 where
   pub whole : (cs : List Call) → let P = readPlain bytes in Demand3 (P .lines .w) (P .lines .h) (fileCalls P ++ cs)
   pub own : (cs : List Call) → DemandFrom (readPlain bytes) cs
   -- "lists on equal sides whose lines cover the same points end with the same blends", also where both start from files.
-  pub same-blends : (other : List ℕ) → readFile other .number ≡ 0 → ((b : ℕ) → List·Memᴰ b other → b < 256) →
+  pub same-blends : (other : List ℕ) → readFile other .number ≡ 0 →
       let P = readPlain bytes in let Q = readPlain other in Q .lines .w ≡ P .lines .w → Q .lines .h ≡ P .lines .h → (cs ds : List Call) →
       Coarser (meshBy P cs) (meshBy Q ds) → Coarser (meshBy Q ds) (meshBy P cs) →
       (bs : List Blend) → Tabled (ending byLibrary (readFile other .map) ds) bs → Tabled (ending byLibrary (readFile bytes .map) cs) bs

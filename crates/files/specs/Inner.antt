@@ -11,13 +11,14 @@ use Rattle.mesh.specs.Weight.{Term}
 use Rattle.maps.specs.declared.Map.{Map}
 use Rattle.maps.specs.Values.{paired}
 use Rattle.files.specs.File.{entry, put, head, splitEntry, valueEntry, tail}
+use Rattle.files.specs.Listing.{numberLine, line}
 
 -- the entry of a value at an anchor, by its numbers
 abbrev pub valueNumbers : ℕ → ℕ → ℕ → List ℕ
 valueNumbers m n value = entry 3 (m ∷ n ∷ value ∷ [])
 
 -- a table holds as many blends as it says, and their knots rise
-pub record Listed (t : Table) : Type 0 where
+pub record WellFormed (t : Table) : Type 0 where
   pub few : t .count ≤ mostBlends
   pub rise : AllProper (blendsOf t)
 
@@ -29,6 +30,10 @@ terms t values = paired (blendsOf t) (take (t .count) values)
 abbrev pub filed : Map → Table → List ℕ
 filed m t =
     head (m .lines .w) (m .lines .h) ++ joined splitEntry (take (m .lines .count) (m .lines .splits)) ++ joined valueEntry (terms t (m .values)) ++ tail
+
+-- the text of a table with the values that an array begins with
+abbrev pub tabled : Table → List ℕ → List ℕ
+tabled t values = numberLine (t .count) ++ joined line (terms t values)
 
 -- a text is put over bytes from a place on, and `next` is the place after it
 pub record Puts (before : List ℕ) (at : ℕ) (text after : List ℕ) (next : ℕ) : Type 0 where

@@ -1,4 +1,4 @@
--- Document 01, "Pits on paper": what the table program prints for the bytes it reads.
+-- Document 01, "Pits on paper": the table of a map file as text, which the table program prints.
 use Prim.Native.Nat.{ℕ, zero, suc, _-_, _+_, _/_, _%_}
 use mathlib.Core.Bool.{cond}
 use mathlib.Core.List.{List, [], _∷_, _++_}
@@ -11,7 +11,7 @@ use Rattle.maps.specs.Plain.{Plain, blends}
 use Rattle.maps.specs.Record.{plain}
 use Rattle.maps.specs.Values.{paired}
 use Rattle.files.specs.declared.Written.{Written}
-use Rattle.files.specs.Calls.{ifRefused, shortOf, answered, readFile}
+use Rattle.files.specs.Calls.{ifRefused, shortOf, answered, counted, readFile}
 
 -- A number in base ten, the highest digit first. The first argument bounds how many digits may follow: no more than the number counts.
 unfoldable pub digitsBy : ℕ → ℕ → List ℕ
@@ -29,34 +29,35 @@ coordinate k = cond (eqb k 0) (45 ∷ 49 ∷ []) (digits (k - 1))
 abbrev pub spaced : ℕ → List ℕ
 spaced k = coordinate k ++ (32 ∷ [])
 
-abbrev pub ended : ℕ → List ℕ
-ended n = digits n ++ (10 ∷ [])
+abbrev pub numberLine : ℕ → List ℕ
+numberLine n = digits n ++ (10 ∷ [])
 
 -- "for each l m r b n t and the value"
 unfoldable pub knots : Triple → List ℕ
 knots t = spaced (t .l) ++ spaced (t .m) ++ spaced (t .r)
 
 unfoldable pub line : Term → List ℕ
-line t = knots (t .of .across) ++ knots (t .of .up) ++ ended (t .multiple)
+line t = knots (t .of .across) ++ knots (t .of .up) ++ numberLine (t .multiple)
 
 -- "It prints the number of blends", then a line for each
 abbrev pub tableText : Plain → List ℕ
-tableText P = ended (length (blends P)) ++ joined line (paired (blends P) (P .values))
+tableText P = numberLine (length (blends P)) ++ joined line (paired (blends P) (P .values))
 
--- "refused 11" and the end of the line
-abbrev pub refusal : List ℕ
-refusal = 114 ∷ 101 ∷ 102 ∷ 117 ∷ 115 ∷ 101 ∷ 100 ∷ 32 ∷ 49 ∷ 49 ∷ 10 ∷ []
+-- this many bytes hold every such text: `text-most`
+abbrev pub largestText : ℕ
+largestText = 65536
 
-unfoldable pub listing : List ℕ → List ℕ
-listing bytes = cond (eqb (readFile bytes .number) 0) (tableText (plain (readFile bytes .map))) refusal
+-- the text of the map that is read from bytes
+abbrev pub textOf : List ℕ → List ℕ
+textOf bytes = tableText (plain (readFile bytes .map))
 
--- the bytes of a buffer for the text, which no text reaches
-abbrev pub textRoom : ℕ
-textRoom = 65536
+-- The table of a map file as text: 11 where the bytes are no file, then 12 where the buffer is shorter than the text.
+unfoldable pub textNumber : List ℕ → List ℕ → ℕ
+textNumber bytes out = let n = readFile bytes .number in ifRefused n n (shortOf (length (textOf bytes)) out)
 
--- A text into a lent buffer: 12 where it is shorter than that; else the text, and the bytes after it stay.
-unfoldable pub textWritten : List ℕ → List ℕ → Written
-textWritten text out = let n = shortOf textRoom out in record { number = n; length = ifRefused n 0 (length text) }
+-- the text in front of the buffer, with its length; all as it was, with 0, on a refusal
+abbrev pub textWritten : List ℕ → List ℕ → Written
+textWritten bytes out = counted (textNumber bytes out) (textOf bytes)
 
-unfoldable pub textAfter : List ℕ → List ℕ → List ℕ
-textAfter text out = answered (shortOf textRoom out) text out
+abbrev pub textAfter : List ℕ → List ℕ → List ℕ
+textAfter bytes out = answered (textNumber bytes out) (textOf bytes) out

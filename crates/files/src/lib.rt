@@ -11,6 +11,7 @@ use crate::take::taken;
 use maps::Changed;
 use maps::Map;
 use maps::opened::Opened;
+use maps::opened::fresh;
 use maps::opened::open;
 use mesh::Table;
 ghost use mathlib.Core.Path.{_≡_};
@@ -74,8 +75,7 @@ pub fn write_opened(o: Opened, buffer: &mut [u8]) -> Written
 fn refused() -> Opened
     ensures { λ r. ⌜ r ≡ withTable (changed 11 (recordOf (freshPlain 1 1))) ⌝ }
 {
-    let fresh = Map::fresh(1, 1);
-    let mut opened = open(fresh.map);
+    let mut opened = fresh(1, 1);
     opened.number = 11;
     opened
 }

@@ -7,18 +7,18 @@ use maps::opened::Opened;
 use mesh::Blend;
 use mesh::Table;
 ghost use mathlib.Core.Path.{_≡_};
-ghost use mathlib.Core.List.{[], _∷_, _++_};
+ghost use mathlib.Core.List.{[], _∷_};
 ghost use Prim.Native.Nat.{_+_, _%_, _≤_, _<_};
+ghost use lib.Dec.{leb};
 ghost use lib.ListN.{length};
-ghost use Rattle.axis.specs.Range.{joined};
 ghost use Rattle.maps.specs.Record.{plain};
 ghost use Rattle.maps.specs.Opened.{Opens};
-ghost use Rattle.files.specs.File.{put};
-ghost use Rattle.files.specs.Inner.{Listed, Puts, terms};
-ghost use Rattle.files.specs.Listing.{digits, coordinate, spaced, ended, knots, line, tableText, refusal, listing, textRoom, textWritten, textAfter};
+ghost use Rattle.files.specs.Inner.{WellFormed, Puts, tabled};
+ghost use Rattle.files.specs.Calls.{shortOf, counted, answered};
+ghost use Rattle.files.specs.Listing.{digits, coordinate, spaced, numberLine, knots, line, tableText, textWritten, textAfter};
 
-// The bytes of a buffer for the text, which no text reaches.
-pub const ROOM: usize = 65536;
+// This many bytes hold every text.
+pub const LARGEST_TEXT: usize = 65536;
 
 // The byte of a number's last digit.
 fn digit(n: usize) -> u8
@@ -50,9 +50,9 @@ fn put_digits(out: &mut [u8], at: usize, n: usize) -> usize
 }
 
 // Puts a number and the end of its line.
-fn put_ended(out: &mut [u8], at: usize, n: usize) -> usize
-    requires { ⌜ at + length (ended n) ≤ length (now out) ⌝ }
-    ensures { λ r. ⌜ Puts (now (out .entry)) at (ended n) (now (out .exit)) r ⌝ }
+fn put_number_line(out: &mut [u8], at: usize, n: usize) -> usize
+    requires { ⌜ at + length (numberLine n) ≤ length (now out) ⌝ }
+    ensures { λ r. ⌜ Puts (now (out .entry)) at (numberLine n) (now (out .exit)) r ⌝ }
 {
     let end = put_digits(out, at, n);
     put_byte(out, end, b'\n')
@@ -98,7 +98,7 @@ fn put_line(out: &mut [u8], at: usize, blend: Blend, value: usize) -> usize
     let up = blend.up;
     let second = put_knots(out, at, across);
     let third = put_knots(out, second, up);
-    put_ended(out, third, value)
+    put_number_line(out, third, value)
 }
 
 fn wide(x: u16) -> usize
@@ -109,11 +109,11 @@ fn wide(x: u16) -> usize
 
 // Puts the number of a table's blends, then a line for each.
 fn put_table(out: &mut [u8], table: Table, values: [u16; Table::MOST_BLENDS]) -> usize
-    requires { ⌜ Listed table × (textRoom ≤ length (now out)) ⌝ }
-    ensures { λ r. ⌜ Puts (now (out .entry)) 0 (ended (table .count) ++ joined line (terms table values)) (now (out .exit)) r ⌝ }
+    requires { ⌜ WellFormed table × (length (tabled table values) ≤ length (now out)) ⌝ }
+    ensures { λ r. ⌜ Puts (now (out .entry)) 0 (tabled table values) (now (out .exit)) r ⌝ }
 {
     let count = table.count;
-    let mut at = put_ended(out, 0, count);
+    let mut at = put_number_line(out, 0, count);
     let mut i = 0;
     while i < count {
         let blend = table.blends[i];
@@ -124,63 +124,51 @@ fn put_table(out: &mut [u8], table: Table, values: [u16; Table::MOST_BLENDS]) ->
     at
 }
 
-// Puts the line of a refusal.
-fn put_refusal(out: &mut [u8])
-    requires { ⌜ 11 ≤ length (now out) ⌝ }
-    ensures { λ _. ⌜ now (out .exit) ≡ put (now (out .entry)) 0 refusal ⌝ }
+// Whether so many bytes hold the text of a table. Unless they hold every text, it is put into bytes of its own and measured.
+fn fits(table: Table, values: [u16; Table::MOST_BLENDS], room: usize) -> bool
+    requires { ⌜ WellFormed table ⌝ }
+    ensures { λ r. ⌜ r ≡ leb (length (tabled table values)) room ⌝ }
 {
-    out[0] = b'r';
-    out[1] = b'e';
-    out[2] = b'f';
-    out[3] = b'u';
-    out[4] = b's';
-    out[5] = b'e';
-    out[6] = b'd';
-    out[7] = b' ';
-    out[8] = b'1';
-    out[9] = b'1';
-    out[10] = b'\n';
+    if LARGEST_TEXT <= room {
+        return true;
+    }
+    let mut text = [0u8; LARGEST_TEXT];
+    put_table(&mut text, table, values) <= room
 }
 
-// Writes the table of an opened map as text into a lent buffer: refused with 12.
-pub fn list_opened(o: Opened, out: &mut [u8]) -> Written
+// The rest of `list`, on the map that is read.
+fn list_opened(o: Opened, out: &mut [u8]) -> Written
     requires { ⌜ Opens o ⌝ }
-    ensures { λ r. ⌜ (r ≡ textWritten (tableText (plain (o .map))) (now (out .entry))) ×
-        (now (out .exit) ≡ textAfter (tableText (plain (o .map))) (now (out .entry))) ⌝ }
+    ensures { λ r. ⌜ (let text = tableText (plain (o .map)) in let n = shortOf (length text) (now (out .entry)) in
+        (r ≡ counted n text) × (now (out .exit) ≡ answered n text (now (out .entry)))) ⌝ }
 {
-    if out.len() < ROOM {
+    let map = o.map;
+    let values = map.values;
+    let table = o.table;
+    if !fits(table, values, out.len()) {
         return Written {
             number: 12,
             length: 0,
         };
     }
-    let map = o.map;
-    let values = map.values;
-    let length = put_table(out, o.table, values);
+    let length = put_table(out, table, values);
     Written {
         number: 0,
         length: length,
     }
 }
 
-// Writes the table of a map file as text into a lent buffer, or the line of a refusal: refused with 12.
+// Writes the table of a map file as text into a lent buffer: refused with 11 or 12.
 pub fn list(bytes: &[u8], out: &mut [u8]) -> Written
-    ensures { λ r. ⌜ (r ≡ textWritten (listing (now (bytes .entry))) (now (out .entry))) ×
-        (now (out .exit) ≡ textAfter (listing (now (bytes .entry))) (now (out .entry))) ⌝ }
+    ensures { λ r. ⌜ (r ≡ textWritten (now (bytes .entry)) (now (out .entry))) ×
+        (now (out .exit) ≡ textAfter (now (bytes .entry)) (now (out .entry))) ⌝ }
 {
     let file = read_opened(bytes);
-    if file.number == 0 {
-        return list_opened(file, out);
-    }
-    if out.len() < ROOM {
+    if file.number != 0 {
         return Written {
-            number: 12,
+            number: file.number,
             length: 0,
         };
     }
-    put_refusal(out);
-    Written {
-        number: 0,
-        length: 11,
-    }
+    list_opened(file, out)
 }

@@ -13,7 +13,7 @@ ghost use lib.ListN.{length, take};
 ghost use Rattle.axis.specs.Limits.{mostSplits, mostBlends};
 ghost use Rattle.axis.specs.Range.{joined};
 ghost use Rattle.files.specs.File.{headSize, splitSize, valueSize, endsSize, put, splitEntry, valueEntry};
-ghost use Rattle.files.specs.Inner.{valueNumbers, Listed, terms, filed};
+ghost use Rattle.files.specs.Inner.{valueNumbers, WellFormed, terms, filed};
 
 // Puts a split's entry.
 fn put_split(bytes: &mut [u8], at: usize, split: Split)
@@ -54,7 +54,7 @@ fn wide(x: u16) -> usize
 
 // Puts the entries of a table's values, from a byte place on.
 fn put_values(bytes: &mut [u8], at: usize, table: Table, values: [u16; Table::MOST_BLENDS])
-    requires { ⌜ Listed table × (at + valueSize * table .count ≤ length (now bytes)) ⌝ }
+    requires { ⌜ WellFormed table × (at + valueSize * table .count ≤ length (now bytes)) ⌝ }
     ensures { λ _. ⌜ now (bytes .exit) ≡ put (now (bytes .entry)) at (joined valueEntry (terms table values)) ⌝ }
 {
     let count = table.count;
@@ -75,7 +75,7 @@ fn put_values(bytes: &mut [u8], at: usize, table: Table, values: [u16; Table::MO
 
 // Puts the whole file of a map whose table is in hand.
 pub(crate) fn put_file(bytes: &mut [u8], map: Map, table: Table)
-    requires { ⌜ Listed table × (map .lines .count ≤ mostSplits) ×
+    requires { ⌜ WellFormed table × (map .lines .count ≤ mostSplits) ×
         (endsSize + splitSize * map .lines .count + valueSize * table .count ≤ length (now bytes)) ⌝ }
     ensures { λ _. ⌜ now (bytes .exit) ≡ put (now (bytes .entry)) 0 (filed map table) ⌝ }
 {

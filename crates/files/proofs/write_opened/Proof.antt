@@ -18,10 +18,10 @@ add-length : tie.Need-add-length
 add-length c = omega (arith, is-ready (c .before .before) .few)
 
 mul-length-2 : tie.Need-mul-length-2
-mul-length-2 c = omega (arith, is-ready (c .before .before .before) .listed .few)
+mul-length-2 c = omega (arith, is-ready (c .before .before .before) .well-formed .few)
 
 add-length-2 : tie.Need-add-length-2
-add-length-2 c = let r = is-ready (c .before .before .before) in omega (arith, r .few, r .listed .few)
+add-length-2 c = let r = is-ready (c .before .before .before) in omega (arith, r .few, r .well-formed .few)
 
 returns : tie.Need-returns
 returns c =
@@ -31,7 +31,7 @@ returns c =
 put-file-requires : tie.Need-put-file-requires
 put-file-requires c κs =
     let r = is-ready (c .before .before .before .before .before) in
-    (r .listed, r .few, c .before .if1 .left)
+    (r .well-formed, r .few, c .before .if1 .left)
 
 returns-2 : tie.Need-returns-2
 returns-2 c =

@@ -1,42 +1,36 @@
--- `listing::list` meets its contract: the table of the map that is read, a short buffer, or the line of a refusal.
+-- `listing::list` meets its contract: no file, or the text of the map that is read.
 use borrow.Author.Needs.{needs}
-use mathlib.Core.Path.{refl}
-use Rattle.files.proofs.ReadMaps.{read-opens, read-answer}
-use Rattle.files.proofs.TableText.{text-short, text-put, lists-refusal, lists-table}
+use Prim.Native.Nat.{ℕ}
+use mathlib.Core.Path.{sym, ap, _∙_}
+use Rattle.maps.specs.declared.opened.Opened.{Opened}
+use Rattle.files.specs.Calls.{counted, answered}
+use Rattle.files.specs.Listing.{textOf}
+use Rattle.files.proofs.ReadMaps.{read-opens}
+use Rattle.files.proofs.TableText.{lists-refusal, lists-text}
 use Rattle.files.proofs.listing.list.Statement.{statement}
 use Rattle.files.proofs.listing.list.Tie as tie
+
+returns : tie.Need-returns
+returns c =
+    let is = ap (λ (o : Opened). o .number) (c .before .before .read-opened .ensures) in
+    let r = lists-refusal _ (c .before .before .before .before .before .args .out .now) (λ z. c .if1 .taken (is ∙ z)) in
+    (ap (λ (n : ℕ). record { number = n; length = 0 }) is ∙ r .0, r .1)
 
 list-opened-requires : tie.Need-list-opened-requires
 list-opened-requires c κs = read-opens _ (c .before .before .before .read-opened .ensures)
 
-returns : tie.Need-returns
-returns c =
+returns-2 : tie.Need-returns-2
+returns-2 c =
     let put = c .before .before in
     let yes = put .before .before in
     let known = yes .before .before in
-    rw (lists-table _ (read-answer _ (known .read-opened .ensures)) (yes .if1 .taken)) (put .list-opened .ensures)
-
-returns-2 : tie.Need-returns-2
-returns-2 c = text-short _ _ (c .if2 .taken)
-
-returns-3 : tie.Need-returns-3
-returns-3 c =
-    let put = c .before .before in
-    let room = put .before .before in
-    let no = room .before in
-    let known = no .before .before in
-    rw (lists-refusal _ (read-answer _ (known .read-opened .ensures)) (no .if1 .left))
-    (text-put _ _ (room .if2 .left) (record { is = put .put-refusal .ensures; ends = refl }))
+    let a = known .before .before .before .args in
+    let is = known .read-opened .ensures in
+    let e = lists-text (a .bytes .now) (a .out .now) (sym (ap (λ (o : Opened). o .number) is) ∙ yes .if1 .left) in
+    let p = rw is at (put .list-opened .ensures) in
+    let text = textOf (a .bytes .now) in
+    (p .0 ∙ ap (λ (n : ℕ). counted n text) e, p .1 ∙ ap (λ (n : ℕ). answered n text (a .out .now)) e)
 
 pub list-spec : {M : Type 1} → statement M
 list-spec =
-    tie.close
-    (tie.spec
-    (λ c κs. search needs)
-    list-opened-requires
-    (λ c. search needs)
-    returns
-    returns-2
-    (λ c κs. search needs)
-    (λ c. search needs)
-    returns-3)
+    tie.close (tie.spec (λ c κs. search needs) returns list-opened-requires (λ c. search needs) returns-2)

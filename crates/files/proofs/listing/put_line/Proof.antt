@@ -1,6 +1,6 @@
 -- `listing::put_line` meets its contract: two triples and the value in a row.
 use borrow.Author.Needs.{needs}
-use Rattle.files.specs.Listing.{knots, ended, line}
+use Rattle.files.specs.Listing.{knots, numberLine, line}
 use Rattle.files.proofs.Texts.{first-room, two-room, next-room, third-room, puts-three}
 use Rattle.files.proofs.listing.put_line.Statement.{statement}
 use Rattle.files.proofs.listing.put_line.Tie as tie
@@ -10,7 +10,7 @@ unfolding line
 put-knots-requires c κs =
     let start = c .before .before .before .before in
     let a = start .args in
-    first-room (a .out .now) (a .at) (knots (a .blend .across)) (knots (a .blend .up)) (two-room (a .out .now) (a .at) (knots (a .blend .across)) (knots (a .blend .up)) (ended (a .value)) (start .pre))
+    first-room (a .out .now) (a .at) (knots (a .blend .across)) (knots (a .blend .up)) (two-room (a .out .now) (a .at) (knots (a .blend .across)) (knots (a .blend .up)) (numberLine (a .value)) (start .pre))
 
 put-knots-requires-2 : tie.Need-put-knots-requires-2
 unfolding line
@@ -18,16 +18,16 @@ put-knots-requires-2 c κs =
     let first = c .before .before .before in
     let start = first .before .before .before .before .before in
     let a = start .args in
-    next-room (a .out .now) (a .at) (knots (a .blend .across)) (knots (a .blend .up)) (two-room (a .out .now) (a .at) (knots (a .blend .across)) (knots (a .blend .up)) (ended (a .value)) (start .pre)) (first .put-knots .ensures)
+    next-room (a .out .now) (a .at) (knots (a .blend .across)) (knots (a .blend .up)) (two-room (a .out .now) (a .at) (knots (a .blend .across)) (knots (a .blend .up)) (numberLine (a .value)) (start .pre)) (first .put-knots .ensures)
 
-put-ended-requires : tie.Need-put-ended-requires
+put-number-line-requires : tie.Need-put-number-line-requires
 unfolding line
-put-ended-requires c κs =
+put-number-line-requires c κs =
     let second = c .before .before .before in
     let first = second .before .before .before .before in
     let start = first .before .before .before .before .before in
     let a = start .args in
-    third-room (a .out .now) (a .at) (knots (a .blend .across)) (knots (a .blend .up)) (ended (a .value)) (start .pre) (first .put-knots .ensures) (second .put-knots2 .ensures)
+    third-room (a .out .now) (a .at) (knots (a .blend .across)) (knots (a .blend .up)) (numberLine (a .value)) (start .pre) (first .put-knots .ensures) (second .put-knots2 .ensures)
 
 returns : tie.Need-returns
 unfolding line
@@ -37,9 +37,9 @@ returns c =
     let first = second .before .before .before .before in
     let start = first .before .before .before .before .before in
     let a = start .args in
-    puts-three (a .out .now) (a .at) (knots (a .blend .across)) (knots (a .blend .up)) (ended (a .value)) (start .pre) (first .put-knots .ensures) (second .put-knots2 .ensures) (third .put-ended .ensures)
+    puts-three (a .out .now) (a .at) (knots (a .blend .across)) (knots (a .blend .up)) (numberLine (a .value)) (start .pre) (first .put-knots .ensures) (second .put-knots2 .ensures) (third .put-number-line .ensures)
 
 pub put-line-spec : {M : Type 1} → statement M
 put-line-spec =
     tie.close
-    (tie.spec put-knots-requires put-knots-requires-2 put-ended-requires (λ c. search needs) returns)
+    (tie.spec put-knots-requires put-knots-requires-2 put-number-line-requires (λ c. search needs) returns)

@@ -1,21 +1,22 @@
 -- `listing::put_table` meets its contract. The invariant: the lines of the first i blends are put after the first line.
 use borrow.Author.Needs.{needs}
 use native.Mathlib.Omega.{arith}
-use Prim.Native.Nat.{_+_, _*_, _-_, _≤_}
+use Prim.Native.Nat.{_+_, _-_, _≤_}
 use mathlib.Core.Path.{_≡_, _∙_}
-use lib.ListN.{length, getD, length-append}
+use lib.ListN.{length, getD}
 use Rattle.mesh.proofs.BlendTables.{table-full}
 use Rattle.mesh.specs.Sound.{none}
-use Rattle.files.specs.Inner.{terms}
-use Rattle.files.specs.Listing.{ended, line}
-use Rattle.files.proofs.Terms.{term, terms-length, terms-at, terms-rise}
-use Rattle.files.proofs.Texts.{puts-then}
-use Rattle.files.proofs.TableLines.{Rows, rows-none, rows-length, rows-room, rows-more, rows-done, rows-fit, ended-short, line-short}
+use Rattle.axis.specs.Range.{joined}
+use Rattle.files.specs.Inner.{terms, tabled}
+use Rattle.files.specs.Listing.{numberLine, line}
+use Rattle.files.proofs.Terms.{term, terms-length, terms-at}
+use Rattle.files.proofs.Texts.{first-room, next-room, puts-then}
+use Rattle.files.proofs.TableLines.{Rows, rows-none, rows-length, rows-room, rows-more, rows-done}
 use Rattle.files.proofs.listing.put_table.Statement.{statement}
 use Rattle.files.proofs.listing.put_table.Tie as tie
 
 abbrev Inv-loop : tie.InvT-loop
-Inv-loop out₀ table values count at₀ i₀ out at i = Rows line 42 (terms table values) out₀ at₀ i out at
+Inv-loop out₀ table values count at₀ i₀ out at i = Rows line (terms table values) out₀ at₀ i out at
 
 abbrev μ-loop : tie.MeasureT-loop
 μ-loop out₀ table values count at₀ i₀ out at i = count - i
@@ -26,16 +27,16 @@ places c = table-full (c .args .t2) (c .good .1 .0)
 counted : (c : tie.Start Inv-loop μ-loop) → length (terms (c .args .t2) (c .args .t3)) ≡ c .args .t2 .count
 counted c = terms-length (c .args .t2) (c .args .t3) (c .pre .0) (places c) (c .good .1 .1 .0 .1 .0 .1)
 
--- there is room for all lines after the first one
-room : (c : tie.After-put-ended Inv-loop μ-loop) →
-    let a = c .before .before .before .args in
-    c .put-ended .result + 42 * length (terms (a .t2) (a .t3)) ≤ length (c .put-ended .last .0)
-room c =
-    let start = c .before .before .before in
-    let first = ended-short (start .args .t2 .count) (omega (arith, start .pre .0 .few)) in
-    omega (arith, counted start, first, c .put-ended .ensures .ends, c .put-ended .kept .0, start .pre .0 .few, start .pre .1)
+-- there is room for the first line, and for all others after it
+whole : (c : tie.Start Inv-loop μ-loop) → 0 + length (tabled (c .args .t2) (c .args .t3)) ≤ length (c .args .out .now)
+whole c = omega (arith, c .pre .1)
 
--- the term of a place is the one in hand, and its line is short
+room : (c : tie.After-put-number-line Inv-loop μ-loop) →
+    let a = c .before .before .before .args in
+    c .put-number-line .result + length (joined line (terms (a .t2) (a .t3))) ≤ length (c .put-number-line .last .0)
+room c = next-room _ 0 (numberLine _) _ (whole (c .before .before .before)) (c .put-number-line .ensures)
+
+-- the term of a place is the one in hand
 in-hand : (c : tie.After-wide Inv-loop μ-loop) →
     let at = c .before .before .before in
     let a = at .before .before .before .before .before .before .args in
@@ -47,25 +48,13 @@ in-hand c =
     terms-at (a .t2) (a .t3) (start .pre .0) (places start) (start .good .1 .1 .0 .1 .0 .1) (at .loop .i) (c .before .before .loop-test .taken) (term none 0) ∙
     rw (← c .wide .ensures .0)
 
-short : (c : tie.After-wide Inv-loop μ-loop) →
-    let at = c .before .before .before in
-    let a = at .before .before .before .before .before .before .args in
-    length (line (getD (terms (a .t2) (a .t3)) (at .loop .i) (term none 0))) ≤ 42
-short c =
-    let at = c .before .before .before in
-    let start = at .before .before .before .before .before .before in
-    let a = start .args in
-    rw (in-hand c)
-    (line-short _ (terms-rise (a .t2) (a .t3) (start .pre .0) (places start) (start .good .1 .1 .0 .1 .0 .1) (at .loop .i) (c .before .before .loop-test .taken)) (c .wide .ensures .1))
-
-put-ended-requires : tie.Need-put-ended-requires Inv-loop μ-loop
-put-ended-requires c κs =
+put-number-line-requires : tie.Need-put-number-line-requires Inv-loop μ-loop
+put-number-line-requires c κs =
     let start = c .before .before in
-    let first = ended-short (start .args .t2 .count) (omega (arith, start .pre .0 .few)) in
-    omega (arith, first, start .pre .1)
+    first-room (start .args .out .now) 0 (numberLine (start .args .t2 .count)) _ (whole start)
 
 loop-holds : tie.Need-loop-holds Inv-loop μ-loop
-loop-holds c = rows-none line 42 _ _ _
+loop-holds c = rows-none line _ _ _
 
 mul-blend : tie.Need-mul-blend Inv-loop μ-loop
 mul-blend c =
@@ -90,7 +79,7 @@ put-line-requires c κs =
     let first = at .before .before .before in
     let start = first .before .before .before in
     rw (in-hand wide) at
-    (rows-room line 42 _ _ _ (room first) (at .loop .inv) (term none 0) (rw (counted start) (wide .before .before .loop-test .taken)) (short wide))
+    (rows-room line _ _ _ (room first) (at .loop .inv) (term none 0) (rw (counted start) (wide .before .before .loop-test .taken)))
 
 loop-again : tie.Need-loop-again Inv-loop μ-loop
 loop-again c =
@@ -99,24 +88,22 @@ loop-again c =
     let at = wide .before .before .before in
     let first = at .before .before .before in
     let start = first .before .before .before in
-    rows-more line 42 _ _ _ (room first) (at .loop .inv) (term none 0) (rw (counted start) (wide .before .before .loop-test .taken)) (short wide)
+    rows-more line _ _ _ (room first) (at .loop .inv) (term none 0) (rw (counted start) (wide .before .before .loop-test .taken))
     (rw (in-hand wide) (put .put-line .ensures))
 
 same-length : tie.Need-same-length Inv-loop μ-loop
 same-length c =
     let at = c .before in
     let first = at .before .before .before in
-    rows-length line 42 _ _ _ (room first) (at .loop .inv) ∙ first .put-ended .kept .0
+    rows-length line _ _ _ (room first) (at .loop .inv) ∙ first .put-number-line .kept .0
 
 returns : tie.Need-returns Inv-loop μ-loop
 returns c =
     let at = c .before in
     let first = at .before .before .before in
     let start = first .before .before .before in
-    let rows = rows-done line 42 _ _ _ (room first) (at .loop .inv) (omega (arith, counted start)) in
-    puts-then (start .args .out .now) 0 (ended (start .args .t2 .count)) _
-    (rw length-append (omega (arith, rows-fit line 42 _ _ _ (room first) (at .loop .inv) (omega (arith, counted start)), first .put-ended .ensures .ends, first .put-ended .kept .0)))
-    (first .put-ended .ensures) rows
+    puts-then (start .args .out .now) 0 (numberLine (start .args .t2 .count)) _ (whole start) (first .put-number-line .ensures)
+    (rows-done line _ _ _ (at .loop .inv) (omega (arith, counted start)))
 
 pub put-table-spec : {M : Type 1} → statement M
 put-table-spec =
@@ -124,7 +111,7 @@ put-table-spec =
     (tie.spec
     Inv-loop
     μ-loop
-    put-ended-requires
+    put-number-line-requires
     loop-holds
     mul-blend
     element-copy-out-blend

@@ -1,10 +1,10 @@
--- `listing::put_ended` meets its contract: the digits, then a byte.
+-- `listing::put_number_line` meets its contract: the digits, then a byte.
 use borrow.Author.Needs.{needs}
 use mathlib.Core.List.{[], _∷_}
 use Rattle.files.specs.Listing.{digits}
 use Rattle.files.proofs.Texts.{first-room, next-room, puts-then}
-use Rattle.files.proofs.listing.put_ended.Statement.{statement}
-use Rattle.files.proofs.listing.put_ended.Tie as tie
+use Rattle.files.proofs.listing.put_number_line.Statement.{statement}
+use Rattle.files.proofs.listing.put_number_line.Tie as tie
 
 put-digits-requires : tie.Need-put-digits-requires
 put-digits-requires c κs =
@@ -27,5 +27,5 @@ returns c =
     let a = start .args in
     puts-then (a .out .now) (a .at) (digits (a .n)) (10 ∷ []) (start .pre) (put .put-digits .ensures) (last .put-byte .ensures)
 
-pub put-ended-spec : {M : Type 1} → statement M
-put-ended-spec = tie.close (tie.spec put-digits-requires put-byte-requires (λ c. search needs) returns)
+pub put-number-line-spec : {M : Type 1} → statement M
+put-number-line-spec = tie.close (tie.spec put-digits-requires put-byte-requires (λ c. search needs) returns)

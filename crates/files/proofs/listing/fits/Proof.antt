@@ -1,0 +1,31 @@
+-- `listing::fits` meets its contract: a text that is put is as long as the place after it says.
+use borrow.Author.Needs.{needs, elem-fits}
+use borrow.Author.Tests.{le-leb}
+use native.Mathlib.Nat.{le-trans, zero-add}
+use Prim.Native.Nat.{ℕ, _≤_}
+use mathlib.Core.Path.{sym, ap, _∙_}
+use lib.Dec.{leb}
+use lib.ListN.{length}
+use mir.Syntax.{w16}
+use Rattle.mesh.proofs.BlendTables.{table-full}
+use Rattle.files.specs.Inner.{tabled}
+use Rattle.files.proofs.TableLines.{tabled-most}
+use Rattle.files.proofs.listing.fits.Statement.{statement}
+use Rattle.files.proofs.listing.fits.Tie as tie
+
+most : (c : tie.Start) → length (tabled (c .args .table) (c .args .values)) ≤ 65536
+most c =
+    tabled-most (c .args .table) (c .args .values) (c .pre) (table-full (c .args .table) (c .good .0)) (c .good .1 .0 .1 .0 .1)
+    (λ i. elem-fits w16 w16 (c .args .values) _ i (c .good .1 .0 .1 .1) tt .fits)
+
+returns : tie.Need-returns
+returns c = sym (le-leb _ _ (le-trans (most (c .before)) (c .if1 .taken)))
+
+put-table-requires : tie.Need-put-table-requires
+put-table-requires c κs = let s = c .before .before in (s .pre, most s)
+
+returns-2 : tie.Need-returns-2
+returns-2 c = ap (λ (n : ℕ). leb n (c .before .before .before .before .args .room)) (c .before .put-table .ensures .ends ∙ rw zero-add)
+
+pub fits-spec : {M : Type 1} → statement M
+fits-spec = tie.close (tie.spec returns (λ c. search needs) put-table-requires returns-2)
