@@ -34,7 +34,7 @@ use Rattle.files.specs.Listing.{textNumber}
 use Rattle.files.proofs.GoodFiles.{reads-back}
 use Rattle.files.proofs.ReadMaps.{read-holds}
 use Rattle.pump.specs.Border.{newNumber, newBytes, newUsed, freshNumber, lent, placeNumber, placeAfter, weightsNumber, weightsAfter, readingNumber, readingLitres, sameNumber, sameYes}
-use Rattle.pump.specs.Histories.{PumpCall, fresh, set, exact, lengthened, place, reads, weighs, sameAs, sameTo, checks, payloads, lists, PumpAnswer, answer, PumpOutcome, outcome, Buffer, buffer, changing, byBorder, Desk, desk, refuses, puts, changes, byRules, outcomes, left, lentBy, shown, Past, past, after, pastBy, begun, BorderDemand}
+use Rattle.pump.specs.Histories.{PumpCall, fresh, set, exact, lengthened, place, reads, weighs, sameAs, sameTo, checks, payloads, lists, PumpAnswer, answer, PumpOutcome, outcome, Buffer, buffer, changing, byBorder, Desk, desk, refuses, puts, changes, byRules, outcomes, left, lentBy, shown, Past, past, with, after, pastBy, BorderFrom, begun, BorderDemand}
 
 -- What holds of the desk throughout: its map was reached, and the buffer begins with that map's file.
 pub record At (d : Desk) : Type 0 where
@@ -144,3 +144,133 @@ module _ {d : Desk} (at : At d) where
       ⊎-elim (λ (t : leb 1 n ≡ true). rw t at)
       (λ (f : leb 1 n ≡ false). rw f (puts-at d at (byMachine (d .holds) c .next) (step-leads (d .holds) (at .reached) c .reached)))
       (either (leb 1 n))
+
+  changes-untouched : (k : ℕ) (c : Call) → length (fileOf (changes d c .next .holds)) ≤ k → drop k (changes d c .next .bytes) ≡ drop k (d .bytes)
+  changes-untouched k c le =
+      let n = numberOf (byMachine (d .holds) c .answer) in
+      ⊎-elim (λ (t : leb 1 n ≡ true). rw t) (λ (f : leb 1 n ≡ false). rw f (puts-untouched d k (byMachine (d .holds) c .next) (rw f at le)))
+      (either (leb 1 n))
+
+-- The desk holds what the history of its map leaves.
+pub record Lead (t : Past) (d : Desk) : Type 0 where
+  pub at : At d
+  pub across : allowedSide (t .w) ≡ true
+  pub up : allowedSide (t .h) ≡ true
+  pub is : d .holds ≡ ending byMachine (freshPlain (t .w) (t .h)) (t .calls)
+
+module _ {t : Past} {d : Desk} (l : Lead t d) where
+  puts-lead : (Q : Plain) → Reached Q → (new : Past) → allowedSide (new .w) ≡ true → allowedSide (new .h) ≡ true →
+      Q ≡ ending byMachine (freshPlain (new .w) (new .h)) (new .calls) →
+      let o = puts d Q in Lead (ifRefused (o .answered .number) t new) (o .next)
+  puts-lead Q reached new a b is =
+      ⊎-elim (λ (u : ltb (length (d .bytes)) (length (fileOf Q)) ≡ true). rw u l)
+      (λ (u : ltb (length (d .bytes)) (length (fileOf Q)) ≡ false).
+      rw u
+      (record {
+        at = record { reached = reached; rest = drop (length (fileOf Q)) (d .bytes); begins = refl };
+        across = a;
+        up = b;
+        is = is;
+      }))
+      (either (ltb (length (d .bytes)) (length (fileOf Q))))
+
+  changes-lead : (c : Call) →
+      let o = changes d c in Lead (ifRefused (o .answered .number) t (with t c)) (o .next)
+  changes-lead c =
+      let n = numberOf (byMachine (d .holds) c .answer) in
+      ⊎-elim (λ (y : leb 1 n ≡ true). rw (y, y) l)
+      (λ (f : leb 1 n ≡ false).
+      rw f
+      (puts-lead (byMachine (d .holds) c .next) (step-leads (d .holds) (l .at .reached) c .reached) (with t c) (l .across) (l .up)
+      (ap (λ (P : Plain). byMachine P c .next) (l .is) ∙ sym (ending-join byMachine (freshPlain (t .w) (t .h)) (t .calls) (c ∷ [])))))
+      (either (leb 1 n))
+
+  asks-lead : (n : ℕ) → Lead (ifRefused n t t) d
+  asks-lead n = ⊎-elim (λ (y : leb 1 n ≡ true). rw y l) (λ (f : leb 1 n ≡ false). rw f l) (either (leb 1 n))
+
+  step-lead : (c : PumpCall) → let o = byRules d c in Lead (ifRefused (o .answered .number) t (after t c)) (o .next)
+  step-lead (fresh w h) =
+      ⊎-elim
+      (λ (y : allowedSide w && allowedSide h ≡ true).
+      let b = and-both (allowedSide w) (allowedSide h) y in
+      rw y (puts-lead (freshPlain w h) (fresh-reached w h (b .0) (b .1)) (past w h []) (b .0) (b .1) refl))
+      (λ (f : allowedSide w && allowedSide h ≡ false). rw f l)
+      (either (allowedSide w && allowedSide h))
+  step-lead (set m n v) = changes-lead (Maps.set m n v)
+  step-lead (exact s) = changes-lead (Maps.exact s)
+  step-lead (lengthened s) = changes-lead (Maps.lengthened s)
+  step-lead (place i out) = asks-lead _
+  step-lead (reads u v) = asks-lead _
+  step-lead (weighs u v out) = asks-lead _
+  step-lead (sameAs other) = asks-lead _
+  step-lead (sameTo other) = asks-lead _
+  step-lead checks = l
+  step-lead (payloads i) = asks-lead _
+  step-lead (lists out) = asks-lead _
+
+  step-untouched : (k : ℕ) (c : PumpCall) → length (fileOf (byRules d c .next .holds)) ≤ k → drop k (byRules d c .next .bytes) ≡ drop k (d .bytes)
+  step-untouched k (fresh w h) le =
+      ⊎-elim (λ (y : allowedSide w && allowedSide h ≡ true). rw y (puts-untouched d k (freshPlain w h) (rw y at le)))
+      (λ (f : allowedSide w && allowedSide h ≡ false). rw f) (either (allowedSide w && allowedSide h))
+  step-untouched k (set m n v) le = changes-untouched (l .at) k (Maps.set m n v) le
+  step-untouched k (exact s) le = changes-untouched (l .at) k (Maps.exact s) le
+  step-untouched k (lengthened s) le = changes-untouched (l .at) k (Maps.lengthened s) le
+  step-untouched k (place i out) le = refl
+  step-untouched k (reads u v) le = refl
+  step-untouched k (weighs u v out) le = refl
+  step-untouched k (sameAs other) le = refl
+  step-untouched k (sameTo other) le = refl
+  step-untouched k checks le = refl
+  step-untouched k (payloads i) le = refl
+  step-untouched k (lists out) le = refl
+
+-- So do whole lists.
+pub border-from : (cs : List PumpCall) (t : Past) (d : Desk) → Lead t d → BorderFrom t d cs
+border-from [] t d l =
+    record {
+      same-outcomes = refl;
+      same-left = refl;
+      begins = rw (l .at .begins, take-append-seam);
+      untouched = λ k all. refl;
+      history = l .is;
+      demand = demand-three (t .w) (t .h) (l .across) (l .up) (t .calls);
+    }
+border-from (c ∷ cs) t d l =
+    let o = byRules d c in
+    let rest = border-from cs (ifRefused (o .answered .number) t (after t c)) (o .next) (step-lead l c) in
+    record {
+      same-outcomes = rw (step-shown (l .at) c) (ap (λ (os : List (PumpOutcome Buffer)). shown o ∷ os) (rest .same-outcomes));
+      same-left = rw (step-shown (l .at) c) (rest .same-left);
+      begins = rest .begins;
+      untouched = λ k all. rest .untouched k (λ p m. all p (List·Memᴰ·tail m)) ∙ step-untouched l k c (all o (List·Memᴰ·head refl));
+      history = rest .history;
+      demand = rest .demand;
+    }
+
+-- Demand 3 at the border: from an accepted `pump_fresh`.
+pub border-demand : (w h : ℕ) (start : Buffer) → freshNumber w h (start .bytes) ≡ 0 → (cs : List PumpCall) → BorderDemand w h start cs
+unfolding freshMap newNumber newBytes newUsed writeNumber
+border-demand w h start e cs =
+    ⊎-elim (λ (y : allowedSide w && allowedSide h ≡ true). accepted y) (λ (f : allowedSide w && allowedSide h ≡ false). absurd (omega (arith, rw f at e)))
+    (either (allowedSide w && allowedSide h))
+  where
+    accepted : allowedSide w && allowedSide h ≡ true → BorderDemand w h start cs
+    accepted y =
+        let b = and-both (allowedSide w) (allowedSide h) y in
+        let reached = fresh-reached w h (b .0) (b .1) in
+        let g = record-good (reached .holds) in
+        let file = fileOf (freshPlain w h) in
+        let room : ltb (length (start .bytes)) (length file) ≡ false =
+        ⊎-elim (λ (u : ltb (length (start .bytes)) (length file) ≡ true). absurd (omega (arith, rw (y, g .0, g .1, u) at e))) (λ u. u)
+        (either (ltb (length (start .bytes)) (length file))) in
+        record {
+          made = rw (y, g .0, g .1, room);
+          holds =
+              border-from cs (past w h []) (begun w h start)
+              (record {
+                at = record { reached = reached; rest = drop (length file) (start .bytes); begins = refl };
+                across = b .0;
+                up = b .1;
+                is = refl;
+              });
+        }

@@ -180,23 +180,26 @@ abbrev pub pastBy : Past → Desk → List PumpCall → Past
 pastBy t d [] = t
 pastBy t d (c ∷ cs) = let o = byRules d c in pastBy (ifRefused (o .answered .number) t (after t c)) (o .next) cs
 
+-- Demand 3 at the border, of any list of `pump_` calls on one buffer, refused ones and fresh maps among them: t is the history of the map that is in
+-- the buffer before it, d what the machine then holds.
+pub record BorderFrom (t : Past) (d : Desk) (cs : List PumpCall) : Type 0 where
+  -- At every call the number, every number and byte handed back, the buffer and its length in use are those of the plain machine: the file of what
+  -- it holds stands in front, and bytes after it are as they were before the call. So it is after the list.
+  pub same-outcomes : outcomes byBorder (lentBy d) cs ≡ map shown (outcomes byRules d cs)
+  pub same-left : left byBorder (lentBy d) cs ≡ lentBy (left byRules d cs)
+  pub begins : let e = left byRules d cs in take (length (fileOf (e .holds))) (e .bytes) ≡ fileOf (e .holds)
+  -- Bytes after every file that the buffer held meanwhile are as they were before the list.
+  pub untouched : (k : ℕ) → ((o : PumpOutcome Desk) → List·Memᴰ o (outcomes byRules d cs) → length (fileOf (o .next .holds)) ≤ k) →
+      drop k (left byRules d cs .bytes) ≡ drop k (d .bytes)
+  -- The map in the buffer is the one that its history leaves, and demand 3 holds of that history.
+  pub history : let p = pastBy t d cs in left byRules d cs .holds ≡ ending byMachine (freshPlain (p .w) (p .h)) (p .calls)
+  pub demand : let p = pastBy t d cs in Demand3 (p .w) (p .h) (p .calls)
+
 -- what the machine holds after an accepted `pump_fresh`
 abbrev pub begun : ℕ → ℕ → Buffer → Desk
 begun w h start = let file = fileOf (freshPlain w h) in desk (freshPlain w h) (file ++ drop (length file) (start .bytes))
 
--- Demand 3 at the border: from an accepted `pump_fresh`, after any list of `pump_` calls on that buffer, refused ones and fresh maps among them.
+-- From `pump_fresh`, where it is accepted.
 pub record BorderDemand (w h : ℕ) (start : Buffer) (cs : List PumpCall) : Type 0 where
   pub made : byBorder start (fresh w h) ≡ outcome (answer 0 [] []) (lentBy (begun w h start))
-  -- At every call the number, every number and byte handed back, the buffer and its length in use are those of the plain machine: the file of what
-  -- it holds stands in front, and bytes after it are as they were before the call. So it is after the list.
-  pub same-outcomes : outcomes byBorder (lentBy (begun w h start)) cs ≡ map shown (outcomes byRules (begun w h start) cs)
-  pub same-left : left byBorder (lentBy (begun w h start)) cs ≡ lentBy (left byRules (begun w h start) cs)
-  pub begins : let d = left byRules (begun w h start) cs in take (length (fileOf (d .holds))) (d .bytes) ≡ fileOf (d .holds)
-  -- Bytes after every file that the buffer held are as they were before the list.
-  pub untouched : (k : ℕ) → length (fileOf (freshPlain w h)) ≤ k →
-      ((o : PumpOutcome Desk) → List·Memᴰ o (outcomes byRules (begun w h start) cs) → length (fileOf (o .next .holds)) ≤ k) →
-      drop k (left byRules (begun w h start) cs .bytes) ≡ drop k (start .bytes)
-  -- The map in the buffer is the one that its history leaves, and demand 3 holds of that.
-  pub history : let t = pastBy (past w h []) (begun w h start) cs in
-      left byRules (begun w h start) cs .holds ≡ ending byMachine (freshPlain (t .w) (t .h)) (t .calls)
-  pub demand : let t = pastBy (past w h []) (begun w h start) cs in Demand3 (t .w) (t .h) (t .calls)
+  pub holds : BorderFrom (past w h []) (begun w h start) cs
