@@ -113,7 +113,7 @@ tells d refused bytes size out =
     let n = ifRefused refused refused (shortOf size out) in outcome (answer n [] (answered n bytes out)) d
 
 abbrev pub compares : Desk → ℕ → Bool → PumpOutcome Desk
-compares d n yes = outcome (answer n (ifRefused n 0 (cond yes 1 0) ∷ []) []) d
+compares d n agree = outcome (answer n (ifRefused n 0 (cond agree 1 0) ∷ []) []) d
 
 abbrev pub byRules : Desk → PumpCall → PumpOutcome Desk
 byRules d (fresh w h) = cond (allowedSide w && allowedSide h) (puts d (freshPlain w h)) (refuses d 1)
