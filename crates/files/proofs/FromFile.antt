@@ -71,7 +71,8 @@ module _ (P : Plain) (at : Reached P) where
       let Q = drawn .0 in
       let ends = accepted-ends (map exact (P .lines .splits)) fresh Q (drawn .1) in
       let leads : Leads fresh (P .lines .splits) Q = rw (ends, drawn .2) at (ending-leads (map exact (P .lines .splits)) fresh from-fresh) in
-      let same : withValues P (Q .values) ≡ Q = λ i. record { lines = layout (sym (leads .wide) i) (sym (leads .tall) i) (sym (leads .more) i); values = Q .values } in
+      let same : withValues P (Q .values) ≡ Q =
+      λ i. record { lines = layout (sym (leads .wide) i) (sym (leads .tall) i) (sym (leads .more) i); values = Q .values } in
       let counted : length (Q .values) ≡ length (blends P) =
       leads .reached .valued .counted ∙ ap (λ (R : Plain). length (blends R)) (sym same) in
       let set = values-set P (at .valued) (blends P) [] [] (Q .values) (P .values) refl refl counted (at .valued .counted) (at .valued .small) in

@@ -65,7 +65,8 @@ module _ (P : Plain) (values : (v : ℕ) → List·Memᴰ v (P .values) → v < 
         across = omega arith;
         up = omega arith;
         few = r .few;
-        splits = λ s m. small (P .lines .w) (P .lines .h) hw hh s (all-at (inRange (P .lines .w) (P .lines .h)) (P .lines .splits) (replays-stands r .ranges) s m);
+        splits = λ s m. small (P .lines .w) (P .lines .h) hw hh s
+            (all-at (inRange (P .lines .w) (P .lines .h)) (P .lines .splits) (replays-stands r .ranges) s m);
         values = values;
         full = full;
       }

@@ -1,7 +1,7 @@
 -- The map that reading hands back, the fresh 1 by 1 map where the bytes are no file: a good record, with its table.
 use Prim.Native.Nat.{ℕ, _+_, _*_, _-_, _/_, _<_}
 use native.Mathlib.Omega.{arith}
-use mathlib.Core.Path.{_≡_, refl, ap, _∙_}
+use mathlib.Core.Path.{_≡_, refl, ap}
 use mathlib.Core.Logic.{⊎-elim}
 use mathlib.Core.Bool.{Bool, true}
 use mathlib.Core.List.{List, [], _∷_, _++_, List·Memᴰ, List·Memᴰ·eq-of-singleton}
@@ -56,8 +56,8 @@ all-held {P} p small =
     let few = replays-short (p .taken) in
     let isSmall : ℕ → Bool = λ v. ltb v 65536 in
     let unused = 1024 - length (P .values) in
-    let all-small =
-    all-append isSmall (P .values) (replicate unused 0) (all-of isSmall (P .values) (λ v m. lt-ltb v 65536 (small v m))) (padding-passes isSmall 0 refl unused) in
+    let used-small = all-of isSmall (P .values) (λ v m. lt-ltb v 65536 (small v m)) in
+    let all-small = all-append isSmall (P .values) (replicate unused 0) used-small (padding-passes isSmall 0 refl unused) in
     record {
       splits = rw (length-append, length-replicate) (omega (arith, p .taken .few));
       values = rw (length-append, length-replicate) (omega (arith, p .counted, few));

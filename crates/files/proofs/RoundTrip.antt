@@ -6,7 +6,7 @@ use mathlib.Core.Path.{_≡_, refl, sym, ap, _∙_}
 use mathlib.Core.Logic.{_⊎_, inl, inr, ⊎-elim}
 use mathlib.Core.Bool.{Bool, true, _&&_}
 use mathlib.Core.List.{List, [], _∷_, _++_, map, map-id, append-assoc, List·Memᴰ, List·Memᴰ·not-nil}
-use lib.ListN.{length, take, drop, replicate, length-append, length-drop, length-replicate}
+use lib.ListN.{length, drop, length-append, length-drop, length-replicate}
 use lib.Seq.{length-take-le, take-append-seam, drop-drop, drop-at}
 use Rattle.mesh.specs.declared.Split.{Split}
 use Rattle.mesh.specs.declared.Blend.{Blend}
@@ -19,7 +19,7 @@ use Rattle.maps.specs.declared.Map.{Map}
 use Rattle.maps.specs.declared.Changed.{Changed}
 use Rattle.maps.specs.Plain.{Plain, freshPlain, blends}
 use Rattle.maps.specs.Values.{paired}
-use Rattle.maps.specs.Record.{linesOf, noSplit, recordOf, plain, good}
+use Rattle.maps.specs.Record.{linesOf, recordOf, plain, good}
 use Rattle.maps.specs.Calls.{changed}
 use Rattle.maps.proofs.GoodRecords.{plain-held}
 use Rattle.files.specs.File.{splitEntry, valueEntry, tail, fileOf, wordAt, splitCount, splitAt, guessed}
@@ -161,7 +161,11 @@ module _ (P : Plain) (ok : Fits P) where
   guessed-file =
       let number = number-read (fileOf P) 0 (fileOf P) refl in
       rw (counted, values-counted, splits-read, values-read)
-      (λ i. record { lines = layout (number 4 (P .lines .w) refl (ok .across) i) (number 6 (P .lines .h) refl (ok .up) i) (P .lines .splits); values = P .values })
+      (λ i.
+      record {
+        lines = layout (number 4 (P .lines .w) refl (ok .across) i) (number 6 (P .lines .h) refl (ok .up) i) (P .lines .splits);
+        values = P .values;
+      })
 
 -- the record of a map has as many values as blends, where they are not more than it has places
 pub held-values : (P : Plain) → length (blends P) ≤ 1024 → length (plain (recordOf P) .values) ≡ length (blends (plain (recordOf P)))

@@ -88,7 +88,9 @@ module _ {A : Type 0} (entry : A → List ℕ) (xs : List A) where
         rows-room = next-room before at (joined entry (take i xs)) (entry (getD xs i d)) next-fits (s .puts)
 
         pub rows-more : {after : List ℕ} {end : ℕ} → Puts bytes next (entry (getD xs i d)) after end → Rows (i + 1) after end
-        rows-more p = record { puts = rw (joined-more entry xs i d lt) (puts-then before at (joined entry (take i xs)) (entry (getD xs i d)) next-fits (s .puts) p) }
+        rows-more p =
+            let both = puts-then before at (joined entry (take i xs)) (entry (getD xs i d)) next-fits (s .puts) p in
+            record { puts = rw (joined-more entry xs i d lt) both }
 
     pub rows-done : {i : ℕ} {bytes : List ℕ} {next : ℕ} → Rows i bytes next → length xs ≤ i → Puts before at (joined entry xs) bytes next
     rows-done {i} s le = rw (take-all i xs le) at (s .puts)

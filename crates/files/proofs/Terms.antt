@@ -66,10 +66,12 @@ module _ (m : Map) (t : Table) (ok : WellFormed t) (places : length (t .blends) 
   values-long = joined-length valueEntry 10 value-long (terms t (m .values)) ∙ rw (terms-length t (m .values) ok places full)
 
   pub filed-put : (before : List ℕ) → 12 + 12 * m .lines .count + 10 * t .count ≤ length before →
-      {headed drawn valued after : List ℕ} → headed ≡ put before 0 (head (m .lines .w) (m .lines .h)) → drawn ≡ put headed 8 splits → valued ≡ put drawn (8 + 12 * m .lines .count) values →
-      after ≡ put valued (8 + 12 * m .lines .count + 10 * t .count) tail → after ≡ put before 0 (filed m t)
+      {headed drawn valued after : List ℕ} → headed ≡ put before 0 (head (m .lines .w) (m .lines .h)) → drawn ≡ put headed 8 splits →
+      valued ≡ put drawn (8 + 12 * m .lines .count) values → after ≡ put valued (8 + 12 * m .lines .count + 10 * t .count) tail → after ≡ put before 0 (filed m t)
   filed-put before room q r s u =
-      let lined = put-then before 0 (head (m .lines .w) (m .lines .h)) splits 8 q r refl (omega arith) in
-      let most = put-then before 0 (head (m .lines .w) (m .lines .h) ++ splits) values (8 + 12 * m .lines .count) lined s (rw (length-append, splits-long) (omega arith)) (omega arith) in
-      put-then before 0 (head (m .lines .w) (m .lines .h) ++ splits ++ values) tail (8 + 12 * m .lines .count + 10 * t .count) most u
+      let first = head (m .lines .w) (m .lines .h) in
+      let at = 8 + 12 * m .lines .count in
+      let lined = put-then before 0 first splits 8 q r refl (omega arith) in
+      let most = put-then before 0 (first ++ splits) values at lined s (rw (length-append, splits-long) (omega arith)) (omega arith) in
+      put-then before 0 (first ++ splits ++ values) tail (at + 10 * t .count) most u
       (simp (length-append, splits-long, values-long) (omega arith)) (omega arith)

@@ -47,7 +47,8 @@ module _ {A : Type 0} (entry : A → List ℕ) (size : ℕ) (long : (x : A) → 
     each-read (x ∷ xs) rest k e reads =
         let here : drop (base + size * k) bytes ≡ entry x ++ (joined entry xs ++ rest) = e ∙ append-assoc (entry x) (joined entry xs) rest in
         let place : base + size * (k + 1) ≡ base + size * k + size = omega arith in
-        let next : drop (base + size * (k + 1)) bytes ≡ joined entry xs ++ rest = rw place (past-entry bytes (base + size * k) x (joined entry xs ++ rest) here) in
+        let next : drop (base + size * (k + 1)) bytes ≡ joined entry xs ++ rest =
+        rw place (past-entry bytes (base + size * k) x (joined entry xs ++ rest) here) in
         rw (
           reads x (List·Memᴰ.List·Memᴰ·head refl) k (joined entry xs ++ rest) here,
           each-read xs rest (k + 1) next (λ y m. reads y (List·Memᴰ.List·Memᴰ·tail m)),

@@ -10,7 +10,7 @@ use mesh::Table;
 ghost use mathlib.Core.Path.{_≡_};
 ghost use Prim.Native.Nat.{_+_, _-_, _*_, _≤_};
 ghost use lib.ListN.{length, take};
-ghost use Rattle.axis.specs.Limits.{mostSplits, mostBlends};
+ghost use Rattle.axis.specs.Limits.{mostSplits};
 ghost use Rattle.axis.specs.Range.{joined};
 ghost use Rattle.files.specs.File.{headSize, splitSize, valueSize, endsSize, put, splitEntry, valueEntry};
 ghost use Rattle.files.specs.Inner.{valueNumbers, WellFormed, terms, filed};

@@ -18,7 +18,6 @@ use Rattle.maps.specs.Calls.{freshMap, tablePlace, reading, weights}
 use Rattle.maps.specs.Sameness.{sameness}
 use Rattle.files.specs.File.{word, fileOf}
 use Rattle.files.specs.Calls.{ifRefused, shortOf, answered, writeNumber, readFile, whole, payloadAt}
-use Rattle.files.specs.Listing.{tableText, textRoom}
 
 -- the first refusal of three checks in their order; 0 where none applies
 abbrev pub firstOf : ℕ → ℕ → ℕ → ℕ
@@ -34,15 +33,15 @@ newBytes refused next buffer = answered (newNumber refused next buffer) (fileOf 
 unfoldable pub newUsed : ℕ → Changed → List ℕ → ℕ → ℕ
 newUsed refused next buffer used = ifRefused (newNumber refused next buffer) used (length (fileOf (plain (next .map))))
 
--- pump_fresh: 1, then 12; `used` is then 0.
+-- pump_fresh: 1, then 12.
 abbrev pub freshNumber : ℕ → ℕ → List ℕ → ℕ
 freshNumber w h buffer = newNumber 0 (freshMap w h) buffer
 
 abbrev pub freshBytes : ℕ → ℕ → List ℕ → List ℕ
 freshBytes w h buffer = newBytes 0 (freshMap w h) buffer
 
-abbrev pub freshUsed : ℕ → ℕ → List ℕ → ℕ
-freshUsed w h buffer = newUsed 0 (freshMap w h) buffer 0
+abbrev pub freshUsed : ℕ → ℕ → List ℕ → ℕ → ℕ
+freshUsed w h buffer used = newUsed 0 (freshMap w h) buffer used
 
 -- the file in a lent buffer is its first `used` bytes; where fewer are lent there is none
 abbrev pub lent : List ℕ → ℕ → List ℕ
@@ -119,12 +118,4 @@ payloadFrom bytes at = cond (whole bytes at) (at + 4) 0
 abbrev pub payloadCount : List ℕ → ℕ → ℕ
 payloadCount bytes at = length (payloadAt bytes at)
 
--- pump_table: 11, then 12 where the buffer is shorter than 65,536 bytes, which no text reaches.
-unfoldable pub tableNumber : List ℕ → List ℕ → ℕ
-tableNumber file out = firstOf (readFile file .number) 0 (shortOf textRoom out)
-
-unfoldable pub tableAfter : List ℕ → List ℕ → List ℕ
-tableAfter file out = answered (tableNumber file out) (tableText (plain (readFile file .map))) out
-
-unfoldable pub tableCount : List ℕ → List ℕ → ℕ
-tableCount file out = ifRefused (tableNumber file out) 0 (length (tableText (plain (readFile file .map))))
+-- pump_table: `textNumber`, `textWritten` and `textAfter` of the files' specs/Listing.antt.

@@ -2,10 +2,9 @@
 use crate::numbers::first;
 use crate::numbers::if_refused;
 use files::read_opened;
-use files::write;
 use files::write_opened;
-use maps::Map;
 use maps::opened::Opened;
+use maps::opened::fresh;
 use mesh::Split;
 ghost use mathlib.Core.Path.{_≡_};
 ghost use Rattle.maps.specs.Calls.{changed, setValue, exactSplit, lengthenedSplit};
@@ -43,16 +42,9 @@ fn replace(buffer: &mut [u8], used: &mut usize, refused: usize, next: Opened) ->
 #[no_mangle]
 pub extern "C" fn pump_fresh(w: usize, h: usize, buffer: &mut [u8], used: &mut usize) -> usize
     ensures { λ r. ⌜ (r ≡ freshNumber w h (now (buffer .entry))) × (now (buffer .exit) ≡ freshBytes w h (now (buffer .entry))) ×
-        (now (used .exit) ≡ freshUsed w h (now (buffer .entry))) ⌝ }
+        (now (used .exit) ≡ freshUsed w h (now (buffer .entry)) (now (used .entry))) ⌝ }
 {
-    let made = Map::fresh(w, h);
-    *used = 0;
-    if made.number != 0 {
-        return made.number;
-    }
-    let file = write(made.map, buffer);
-    *used = file.length;
-    file.number
+    replace(buffer, used, 0, fresh(w, h))
 }
 
 #[no_mangle]

@@ -6,7 +6,7 @@ use crate::numbers::short;
 use crate::numbers::words_of;
 use files::bytes::payload;
 use files::bytes::put_words;
-use files::listing::list_opened;
+use files::listing::list;
 use files::read;
 use files::read_opened;
 use maps::Weight;
@@ -17,7 +17,8 @@ ghost use lib.ListN.{length};
 ghost use Rattle.axis.specs.Range.{joined};
 ghost use Rattle.files.specs.File.{put};
 ghost use Rattle.files.specs.Calls.{payloadNumber};
-ghost use Rattle.pump.specs.Border.{placeNumber, placeAfter, weightBytes, weightsNumber, weightsAfter, readingNumber, readingLitres, sameNumber, sameYes, checkNumber, payloadFrom, payloadCount, tableNumber, tableAfter, tableCount};
+ghost use Rattle.files.specs.Listing.{textNumber, textWritten, textAfter};
+ghost use Rattle.pump.specs.Border.{placeNumber, placeAfter, weightBytes, weightsNumber, weightsAfter, readingNumber, readingLitres, sameNumber, sameYes, checkNumber, payloadFrom, payloadCount};
 
 #[no_mangle]
 pub extern "C" fn pump_place(file: &[u8], place: usize, out: &mut [u8]) -> usize
@@ -130,15 +131,10 @@ pub extern "C" fn pump_payload(
 
 #[no_mangle]
 pub extern "C" fn pump_table(file: &[u8], out: &mut [u8], count: &mut usize) -> usize
-    ensures { λ r. ⌜ (r ≡ tableNumber (now (file .entry)) (now (out .entry))) × (now (out .exit) ≡ tableAfter (now (file .entry)) (now (out .entry))) ×
-        (now (count .exit) ≡ tableCount (now (file .entry)) (now (out .entry))) ⌝ }
+    ensures { λ r. ⌜ (r ≡ textNumber (now (file .entry)) (now (out .entry))) × (now (out .exit) ≡ textAfter (now (file .entry)) (now (out .entry))) ×
+        (now (count .exit) ≡ textWritten (now (file .entry)) (now (out .entry)) .length) ⌝ }
 {
-    let known = read_opened(file);
-    if known.number != 0 {
-        *count = 0;
-        return known.number;
-    }
-    let text = list_opened(known, out);
+    let text = list(file, out);
     *count = text.length;
     text.number
 }

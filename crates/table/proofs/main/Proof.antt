@@ -13,10 +13,10 @@ fits : (c : tie.After-list) → c .list .result .length ≤ length (c .list .las
 fits c = list-fits _ _ (c .list .ensures .0) (c .list .ensures .1)
 
 array-share-prefix-text : tie.Need-array-share-prefix-text
-array-share-prefix-text c = fits (c .before)
+array-share-prefix-text c = fits (c .before .before .before)
 
-slice-aggregate-write-all : tie.Need-slice-aggregate-write-all
-slice-aggregate-write-all c = sym (length-take-le _ _ (fits (c .before .before)))
+slice-aggregate-write-all-2 : tie.Need-slice-aggregate-write-all-2
+slice-aggregate-write-all-2 c = sym (length-take-le _ _ (fits (c .before .before .before .before)))
 
 pub main-spec : {M : Type 1} → statement M
 main-spec =
@@ -28,7 +28,10 @@ main-spec =
     (λ c. search needs)
     (λ c. search needs)
     (λ c κs. search needs)
+    (λ c. search needs)
+    (λ c κs. search needs)
+    (λ c. search needs)
     array-share-prefix-text
-    slice-aggregate-write-all
+    slice-aggregate-write-all-2
     (λ c κs. search needs)
     (λ c. search needs))

@@ -1,24 +1,33 @@
 -- `listing::put_line` meets its contract: two triples and the value in a row.
 use borrow.Author.Needs.{needs}
+use Prim.Native.Nat.{_+_, _≤_}
+use mathlib.Core.List.{_++_}
+use lib.ListN.{length}
 use Rattle.files.specs.Listing.{knots, numberLine, line}
 use Rattle.files.proofs.Texts.{first-room, two-room, next-room, third-room, puts-three}
 use Rattle.files.proofs.listing.put_line.Statement.{statement}
 use Rattle.files.proofs.listing.put_line.Tie as tie
 
-put-knots-requires : tie.Need-put-knots-requires
+-- the line is put in three parts, and there is room for the first two
+front-room : (c : tie.Start) →
+    let a = c .args in
+    a .at + length (knots (a .blend .across) ++ knots (a .blend .up)) ≤ length (a .out .now)
 unfolding line
+front-room c =
+    let a = c .args in two-room (a .out .now) (a .at) (knots (a .blend .across)) (knots (a .blend .up)) (numberLine (a .value)) (c .pre)
+
+put-knots-requires : tie.Need-put-knots-requires
 put-knots-requires c κs =
     let start = c .before .before .before .before in
     let a = start .args in
-    first-room (a .out .now) (a .at) (knots (a .blend .across)) (knots (a .blend .up)) (two-room (a .out .now) (a .at) (knots (a .blend .across)) (knots (a .blend .up)) (numberLine (a .value)) (start .pre))
+    first-room (a .out .now) (a .at) (knots (a .blend .across)) (knots (a .blend .up)) (front-room start)
 
 put-knots-requires-2 : tie.Need-put-knots-requires-2
-unfolding line
 put-knots-requires-2 c κs =
     let first = c .before .before .before in
     let start = first .before .before .before .before .before in
     let a = start .args in
-    next-room (a .out .now) (a .at) (knots (a .blend .across)) (knots (a .blend .up)) (two-room (a .out .now) (a .at) (knots (a .blend .across)) (knots (a .blend .up)) (numberLine (a .value)) (start .pre)) (first .put-knots .ensures)
+    next-room (a .out .now) (a .at) (knots (a .blend .across)) (knots (a .blend .up)) (front-room start) (first .put-knots .ensures)
 
 put-number-line-requires : tie.Need-put-number-line-requires
 unfolding line
@@ -27,7 +36,8 @@ put-number-line-requires c κs =
     let first = second .before .before .before .before in
     let start = first .before .before .before .before .before in
     let a = start .args in
-    third-room (a .out .now) (a .at) (knots (a .blend .across)) (knots (a .blend .up)) (numberLine (a .value)) (start .pre) (first .put-knots .ensures) (second .put-knots2 .ensures)
+    third-room (a .out .now) (a .at) (knots (a .blend .across)) (knots (a .blend .up)) (numberLine (a .value)) (start .pre) (first .put-knots .ensures)
+    (second .put-knots2 .ensures)
 
 returns : tie.Need-returns
 unfolding line
@@ -37,7 +47,8 @@ returns c =
     let first = second .before .before .before .before in
     let start = first .before .before .before .before .before in
     let a = start .args in
-    puts-three (a .out .now) (a .at) (knots (a .blend .across)) (knots (a .blend .up)) (numberLine (a .value)) (start .pre) (first .put-knots .ensures) (second .put-knots2 .ensures) (third .put-number-line .ensures)
+    puts-three (a .out .now) (a .at) (knots (a .blend .across)) (knots (a .blend .up)) (numberLine (a .value)) (start .pre) (first .put-knots .ensures)
+    (second .put-knots2 .ensures) (third .put-number-line .ensures)
 
 pub put-line-spec : {M : Type 1} → statement M
 put-line-spec =

@@ -9,9 +9,8 @@ use Rattle.mesh.specs.declared.Table.{Table}
 use Rattle.mesh.specs.Lines.{allowedSide}
 use Rattle.mesh.specs.Sound.{freshTable}
 use Rattle.mesh.proofs.Fresh.{fresh-live}
-use Rattle.maps.specs.declared.Map.{Map}
 use Rattle.maps.specs.Plain.{freshPlain}
-use Rattle.maps.specs.Record.{linesOf, recordOf, good}
+use Rattle.maps.specs.Record.{linesOf, recordOf}
 use Rattle.maps.specs.Calls.{freshMap}
 use Rattle.maps.specs.Opened.{tableOf, withTable}
 use Rattle.maps.proofs.Opening.{good-table}
@@ -19,23 +18,20 @@ use Rattle.maps.proofs.GoodRecords.{replays-sides, record-good, fresh-h
 use Rattle.maps.proofs.opened.fresh.Statement.{statement}
 use Rattle.maps.proofs.opened.fresh.Tie as tie
 
--- a good record, and its table is that of a fresh map
-pub record Blank (m : Map) : Type 0 where
-  pub is-good : good m ≡ true
-  pub is-table : freshTable (m .lines .w) (m .lines .h) ≡ tableOf m
-
-blank : (w h : ℕ) → allowedSide w ≡ true → allowedSide h ≡ true → Blank (recordOf (freshPlain w h))
-unfolding recordOf linesOf freshPlain freshTable
-blank w h a b =
+blank-table : (w h : ℕ) → allowedSide w ≡ true → allowedSide h ≡ true → freshTable w h ≡ tableOf (recordOf (freshPlain w h))
+unfolding freshPlain freshTable
+blank-table w h a b =
     let p = fresh-holds w h a b in
     let s = replays-sides (p .taken) in
     let r = record-good p in
-    record { is-good = r .0; is-table = rw (good-table _ (r .0), r .1, a, b, fresh-live w h (s .0) (s .2) (s .3)) }
+    rw (good-table _ (r .0), r .1, a, b, fresh-live w h (s .0) (s .2) (s .3))
 
-pub fresh-blank : (w h : ℕ) → Blank (freshMap w h .map)
-unfolding freshMap
-fresh-blank w h =
-    ⊎-elim (λ t. let b = and-both (allowedSide w) (allowedSide h) t in rw t (blank w h (b .0) (b .1))) (λ f. rw f (blank 1 1 refl refl))
+-- so the map that is made has it, on a refusal too
+made-table : (w h : ℕ) → let m = freshMap w h .map in freshTable (m .lines .w) (m .lines .h) ≡ tableOf m
+unfolding freshMap recordOf linesOf freshPlain
+made-table w h =
+    ⊎-elim (λ t. let b = and-both (allowedSide w) (allowedSide h) t in rw t (blank-table w h (b .0) (b .1)))
+    (λ f. rw f (blank-table 1 1 refl refl))
     (either (allowedSide w && allowedSide h))
 
 returns : tie.Need-returns
@@ -43,7 +39,7 @@ returns c =
     let made = c .before .before .before in
     let a = made .before .args in
     ap (λ (t : Table). record { number = made .fresh .result .number; map = made .fresh .result .map; table = t })
-    (c .fresh-table .ensures ∙ rw (made .fresh .ensures) (fresh-blank (a .w) (a .h) .is-table)) ∙
+    (c .fresh-table .ensures ∙ rw (made .fresh .ensures) (made-table (a .w) (a .h))) ∙
     ap withTable (made .fresh .ensures)
 
 pub fresh-spec : {M : Type 1} → statement M
