@@ -85,13 +85,16 @@ read-holds bytes =
     })
     (read-either bytes)
 
+pub read-good : (bytes : List ℕ) → good (readFile bytes .map) ≡ true
+read-good bytes = let h = read-holds bytes in rw (h .is) (record-good (h .holds) .0)
+
 pub map-held : (bytes : List ℕ) → Held (readFile bytes .map)
 map-held bytes = let h = read-holds bytes in rw (h .is) (all-held (h .holds) (h .small))
 
 -- so it is an opened map
 module _ (bytes : List ℕ) {file : Opened} (is : file ≡ withTable (readFile bytes)) where
   pub read-opens : Opens file
-  read-opens = let h = read-holds bytes in rw is (record { is-good = rw (h .is) (record-good (h .holds) .0); is-table = refl })
+  read-opens = rw is (record { is-good = read-good bytes; is-table = refl })
 
   pub read-map : GoodMap (file .map) (file .table)
   read-map = let h = map-held bytes in opened-map read-opens (rw is (h .splits)) (rw is (h .values))

@@ -32,7 +32,7 @@ use Rattle.files.specs.File.{fileOf}
 use Rattle.files.specs.Calls.{ifRefused, writeNumber, readFile}
 use Rattle.files.specs.Listing.{textNumber}
 use Rattle.files.proofs.GoodFiles.{reads-back}
-use Rattle.files.proofs.ReadMaps.{read-holds}
+use Rattle.files.proofs.ReadMaps.{read-good}
 use Rattle.pump.specs.Border.{newNumber, newBytes, newUsed, freshNumber, lent, placeNumber, placeAfter, weightsNumber, weightsAfter, readingNumber, readingLitres, sameNumber, sameYes}
 use Rattle.pump.specs.Histories.{PumpCall, fresh, set, exact, lengthened, place, reads, weighs, sameAs, sameTo, checks, payloads, lists, PumpAnswer, answer, PumpOutcome, outcome, Buffer, buffer, changing, byBorder, Desk, desk, refuses, puts, changes, byRules, outcomes, left, lentBy, shown, Past, past, with, after, pastBy, BorderFrom, begun, BorderDemand}
 
@@ -103,9 +103,6 @@ module _ {d : Desk} (at : At d) where
       (λ i. changed (n i) (m i)))
 
   -- a question to it,
-  same-map : (other : List ℕ) → good (readFile other .map) ≡ true
-  same-map other = let h = read-holds other in rw (h .2) (record-good (h .1) .0)
-
   itself : (n : ℕ) → ifRefused n n 0 ≡ n
   itself n =
       ⊎-elim (λ (t : leb 1 n ≡ true). rw t) (λ (f : leb 1 n ≡ false). let z : n ≡ 0 = (let le = leb-false 1 n f in omega arith) in rw z) (either (leb 1 n))
@@ -131,9 +128,9 @@ module _ {d : Desk} (at : At d) where
       rw (is-read, g .0, g .1)
       (⊎-elim (λ (t : inDomain (d .holds) u v ≡ true). rw t) (λ (f : inDomain (d .holds) u v ≡ false). rw f) (either (inDomain (d .holds) u v)))
   step-shown (weighs u v out) = let g = record-good (at .reached .holds) in rw (is-read, g .0, g .1)
-  step-shown (sameAs other) = let g = record-good (at .reached .holds) in rw (is-read, g .0, g .1, same-map other, itself)
-  step-shown (sameTo other) = let g = record-good (at .reached .holds) in rw (is-read, g .0, g .1, same-map other, itself)
-  step-shown checks = rw is-read
+  step-shown (sameAs other) = let g = record-good (at .reached .holds) in rw (is-read, g .0, g .1, read-good other, itself)
+  step-shown (sameTo other) = let g = record-good (at .reached .holds) in rw (is-read, g .0, g .1, read-good other, itself)
+  step-shown checks = ap (λ (c : Changed). outcome (answer (c .number) [] []) (lentBy d)) is-read
   step-shown (payloads i) = rw is-lent
   step-shown (lists out) = let g = record-good (at .reached .holds) in rw (is-read, g .1)
 
@@ -199,14 +196,14 @@ module _ {t : Past} {d : Desk} (l : Lead t d) where
   step-lead (set m n v) = changes-lead (Maps.set m n v)
   step-lead (exact s) = changes-lead (Maps.exact s)
   step-lead (lengthened s) = changes-lead (Maps.lengthened s)
-  step-lead (place i out) = asks-lead _
-  step-lead (reads u v) = asks-lead _
-  step-lead (weighs u v out) = asks-lead _
-  step-lead (sameAs other) = asks-lead _
-  step-lead (sameTo other) = asks-lead _
+  step-lead (place i out) = asks-lead (byRules d (place i out) .answered .number)
+  step-lead (reads u v) = asks-lead (byRules d (reads u v) .answered .number)
+  step-lead (weighs u v out) = asks-lead (byRules d (weighs u v out) .answered .number)
+  step-lead (sameAs other) = asks-lead (byRules d (sameAs other) .answered .number)
+  step-lead (sameTo other) = asks-lead (byRules d (sameTo other) .answered .number)
   step-lead checks = l
-  step-lead (payloads i) = asks-lead _
-  step-lead (lists out) = asks-lead _
+  step-lead (payloads i) = asks-lead (byRules d (payloads i) .answered .number)
+  step-lead (lists out) = asks-lead (byRules d (lists out) .answered .number)
 
   step-untouched : (k : ℕ) (c : PumpCall) → length (fileOf (byRules d c .next .holds)) ≤ k → drop k (byRules d c .next .bytes) ≡ drop k (d .bytes)
   step-untouched k (fresh w h) le =

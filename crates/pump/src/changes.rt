@@ -55,9 +55,9 @@ pub extern "C" fn pump_set(
     n: usize,
     value: u16,
 ) -> usize
-    ensures { λ r. ⌜ (r ≡ changeNumber (λ map. setValue map m n value) (now (buffer .entry)) (now (used .entry))) ×
-        (now (buffer .exit) ≡ changeBytes (λ map. setValue map m n value) (now (buffer .entry)) (now (used .entry))) ×
-        (now (used .exit) ≡ changeUsed (λ map. setValue map m n value) (now (buffer .entry)) (now (used .entry))) ⌝ }
+    ensures { λ r. ⌜ (r ≡ changeNumber (λ old. setValue old m n value) (now (buffer .entry)) (now (used .entry))) ×
+        (now (buffer .exit) ≡ changeBytes (λ old. setValue old m n value) (now (buffer .entry)) (now (used .entry))) ×
+        (now (used .exit) ≡ changeUsed (λ old. setValue old m n value) (now (buffer .entry)) (now (used .entry))) ⌝ }
 {
     let length = *used;
     let old = read_lent(buffer, length);
@@ -74,9 +74,9 @@ pub extern "C" fn pump_exact_split(
     from: usize,
     to: usize,
 ) -> usize
-    ensures { λ r. ⌜ (r ≡ changeNumber (λ map. exactSplit map (split direction position from to)) (now (buffer .entry)) (now (used .entry))) ×
-        (now (buffer .exit) ≡ changeBytes (λ map. exactSplit map (split direction position from to)) (now (buffer .entry)) (now (used .entry))) ×
-        (now (used .exit) ≡ changeUsed (λ map. exactSplit map (split direction position from to)) (now (buffer .entry)) (now (used .entry))) ⌝ }
+    ensures { λ r. ⌜ (r ≡ changeNumber (λ old. exactSplit old (split direction position from to)) (now (buffer .entry)) (now (used .entry))) ×
+        (now (buffer .exit) ≡ changeBytes (λ old. exactSplit old (split direction position from to)) (now (buffer .entry)) (now (used .entry))) ×
+        (now (used .exit) ≡ changeUsed (λ old. exactSplit old (split direction position from to)) (now (buffer .entry)) (now (used .entry))) ⌝ }
 {
     let length = *used;
     let old = read_lent(buffer, length);
@@ -99,9 +99,9 @@ pub extern "C" fn pump_lengthened_split(
     from: usize,
     to: usize,
 ) -> usize
-    ensures { λ r. ⌜ (r ≡ changeNumber (λ map. lengthenedSplit map (split direction position from to)) (now (buffer .entry)) (now (used .entry))) ×
-        (now (buffer .exit) ≡ changeBytes (λ map. lengthenedSplit map (split direction position from to)) (now (buffer .entry)) (now (used .entry))) ×
-        (now (used .exit) ≡ changeUsed (λ map. lengthenedSplit map (split direction position from to)) (now (buffer .entry)) (now (used .entry))) ⌝ }
+    ensures { λ r. ⌜ (r ≡ changeNumber (λ old. lengthenedSplit old (split direction position from to)) (now (buffer .entry)) (now (used .entry))) ×
+        (now (buffer .exit) ≡ changeBytes (λ old. lengthenedSplit old (split direction position from to)) (now (buffer .entry)) (now (used .entry))) ×
+        (now (used .exit) ≡ changeUsed (λ old. lengthenedSplit old (split direction position from to)) (now (buffer .entry)) (now (used .entry))) ⌝ }
 {
     let length = *used;
     let old = read_lent(buffer, length);
