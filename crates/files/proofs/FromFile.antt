@@ -28,7 +28,7 @@ module _ (bytes : List ℕ) (e : readFile bytes .number ≡ 0) where
   read-held : readPlain bytes ≡ guessed bytes
   read-held = ap plain (accepted-file bytes e .2) ∙ told-held bytes e
 
-  read-reached : Reached (readPlain bytes)
+  pub read-reached : Reached (readPlain bytes)
   read-reached = rw read-held (holds-reached (guessed bytes) (guessed-holds bytes e) (guessed-small bytes e))
 
   read-record : recordOf (readPlain bytes) ≡ readFile bytes .map

@@ -6,10 +6,10 @@ use mathlib.Core.Logic.{⊎-elim}
 use mathlib.Core.Bool.{Bool, true, false, cond, _&&_}
 use mathlib.Core.List.{List, [], _∷_, _++_, map, List·Memᴰ}
 use mathlib.Core.List.List·Memᴰ.{List·Memᴰ·head, List·Memᴰ·tail}
-use borrow.Author.Tests.{le-leb, leb-false}
+use borrow.Author.Tests.{le-leb, leb-true, leb-false}
 use lib.Dec.{leb, ltb}
-use lib.ListN.{length, take, drop, length-append}
-use lib.Seq.{take-append-seam, drop-append-add, drop-drop}
+use lib.ListN.{length, take, drop, length-append, take-append-drop}
+use lib.Seq.{take-append-seam, drop-append-add, drop-drop, length-take-le}
 use Rattle.axis.proofs.Tests.{either, and-both, cond-true, cond-false}
 use Rattle.mesh.specs.declared.Split.{Split}
 use Rattle.mesh.specs.Lines.{allowedSide}
@@ -31,10 +31,13 @@ use Rattle.maps.proofs.Demand3.{demand-three}
 use Rattle.files.specs.File.{fileOf}
 use Rattle.files.specs.Calls.{ifRefused, writeNumber, readFile}
 use Rattle.files.specs.Listing.{textNumber}
-use Rattle.files.proofs.GoodFiles.{reads-back}
+use Rattle.files.specs.FromFile.{readPlain, fileCalls}
+use Rattle.files.proofs.RoundTrip.{file-length}
+use Rattle.files.proofs.GoodFiles.{reads-back, accepts}
+use Rattle.files.proofs.FromFile.{read-reached, calls-end}
 use Rattle.files.proofs.ReadMaps.{read-good}
 use Rattle.pump.specs.Border.{newNumber, newBytes, newUsed, freshNumber, lent, placeNumber, placeAfter, weightsNumber, weightsAfter, readingNumber, readingLitres, sameNumber, sameYes}
-use Rattle.pump.specs.Histories.{PumpCall, fresh, set, exact, lengthened, place, reads, weighs, sameAs, sameTo, checks, payloads, lists, PumpAnswer, answer, PumpOutcome, outcome, Buffer, buffer, changing, byBorder, Desk, desk, refuses, puts, changes, byRules, outcomes, left, lentBy, shown, Past, past, with, after, pastBy, BorderFrom, begun, BorderDemand}
+use Rattle.pump.specs.Histories.{PumpCall, fresh, set, exact, lengthened, place, reads, weighs, sameAs, sameTo, checks, payloads, lists, PumpAnswer, answer, PumpOutcome, outcome, Buffer, buffer, changing, byBorder, Desk, desk, refuses, puts, changes, byRules, outcomes, left, lentBy, shown, Past, past, with, after, pastBy, BorderFrom, begun, BorderDemand, BorderFile}
 
 -- What holds of the desk throughout: its map was reached, and the buffer begins with that map's file.
 pub record At (d : Desk) : Type 0 where
@@ -271,3 +274,34 @@ border-demand w h start e cs =
                 is = refl;
               });
         }
+
+-- and from a buffer that holds a map's file.
+pub border-file : (start : Buffer) → readFile (lent (start .bytes) (start .used)) .number ≡ 0 → (cs : List PumpCall) → BorderFile start cs
+border-file start e cs =
+    let bytes = lent (start .bytes) (start .used) in
+    let P = readPlain bytes in
+    let reached = read-reached bytes e in
+    let is-file : bytes ≡ fileOf P = accepts bytes .accepted (readFile bytes .map) (λ i. changed (e i) (readFile bytes .map)) .is-file in
+    let long = file-length P (reached .holds .counted) in
+    let in-buffer : leb (start .used) (length (start .bytes)) ≡ true =
+    ⊎-elim (λ t. t) (λ f. let none : _≡_ {A = ℕ} 0 (length (fileOf P)) = ap length (sym (cond-false _ _ _ f) ∙ is-file) in absurd (omega arith))
+    (either (leb (start .used) (length (start .bytes)))) in
+    let front : take (start .used) (start .bytes) ≡ fileOf P = sym (cond-true _ _ _ in-buffer) ∙ is-file in
+    let used : length (fileOf P) ≡ start .used =
+    ap length (sym front) ∙ length-take-le (start .used) (start .bytes) (leb-true _ _ in-buffer) in
+    record {
+      is-lent = λ i. buffer (start .bytes) (used i);
+      holds =
+          border-from cs (past (P .lines .w) (P .lines .h) (fileCalls P)) (desk P (start .bytes))
+          (record {
+            at =
+                record {
+                  reached = reached;
+                  rest = drop (start .used) (start .bytes);
+                  begins = sym (take-append-drop (start .used) (start .bytes)) ∙ ap (λ (l : List ℕ). l ++ drop (start .used) (start .bytes)) front;
+                };
+            across = reached .holds .taken .across;
+            up = reached .holds .taken .up;
+            is = sym (calls-end P reached);
+          });
+    }

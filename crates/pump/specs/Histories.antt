@@ -18,6 +18,7 @@ use Rattle.maps.specs.Histories.{Call, numberOf, byMachine, ending}
 use Rattle.maps.specs.Demand.{Demand3}
 use Rattle.files.specs.File.{fileOf}
 use Rattle.files.specs.Calls.{ifRefused, shortOf, answered, readFile, payloadNumber}
+use Rattle.files.specs.FromFile.{readPlain, fileCalls}
 use Rattle.files.specs.Listing.{tableText, textNumber, textWritten, textAfter}
 use Rattle.pump.specs.Border.{lent, freshNumber, freshBytes, freshUsed, changeNumber, changeBytes, changeUsed, placeNumber, placeBytes, placeAfter, weightsNumber, weightsBytes, weightsAfter, readingNumber, readingLitres, sameNumber, sameYes, checkNumber, payloadFrom, payloadCount}
 
@@ -203,3 +204,9 @@ begun w h start = let file = fileOf (freshPlain w h) in desk (freshPlain w h) (f
 pub record BorderDemand (w h : ℕ) (start : Buffer) (cs : List PumpCall) : Type 0 where
   pub made : byBorder start (fresh w h) ≡ outcome (answer 0 [] []) (lentBy (begun w h start))
   pub holds : BorderFrom (past w h []) (begun w h start) cs
+
+-- From a buffer that holds a map's file, with the calls that the file stands for as the history of its map.
+pub record BorderFile (start : Buffer) (cs : List PumpCall) : Type 0 where
+  pub is-lent : let P = readPlain (lent (start .bytes) (start .used)) in lentBy (desk P (start .bytes)) ≡ start
+  pub holds : let P = readPlain (lent (start .bytes) (start .used)) in
+      BorderFrom (past (P .lines .w) (P .lines .h) (fileCalls P)) (desk P (start .bytes)) cs
