@@ -2,10 +2,12 @@
 // opened from call to call, so that no call replays its record.
 use crate::show;
 use crate::text;
+use crate::text::Call;
 use files::LARGEST_FILE;
 use maps::Map;
 use maps::opened::Opened;
 use maps::opened::open;
+use mesh::Lines;
 use mesh::Split;
 ghost use mathlib.Core.Path.{_≡_};
 ghost use Rattle.maps.specs.Calls.{freshMap};
@@ -112,14 +114,8 @@ fn weights(map: Opened, line: &[u8], out: &mut [u8], at: &mut usize)
     }
 }
 
-// A split's number, then its ends as kept in the record and the count of live blends.
-fn split(r: Opened, out: &mut [u8], at: &mut usize) {
-    told(r.number, out, at);
-    if r.number != 0 {
-        return;
-    }
-    let m = r.map;
-    let lines = m.lines;
+// The ends of the last split, as kept in the record.
+fn ends(lines: Lines, out: &mut [u8], at: &mut usize) {
     let count = lines.count;
     if count < 1 {
         return;
@@ -130,7 +126,17 @@ fn split(r: Opened, out: &mut [u8], at: &mut usize) {
     let s = lines.splits[count - 1];
     show::number(s.from, out, at);
     show::number(s.to, out, at);
-    show::number(r.table.count, out, at);
+}
+
+// A split's number, then its ends and the count of live blends.
+fn split(r: Opened, out: &mut [u8], at: &mut usize) {
+    told(r.number, out, at);
+    if r.number == 0 {
+        let map = r.map;
+        let lines = map.lines;
+        ends(lines, out, at);
+        show::number(r.table.count, out, at);
+    }
 }
 
 fn exact(map: Opened, line: &[u8], out: &mut [u8], at: &mut usize) -> Opened
@@ -176,16 +182,7 @@ fn same(map: Opened, line: &[u8], out: &mut [u8], at: &mut usize)
     requires { ⌜ Opens map ⌝ }
 {
     let mut bytes = [0u8; LARGEST_FILE];
-    let found = text::unhex(line, 5, &mut bytes);
-    let n = found.value;
-    if !found.some {
-        no_call(out, at);
-        return;
-    }
-    if LARGEST_FILE < n {
-        no_call(out, at);
-        return;
-    }
+    let n = text::unhex(line, 5, &mut bytes);
     let other = files::read_opened(&bytes[..n]);
     if other.number != 0 {
         no_call(out, at);
@@ -193,9 +190,6 @@ fn same(map: Opened, line: &[u8], out: &mut [u8], at: &mut usize)
     }
     let r = map.same(other);
     told(r.number, out, at);
-    if r.number != 0 {
-        return;
-    }
     if r.yes {
         show::text(b" yes", out, at);
         return;
@@ -222,32 +216,17 @@ fn file(map: Opened, out: &mut [u8], at: &mut usize)
 }
 
 // A question on the map, or no call.
-fn question(map: Opened, line: &[u8], out: &mut [u8], at: &mut usize)
+fn question(call: Call, map: Opened, line: &[u8], out: &mut [u8], at: &mut usize)
     requires { ⌜ Opens map ⌝ }
 {
-    if text::begins(line, b"place") {
-        place(map, line, out, at);
-        return;
+    match call {
+        Call::Place => place(map, line, out, at),
+        Call::Reading => reading(map, line, out, at),
+        Call::Weights => weights(map, line, out, at),
+        Call::Same => same(map, line, out, at),
+        Call::File => file(map, out, at),
+        _ => no_call(out, at),
     }
-    if text::begins(line, b"reading") {
-        reading(map, line, out, at);
-        return;
-    }
-    if text::begins(line, b"weights") {
-        weights(map, line, out, at);
-        return;
-    }
-    if text::begins(line, b"same ") {
-        same(map, line, out, at);
-        return;
-    }
-    if line.len() == 4 {
-        if text::begins(line, b"file") {
-            file(map, out, at);
-            return;
-        }
-    }
-    no_call(out, at);
 }
 
 // Answers one line, and hands back the map for the next.
@@ -256,19 +235,14 @@ pub fn answer(map: Opened, line: &[u8], out: &mut [u8], at: &mut usize) -> Opene
     ensures { λ r. ⌜ Opens r ⌝ }
 {
     show::text(line, out, at);
-    if text::begins(line, b"history") {
-        return history(map, line, out, at);
+    let call = text::call_of(line);
+    match call {
+        Call::History => return history(map, line, out, at),
+        Call::Set => return set(map, line, out, at),
+        Call::Exact => return exact(map, line, out, at),
+        Call::Lengthen => return lengthen(map, line, out, at),
+        _ => question(call, map, line, out, at),
     }
-    if text::begins(line, b"set") {
-        return set(map, line, out, at);
-    }
-    if text::begins(line, b"exact") {
-        return exact(map, line, out, at);
-    }
-    if text::begins(line, b"lengthen") {
-        return lengthen(map, line, out, at);
-    }
-    question(map, line, out, at);
     map
 }
 

@@ -3,17 +3,14 @@ use mathlib.Core.Path.{sym}
 use lib.Seq.{length-take-le}
 use Rattle.files.proofs.ReadMaps.{read-opens}
 use borrow.Author.Needs.{needs}
-use native.Mathlib.Omega.{arith}
 use Rattle.calls.proofs.answers.same.Statement.{statement}
 use Rattle.calls.proofs.answers.same.Tie as tie
 
 slice-aggregate-read-opened : tie.Need-slice-aggregate-read-opened
-slice-aggregate-read-opened c =
-    let u = c .before .before .before .before .before .unhex in
-    sym (length-take-le (u .result .value) (u .last .1 .1 .0) (omega (arith, u .kept .1 .1 .0)))
+slice-aggregate-read-opened c = let u = c .before .before .unhex in sym (length-take-le (u .result) (u .last .1 .1 .0) (u .ensures))
 
 same-requires : tie.Need-same-requires
-same-requires c κs = (c .before .before .before .before .before .before .before .before .before .before .before .before .pre, read-opens _ (c .before .before .read-opened .ensures))
+same-requires c κs = let read = c .before .before in (read .before .before .before .before .before .before .before .pre, read-opens _ (read .read-opened .ensures))
 
 pub same-spec : {M : Type 1} → statement M
 same-spec =
@@ -21,12 +18,6 @@ same-spec =
     (tie.spec
     (λ c. search needs)
     (λ c κs. search needs)
-    (λ c κs. search needs)
-    (λ c. search needs)
-    (λ c. search needs)
-    (λ c κs. search needs)
-    (λ c. search needs)
-    (λ c. search needs)
     (λ c. search needs)
     slice-aggregate-read-opened
     (λ c κs. search needs)
@@ -35,8 +26,6 @@ same-spec =
     (λ c. search needs)
     same-requires
     (λ c κs. search needs)
-    (λ c. search needs)
-    (λ c. search needs)
     (λ c. search needs)
     (λ c κs. search needs)
     (λ c. search needs)
