@@ -6,24 +6,15 @@ part=$(mktemp -d)
 trap 'rm -rf "$part"' EXIT
 failed=0
 
-# Lists of calls, in parts of less than 200,000 bytes, each from a history line on.
-awk -v dir="$part" '
-  /^history / && (n == 0 || size > 150000) { n++; size = 0 }
-  { call = $0; sub(/ = .*| =$/, "", call); size += length(call) + 1
-    print call > (dir "/" n ".in"); print $0 > (dir "/" n ".want") }
-' tests/vectors/histories.txt
-lines=0
-for input in "$part"/*.in; do
-  want=${input%.in}.want
-  target/bin/calls <"$input" >"$part/got"
-  lines=$((lines + $(wc -l <"$want")))
-  if ! cmp -s "$part/got" "$want"; then
-    echo "vectors: an answer differs:"
-    diff "$want" "$part/got" | head -6
-    failed=1
-  fi
-done
-echo "vectors: $lines lines of calls compared"
+# Lists of calls, without their answers, all at once.
+want=tests/vectors/histories.txt
+sed 's/ =.*//' "$want" | target/bin/calls >"$part/got"
+if ! cmp -s "$part/got" "$want"; then
+  echo "vectors: an answer differs:"
+  diff "$want" "$part/got" | head -6
+  failed=1
+fi
+echo "vectors: $(wc -l <"$want") lines of calls compared"
 
 # Map files for the table program.
 if [ -x target/bin/table ]; then

@@ -1,113 +1,121 @@
-// One call: its line is taken apart, the library is asked, and the answer is shown. A line that is no call is answered with `?`.
+// One call: its line is taken apart, the library is asked, and the answer is shown. A line that is no call is answered with `?`. The map stays
+// opened from call to call, so that no call replays its record.
 use crate::show;
 use crate::text;
+use crate::text::Call;
 use files::LARGEST_FILE;
-use maps::Changed;
 use maps::Map;
+use maps::opened::Opened;
+use maps::opened::open;
+use mesh::Lines;
 use mesh::Split;
+ghost use mathlib.Core.Path.{_≡_};
+ghost use Rattle.maps.specs.Calls.{freshMap};
+ghost use Rattle.maps.specs.Opened.{withTable, Opens};
 
-fn no_call() {
-    show::text(b" = ?");
+fn no_call(out: &mut [u8], at: &mut usize) {
+    show::text(b" = ?", out, at);
 }
 
-fn told(n: usize) {
-    show::text(b" =");
-    show::number(n);
+fn told(n: usize, out: &mut [u8], at: &mut usize) {
+    show::text(b" =", out, at);
+    show::number(n, out, at);
+}
+
+// The fresh map of these sides, opened.
+pub fn fresh(w: usize, h: usize) -> Opened
+    ensures { λ r. ⌜ r ≡ withTable (freshMap w h) ⌝ }
+{
+    let made = Map::fresh(w, h);
+    let mut opened = open(made.map);
+    opened.number = made.number;
+    opened
 }
 
 // A list starts on a fresh map; a side out of range is refused with 1.
-fn history(map: Map, line: &[u8]) -> Map {
+fn history(map: Opened, line: &[u8], out: &mut [u8], at: &mut usize) -> Opened
+    requires { ⌜ Opens map ⌝ }
+    ensures { λ r. ⌜ Opens r ⌝ }
+{
     let n = text::numbers(line, 7, 2);
     if !n.whole {
-        no_call();
+        no_call(out, at);
         return map;
     }
-    let r = Map::fresh(n.c, n.d);
+    let r = fresh(n.c, n.d);
     if r.number != 0 {
-        told(r.number);
+        told(r.number, out, at);
     }
-    r.map
+    r
 }
 
-fn set(map: Map, line: &[u8]) -> Map {
+fn set(map: Opened, line: &[u8], out: &mut [u8], at: &mut usize) -> Opened
+    requires { ⌜ Opens map ⌝ }
+    ensures { λ r. ⌜ Opens r ⌝ }
+{
     let n = text::numbers(line, 3, 3);
     let value = n.d;
     if !n.whole {
-        no_call();
+        no_call(out, at);
         return map;
     }
     if 65535 < value {
-        no_call();
+        no_call(out, at);
         return map;
     }
     let r = map.set(n.b, n.c, value as u16);
-    told(r.number);
-    r.map
+    told(r.number, out, at);
+    r
 }
 
-fn place(map: Map, line: &[u8]) {
+fn place(map: Opened, line: &[u8], out: &mut [u8], at: &mut usize)
+    requires { ⌜ Opens map ⌝ }
+{
     let n = text::numbers(line, 5, 1);
     if !n.whole {
-        no_call();
+        no_call(out, at);
         return;
     }
     let r = map.place(n.d);
-    told(r.number);
+    told(r.number, out, at);
     if r.number == 0 {
-        show::shape(r.blend);
-        show::number(r.value);
+        show::shape(r.blend, out, at);
+        show::number(r.value, out, at);
     }
 }
 
-fn reading(map: Map, line: &[u8]) {
+fn reading(map: Opened, line: &[u8], out: &mut [u8], at: &mut usize)
+    requires { ⌜ Opens map ⌝ }
+{
     let n = text::numbers(line, 7, 2);
     if !n.whole {
-        no_call();
+        no_call(out, at);
         return;
     }
     let r = map.reading(n.c, n.d);
-    told(r.number);
+    told(r.number, out, at);
     if r.number == 0 {
-        show::number(r.litres);
+        show::number(r.litres, out, at);
     }
 }
 
-fn weights(map: Map, line: &[u8]) {
+fn weights(map: Opened, line: &[u8], out: &mut [u8], at: &mut usize)
+    requires { ⌜ Opens map ⌝ }
+{
     let n = text::numbers(line, 7, 2);
     if !n.whole {
-        no_call();
+        no_call(out, at);
         return;
     }
     let r = map.weights(n.c, n.d);
-    told(r.number);
+    told(r.number, out, at);
     if r.number == 0 {
-        show::four(r);
+        show::four(r, out, at);
     }
 }
 
-// How many table places are taken, found by halving.
-fn blends(map: Map) -> usize {
-    let mut taken: usize = 0;
-    let mut free: usize = 1025;
-    while taken + 1 < free {
-        let middle = (taken + free) / 2;
-        if map.place(middle - 1).number == 0 {
-            taken = middle;
-        } else {
-            free = middle;
-        }
-    }
-    taken
-}
-
-// A split's number, then its ends as kept in the record and the count of live blends.
-fn split(r: Changed) {
-    told(r.number);
-    if r.number != 0 {
-        return;
-    }
-    let m = r.map;
-    let lines = m.lines;
+// The ends of the last split, as kept in the record.
+fn ends(lines: Lines, out: &mut [u8], at: &mut usize) {
     let count = lines.count;
     if count < 1 {
         return;
@@ -116,15 +124,28 @@ fn split(r: Changed) {
         return;
     }
     let s = lines.splits[count - 1];
-    show::number(s.from);
-    show::number(s.to);
-    show::number(blends(m));
+    show::number(s.from, out, at);
+    show::number(s.to, out, at);
 }
 
-fn exact(map: Map, line: &[u8]) -> Map {
+// A split's number, then its ends and the count of live blends.
+fn split(r: Opened, out: &mut [u8], at: &mut usize) {
+    told(r.number, out, at);
+    if r.number == 0 {
+        let map = r.map;
+        let lines = map.lines;
+        ends(lines, out, at);
+        show::number(r.table.count, out, at);
+    }
+}
+
+fn exact(map: Opened, line: &[u8], out: &mut [u8], at: &mut usize) -> Opened
+    requires { ⌜ Opens map ⌝ }
+    ensures { λ r. ⌜ Opens r ⌝ }
+{
     let n = text::numbers(line, 5, 4);
     if !n.whole {
-        no_call();
+        no_call(out, at);
         return map;
     }
     let r = map.exact_split(Split {
@@ -133,14 +154,17 @@ fn exact(map: Map, line: &[u8]) -> Map {
         from: n.c,
         to: n.d,
     });
-    split(r);
-    r.map
+    split(r, out, at);
+    r
 }
 
-fn lengthen(map: Map, line: &[u8]) -> Map {
+fn lengthen(map: Opened, line: &[u8], out: &mut [u8], at: &mut usize) -> Opened
+    requires { ⌜ Opens map ⌝ }
+    ensures { λ r. ⌜ Opens r ⌝ }
+{
     let n = text::numbers(line, 8, 4);
     if !n.whole {
-        no_call();
+        no_call(out, at);
         return map;
     }
     let r = map.lengthened_split(Split {
@@ -149,93 +173,81 @@ fn lengthen(map: Map, line: &[u8]) -> Map {
         from: n.c,
         to: n.d,
     });
-    split(r);
-    r.map
+    split(r, out, at);
+    r
 }
 
 // Sameness with another map, given as the hexadecimal bytes of its file; a line whose bytes are no file is no call.
-fn same(map: Map, line: &[u8]) {
+fn same(map: Opened, line: &[u8], out: &mut [u8], at: &mut usize)
+    requires { ⌜ Opens map ⌝ }
+{
     let mut bytes = [0u8; LARGEST_FILE];
-    let found = text::unhex(line, 5, &mut bytes);
-    let n = found.value;
-    if !found.some {
-        no_call();
-        return;
-    }
-    if LARGEST_FILE < n {
-        no_call();
-        return;
-    }
-    let other = files::read(&bytes[..n]);
+    let n = text::unhex(line, 5, &mut bytes);
+    let other = files::read_opened(&bytes[..n]);
     if other.number != 0 {
-        no_call();
+        no_call(out, at);
         return;
     }
-    let r = map.same(other.map);
-    told(r.number);
-    if r.number != 0 {
-        return;
-    }
+    let r = map.same(other);
+    told(r.number, out, at);
     if r.yes {
-        show::text(b" yes");
+        show::text(b" yes", out, at);
         return;
     }
-    show::text(b" no");
+    show::text(b" no", out, at);
 }
 
 // The bytes of the map's file, in hexadecimal.
-fn file(map: Map) {
+fn file(map: Opened, out: &mut [u8], at: &mut usize)
+    requires { ⌜ Opens map ⌝ }
+{
     let mut bytes = [0u8; LARGEST_FILE];
-    let r = files::write(map, &mut bytes);
-    show::text(b" = ");
+    let r = files::write_opened(map, &mut bytes);
+    show::text(b" = ", out, at);
     let n = r.length;
     let mut i = 0;
     while i < n {
         if LARGEST_FILE <= i {
             return;
         }
-        show::hex(bytes[i]);
+        show::hex(bytes[i], out, at);
         i += 1;
     }
 }
 
+// A question on the map, or no call.
+fn question(call: Call, map: Opened, line: &[u8], out: &mut [u8], at: &mut usize)
+    requires { ⌜ Opens map ⌝ }
+{
+    match call {
+        Call::Place => place(map, line, out, at),
+        Call::Reading => reading(map, line, out, at),
+        Call::Weights => weights(map, line, out, at),
+        Call::Same => same(map, line, out, at),
+        Call::File => file(map, out, at),
+        _ => no_call(out, at),
+    }
+}
+
 // Answers one line, and hands back the map for the next.
-pub fn answer(map: Map, line: &[u8]) -> Map {
-    show::text(line);
-    if text::begins(line, b"history") {
-        return history(map, line);
+pub fn answer(map: Opened, line: &[u8], out: &mut [u8], at: &mut usize) -> Opened
+    requires { ⌜ Opens map ⌝ }
+    ensures { λ r. ⌜ Opens r ⌝ }
+{
+    show::text(line, out, at);
+    let call = text::call_of(line);
+    match call {
+        Call::History => return history(map, line, out, at),
+        Call::Set => return set(map, line, out, at),
+        Call::Exact => return exact(map, line, out, at),
+        Call::Lengthen => return lengthen(map, line, out, at),
+        _ => question(call, map, line, out, at),
     }
-    if text::begins(line, b"set") {
-        return set(map, line);
-    }
-    if text::begins(line, b"exact") {
-        return exact(map, line);
-    }
-    if text::begins(line, b"lengthen") {
-        return lengthen(map, line);
-    }
-    if text::begins(line, b"place") {
-        place(map, line);
-        return map;
-    }
-    if text::begins(line, b"reading") {
-        reading(map, line);
-        return map;
-    }
-    if text::begins(line, b"weights") {
-        weights(map, line);
-        return map;
-    }
-    if text::begins(line, b"same ") {
-        same(map, line);
-        return map;
-    }
-    if line.len() == 4 {
-        if text::begins(line, b"file") {
-            file(map);
-            return map;
-        }
-    }
-    no_call();
     map
+}
+
+// Answers the end of a line whose start was too long to keep: no call is that long.
+pub fn answer_rest(rest: &[u8], out: &mut [u8], at: &mut usize) {
+    show::text(rest, out, at);
+    no_call(out, at);
 }

@@ -1,5 +1,20 @@
 // The text of calls: a word, then numbers, each behind one blank.
-ghost use Prim.Native.Nat.{_<_};
+ghost use Prim.Native.Nat.{_≤_, _<_};
+ghost use lib.ListN.{length};
+
+// What a line calls for.
+pub enum Call {
+    History,
+    Set,
+    Exact,
+    Lengthen,
+    Place,
+    Reading,
+    Weights,
+    Same,
+    File,
+    Unknown,
+}
 
 // The last four numbers of a line, the last in d; not `whole` where the line holds anything else.
 pub struct Four {
@@ -30,6 +45,40 @@ pub fn begins(line: &[u8], word: &[u8]) -> bool {
         i += 1;
     }
     true
+}
+
+// By the word that the line begins with; `file` stands alone.
+pub fn call_of(line: &[u8]) -> Call {
+    if begins(line, b"history") {
+        return Call::History;
+    }
+    if begins(line, b"set") {
+        return Call::Set;
+    }
+    if begins(line, b"exact") {
+        return Call::Exact;
+    }
+    if begins(line, b"lengthen") {
+        return Call::Lengthen;
+    }
+    if begins(line, b"place") {
+        return Call::Place;
+    }
+    if begins(line, b"reading") {
+        return Call::Reading;
+    }
+    if begins(line, b"weights") {
+        return Call::Weights;
+    }
+    if begins(line, b"same ") {
+        return Call::Same;
+    }
+    if line.len() == 4 {
+        if begins(line, b"file") {
+            return Call::File;
+        }
+    }
+    Call::Unknown
 }
 
 // The number behind a blank at a place, below ten to the ninth.
@@ -122,37 +171,30 @@ fn hex_digit(c: u8) -> u8
     16
 }
 
-// The bytes that the hexadecimal digits from a place to the line's end give, into a lent buffer; none where they are no bytes or too many.
-pub fn unhex(line: &[u8], at: usize, out: &mut [u8]) -> Found {
-    let none = Found {
-        some: false,
-        value: 0,
-        next: 0,
-    };
+// The bytes that the hexadecimal digits from a place to the line's end give, into a lent buffer, and how many: 0 where they are no bytes or too many.
+pub fn unhex(line: &[u8], at: usize, out: &mut [u8]) -> usize
+    ensures { λ r. ⌜ r ≤ length (now (out .exit)) ⌝ }
+{
     let mut i = at;
     let mut n = 0;
     while i < line.len() {
         if line.len() - i < 2 {
-            return none;
+            return 0;
         }
         if out.len() <= n {
-            return none;
+            return 0;
         }
         let high = hex_digit(line[i]);
         let low = hex_digit(line[i + 1]);
         if 15 < high {
-            return none;
+            return 0;
         }
         if 15 < low {
-            return none;
+            return 0;
         }
         out[n] = high * 16 + low;
         n += 1;
         i += 2;
     }
-    Found {
-        some: true,
-        value: n,
-        next: i,
-    }
+    n
 }

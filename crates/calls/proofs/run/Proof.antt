@@ -1,21 +1,20 @@
-use Prim.Native.Nat.{ℕ, _+_, _*_, _-_, _≤_, _<_}
+-- `run` meets its contract: the turns that are left are the measure, and the map stays opened.
+use Rattle.calls.proofs.StaysOpened.{fresh-opens}
+use mathlib.Core.Path.{_≡_}
 use lib.ListN.{length}
+use Rattle.maps.specs.Opened.{Opens}
 use borrow.Author.Needs.{needs}
-use native.Mathlib.Omega.{arith}
 use Rattle.calls.proofs.run.Statement.{statement}
 use Rattle.calls.proofs.run.Tie as tie
-use Rattle.calls.proofs.run.Reads as reads
-use Rattle.calls.proofs.run.Lts as lts
-use Rattle.calls.proofs.answers.answer.Reads as answer-reads
-use Rattle.calls.proofs.line_end.Reads as line-end-reads
-use Rattle.calls.proofs.show.text.Reads as text-reads
-use Rattle.maps.proofs.Map.fresh.Reads as fresh-reads
 
 abbrev Inv-loop : tie.InvT-loop
-Inv-loop input map₀ from₀ t5 map from = from ≤ length input + 1
+Inv-loop input₀ out₀ s₀ at₀ turns₀ input out s at turns = Opens (s .map) × (length input ≡ length input₀) × (length out ≡ length out₀)
 
 abbrev μ-loop : tie.MeasureT-loop
-μ-loop input map₀ from₀ t5 map from = length input - from
+μ-loop input₀ out₀ s₀ at₀ turns₀ input out s at turns = turns
+
+loop-holds : tie.Need-loop-holds Inv-loop μ-loop
+loop-holds c = (fresh-opens 1 1 (c .fresh .ensures), search needs, search needs)
 
 pub run-spec : {M : Type 1} → statement M
 run-spec =
@@ -24,15 +23,14 @@ run-spec =
     Inv-loop
     μ-loop
     (λ c κs. search needs)
-    (λ c. search needs)
+    loop-holds
+    (λ c κs. search needs)
     (λ c κs. search needs)
     (λ c. search needs)
     (λ c. search needs)
     (λ c. search needs)
     (λ c κs. search needs)
-    (λ c. search needs)
     (λ c κs. search needs)
-    (λ c. search needs)
     (λ c. search needs)
     (λ c. search needs)
     (λ c. search needs))

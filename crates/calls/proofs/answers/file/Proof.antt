@@ -1,20 +1,16 @@
-use Prim.Native.Nat.{ℕ, _+_, _*_, _-_, _≤_, _<_}
+-- `answers::file` meets its contract: each turn shows one byte more.
+use mathlib.Core.Path.{_≡_}
+use Prim.Native.Nat.{_-_}
 use lib.ListN.{length}
 use borrow.Author.Needs.{needs}
-use native.Mathlib.Omega.{arith}
 use Rattle.calls.proofs.answers.file.Statement.{statement}
 use Rattle.calls.proofs.answers.file.Tie as tie
-use Rattle.calls.proofs.answers.file.Reads as reads
-use Rattle.calls.proofs.answers.file.Lts as lts
-use Rattle.calls.proofs.show.hex.Reads as hex-reads
-use Rattle.calls.proofs.show.text.Reads as text-reads
-use Rattle.files.proofs.write.Reads as write-reads
 
 abbrev Inv-loop : tie.InvT-loop
-Inv-loop bytes n i₀ i = i ≤ n
+Inv-loop out₀ at₀ bytes n i₀ out at i = length out ≡ length out₀
 
 abbrev μ-loop : tie.MeasureT-loop
-μ-loop bytes n i₀ i = n - i
+μ-loop out₀ at₀ bytes n i₀ out at i = n - i
 
 pub file-spec : {M : Type 1} → statement M
 file-spec =
@@ -29,7 +25,9 @@ file-spec =
     (λ c. search needs)
     (λ c. search needs)
     (λ c. search needs)
+    (λ c. search needs)
     (λ c κs. search needs)
+    (λ c. search needs)
     (λ c. search needs)
     (λ c. search needs)
     (λ c. search needs)

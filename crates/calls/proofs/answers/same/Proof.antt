@@ -1,22 +1,16 @@
+-- `answers::same` meets its contract: what was read of a file is an opened map too.
 use mathlib.Core.Path.{sym}
 use lib.Seq.{length-take-le}
-use native.Mathlib.Omega.{arith}
+use Rattle.files.proofs.ReadMaps.{read-opens}
 use borrow.Author.Needs.{needs}
 use Rattle.calls.proofs.answers.same.Statement.{statement}
 use Rattle.calls.proofs.answers.same.Tie as tie
-use Rattle.calls.proofs.answers.same.Reads as reads
-use Rattle.calls.proofs.answers.same.Lts as lts
-use Rattle.calls.proofs.answers.no_call.Reads as no-call-reads
-use Rattle.calls.proofs.answers.told.Reads as told-reads
-use Rattle.calls.proofs.show.text.Reads as text-reads
-use Rattle.calls.proofs.text.unhex.Reads as unhex-reads
-use Rattle.files.proofs.read.Reads as read-reads
-use Rattle.maps.proofs.Map.same.Reads as same-reads
 
-slice-aggregate-read : tie.Need-slice-aggregate-read
-slice-aggregate-read c =
-    let u = c .before .before .before .before .before .unhex in
-    sym (length-take-le (u .result .value) (u .last .1 .1 .0) (omega (arith, u .kept .1 .1 .0)))
+slice-aggregate-read-opened : tie.Need-slice-aggregate-read-opened
+slice-aggregate-read-opened c = let u = c .before .before .unhex in sym (length-take-le (u .result) (u .last .1 .1 .0) (u .ensures))
+
+same-requires : tie.Need-same-requires
+same-requires c κs = let read = c .before .before in (read .before .before .before .before .before .before .before .pre, read-opens _ (read .read-opened .ensures))
 
 pub same-spec : {M : Type 1} → statement M
 same-spec =
@@ -24,21 +18,19 @@ same-spec =
     (tie.spec
     (λ c. search needs)
     (λ c κs. search needs)
+    (λ c. search needs)
+    slice-aggregate-read-opened
+    (λ c κs. search needs)
+    (λ c κs. search needs)
+    (λ c. search needs)
+    (λ c. search needs)
+    same-requires
     (λ c κs. search needs)
     (λ c. search needs)
     (λ c κs. search needs)
     (λ c. search needs)
     (λ c. search needs)
-    slice-aggregate-read
-    (λ c κs. search needs)
-    (λ c κs. search needs)
-    (λ c. search needs)
-    (λ c κs. search needs)
-    (λ c κs. search needs)
-    (λ c. search needs)
     (λ c. search needs)
     (λ c κs. search needs)
     (λ c. search needs)
-    (λ c. search needs)
-    (λ c κs. search needs)
     (λ c. search needs))

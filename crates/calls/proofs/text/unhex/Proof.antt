@@ -1,20 +1,20 @@
+-- `text::unhex` meets its contract: no more bytes are given than there is room for.
 use mathlib.Core.Path.{_≡_}
-use lib.ListN.{length-set}
-use Prim.Native.Nat.{ℕ, _+_, _*_, _-_, _≤_, _<_}
-use lib.ListN.{length}
+use Prim.Native.Nat.{_-_, _≤_}
+use lib.ListN.{length, length-set}
 use borrow.Author.Needs.{needs}
 use native.Mathlib.Omega.{arith}
 use Rattle.calls.proofs.text.unhex.Statement.{statement}
 use Rattle.calls.proofs.text.unhex.Tie as tie
-use Rattle.calls.proofs.text.unhex.Reads as reads
-use Rattle.calls.proofs.text.unhex.Lts as lts
-use Rattle.calls.proofs.text.hex_digit.Reads as hex-digit-reads
 
 abbrev Inv-loop : tie.InvT-loop
-Inv-loop line at out₀ none i₀ n₀ out i n = length out ≡ length out₀
+Inv-loop line at out₀ i₀ n₀ out i n = (length out ≡ length out₀) × (n ≤ length out)
 
 abbrev μ-loop : tie.MeasureT-loop
-μ-loop line at out₀ none i₀ n₀ out i n = length line - i
+μ-loop line at out₀ i₀ n₀ out i n = length line - i
+
+loop-again : tie.Need-loop-again Inv-loop μ-loop
+loop-again c = (search needs, simp length-set (omega arith))
 
 pub unhex-spec : {M : Type 1} → statement M
 unhex-spec =
@@ -43,6 +43,6 @@ unhex-spec =
     (λ c. search needs)
     (λ c. search needs)
     (λ c. search needs)
-    (λ c. search needs)
+    loop-again
     (λ c. search needs)
     (λ c. search needs))
