@@ -6,12 +6,10 @@ use crate::text::Call;
 use files::LARGEST_FILE;
 use maps::Map;
 use maps::opened::Opened;
-use maps::opened::open;
+use maps::opened::fresh;
 use mesh::Lines;
 use mesh::Split;
-ghost use mathlib.Core.Path.{_≡_};
-ghost use Rattle.maps.specs.Calls.{freshMap};
-ghost use Rattle.maps.specs.Opened.{withTable, Opens};
+ghost use Rattle.maps.specs.Opened.{Opens};
 
 fn no_call(out: &mut [u8], at: &mut usize) {
     show::text(b" = ?", out, at);
@@ -20,16 +18,6 @@ fn no_call(out: &mut [u8], at: &mut usize) {
 fn told(n: usize, out: &mut [u8], at: &mut usize) {
     show::text(b" =", out, at);
     show::number(n, out, at);
-}
-
-// The fresh map of these sides, opened.
-pub fn fresh(w: usize, h: usize) -> Opened
-    ensures { λ r. ⌜ r ≡ withTable (freshMap w h) ⌝ }
-{
-    let made = Map::fresh(w, h);
-    let mut opened = open(made.map);
-    opened.number = made.number;
-    opened
 }
 
 // A list starts on a fresh map; a side out of range is refused with 1.

@@ -4,6 +4,7 @@ mod show;
 mod text;
 
 use maps::opened::Opened;
+use maps::opened::fresh;
 ghost use Prim.Native.Nat.{_≤_};
 ghost use lib.ListN.{length};
 ghost use Rattle.maps.specs.Opened.{Opens};
@@ -151,7 +152,7 @@ fn last_line(s: State, input: &[u8], out: &mut [u8], at: &mut usize)
 // A proved loop has to end, and nothing says that an input does: the turns count down from a number that no run uses up. What a turn answers is
 // written before the next one reads, for whoever waits for it.
 fn run(input: &mut [u8], out: &mut [u8]) {
-    let map = answers::fresh(1, 1);
+    let map = fresh(1, 1);
     let mut s = State {
         map: map,
         held: 0,

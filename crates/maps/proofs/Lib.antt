@@ -19,3 +19,4 @@ pub mod Rebuilding
 pub mod Squares
 pub mod Tabled
 pub mod ByWeights
+pub mod StaysOpened

@@ -1,5 +1,5 @@
 -- `run` meets its contract: the turns that are left are the measure, and the map stays opened.
-use Rattle.calls.proofs.StaysOpened.{fresh-opens}
+use Rattle.maps.proofs.StaysOpened.{fresh-opens}
 use mathlib.Core.Path.{_≡_}
 use lib.ListN.{length}
 use Rattle.maps.specs.Opened.{Opens}

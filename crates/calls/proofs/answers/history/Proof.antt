@@ -1,5 +1,5 @@
 -- `answers::history` meets its contract: a fresh map is opened.
-use Rattle.calls.proofs.StaysOpened.{fresh-opens}
+use Rattle.maps.proofs.StaysOpened.{fresh-opens}
 use borrow.Author.Needs.{needs}
 use Rattle.calls.proofs.answers.history.Statement.{statement}
 use Rattle.calls.proofs.answers.history.Tie as tie

@@ -1,6 +1,6 @@
 -- `pump_fresh` meets its contract: the fresh map, ended by `replace`.
 use borrow.Author.Needs.{needs}
-use Rattle.pump.proofs.Known.{fresh-opens}
+use Rattle.maps.proofs.StaysOpened.{fresh-opens}
 use Rattle.pump.proofs.changes.pump_fresh.Statement.{statement}
 use Rattle.pump.proofs.changes.pump_fresh.Tie as tie
 

@@ -3,7 +3,8 @@ use borrow.Author.Needs.{needs}
 use Rattle.maps.specs.Calls.{lengthenedSplit}
 use Rattle.pump.specs.Border.{split}
 use Rattle.files.proofs.ReadMaps.{read-opens}
-use Rattle.pump.proofs.Known.{lengthened-opens}
+use Rattle.files.proofs.ReadMaps.{read-map}
+use Rattle.maps.proofs.StaysOpened.{lengthened-opens}
 use Rattle.pump.proofs.Changing.{changes}
 use Rattle.pump.proofs.changes.pump_lengthened_split.Statement.{statement}
 use Rattle.pump.proofs.changes.pump_lengthened_split.Tie as tie
@@ -16,7 +17,7 @@ replace-requires c κs =
     let call = c .before .before in
     let read = call .before in
     let a = read .before .before .before .before .args in
-    lengthened-opens _ (read .read-lent .ensures) (split (a .direction) (a .position) (a .from) (a .to)) (call .lengthened-split .ensures)
+    lengthened-opens (read-map _ (read .read-lent .ensures)) (split (a .direction) (a .position) (a .from) (a .to)) (call .lengthened-split .ensures)
 
 returns : tie.Need-returns
 returns c =

@@ -2,7 +2,8 @@
 use borrow.Author.Needs.{needs}
 use Rattle.maps.specs.Calls.{setValue}
 use Rattle.files.proofs.ReadMaps.{read-opens}
-use Rattle.pump.proofs.Known.{set-opens}
+use Rattle.files.proofs.ReadMaps.{read-map}
+use Rattle.maps.proofs.StaysOpened.{set-opens}
 use Rattle.pump.proofs.Changing.{changes}
 use Rattle.pump.proofs.changes.pump_set.Statement.{statement}
 use Rattle.pump.proofs.changes.pump_set.Tie as tie
@@ -15,7 +16,7 @@ replace-requires c κs =
     let call = c .before .before in
     let read = call .before in
     let a = read .before .before .before .before .args in
-    set-opens _ (read .read-lent .ensures) (a .m) (a .n) (a .value) (call .set .ensures)
+    set-opens (read-map _ (read .read-lent .ensures)) (a .m) (a .n) (a .value) (call .set .ensures)
 
 returns : tie.Need-returns
 returns c =
