@@ -63,10 +63,23 @@ line-short t p lt =
     rw (length-append (knots (t .of .across) ++ knots (t .of .up)) (numberLine (t .multiple)), length-append (knots (t .of .across)) (knots (t .of .up)))
     (omega (arith, a, u, v))
 
--- Entries put in a row one by one, where there is room for all of them:
+-- Entries in a row, measured one by one, and put one by one where there is room for all of them:
 module _ {A : Type 0} (entry : A → List ℕ) (xs : List A) where
   part-long : (i : ℕ) → length (joined entry (take i xs)) ≤ length (joined entry xs)
   part-long i = omega (arith, simp (joined-append, length-append) at (ap (λ (l : List A). length (joined entry l)) (take-append-drop i xs)))
+
+  -- after `first` bytes, the first i of them end at `size`
+  pub record Sized (first i size : ℕ) : Type 0 where
+    pub is : size ≡ first + length (joined entry (take i xs))
+
+  pub sized-more : (d : A) {first i size : ℕ} → i < length xs → Sized first i size → Sized first (i + 1) (size + length (entry (getD xs i d)))
+  sized-more d {first} {i} lt s = record { is = rw (joined-more entry xs i d lt, length-append, s .is) (omega arith) }
+
+  pub sized-most : {first i size : ℕ} → Sized first i size → size ≤ first + length (joined entry xs)
+  sized-most {first} {i} s = omega (arith, s .is, part-long i)
+
+  pub sized-done : {first i size : ℕ} → Sized first i size → length xs ≤ i → size ≡ first + length (joined entry xs)
+  sized-done {first} {i} s le = rw (take-all i xs le) at (s .is)
 
   module _ (before : List ℕ) (at : ℕ) where
     -- the first i of them are put
@@ -103,7 +116,7 @@ row-most entry most (x ∷ xs) short =
     rw length-append
     (omega (arith, short x (List·Memᴰ·head refl), row-most entry most xs (λ y m. short y (List·Memᴰ·tail m))))
 
--- so a table's text has at most 6 + 42 * 1,024 bytes
+-- so a table's text has at most 6 + 42 × 1,024 bytes
 module _ (t : Table) (values : List ℕ) (ok : WellFormed t) (places : length (t .blends) ≡ 1024) (full : length values ≡ 1024)
     (words : (i : ℕ) → getD values i 0 < 65536) where
   pub tabled-most : length (tabled t values) ≤ 65536

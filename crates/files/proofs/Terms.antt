@@ -67,7 +67,8 @@ module _ (m : Map) (t : Table) (ok : WellFormed t) (places : length (t .blends) 
 
   pub filed-put : (before : List ℕ) → 12 + 12 * m .lines .count + 10 * t .count ≤ length before →
       {headed drawn valued after : List ℕ} → headed ≡ put before 0 (head (m .lines .w) (m .lines .h)) → drawn ≡ put headed 8 splits →
-      valued ≡ put drawn (8 + 12 * m .lines .count) values → after ≡ put valued (8 + 12 * m .lines .count + 10 * t .count) tail → after ≡ put before 0 (filed m t)
+      valued ≡ put drawn (8 + 12 * m .lines .count) values → after ≡ put valued (8 + 12 * m .lines .count + 10 * t .count) tail →
+      after ≡ put before 0 (filed m t)
   filed-put before room q r s u =
       let first = head (m .lines .w) (m .lines .h) in
       let at = 8 + 12 * m .lines .count in

@@ -11,14 +11,17 @@ ghost use mathlib.Core.List.{[], _∷_};
 ghost use Prim.Native.Nat.{_+_, _%_, _≤_, _<_};
 ghost use lib.Dec.{leb};
 ghost use lib.ListN.{length};
+ghost use Rattle.mesh.specs.Sound.{Proper};
 ghost use Rattle.maps.specs.Record.{plain};
 ghost use Rattle.maps.specs.Opened.{Opens};
 ghost use Rattle.files.specs.Inner.{WellFormed, Puts, tabled};
 ghost use Rattle.files.specs.Calls.{shortOf, counted, answered};
 ghost use Rattle.files.specs.Listing.{digits, coordinate, spaced, numberLine, knots, line, tableText, textWritten, textAfter};
 
-// This many bytes hold every text.
+// This many bytes hold every text, and this many every line.
 pub const LARGEST_TEXT: usize = 65536;
+
+const LONGEST_LINE: usize = 42;
 
 // The byte of a number's last digit.
 fn digit(n: usize) -> u8
@@ -124,7 +127,34 @@ fn put_table(out: &mut [u8], table: Table, values: [u16; Table::MOST_BLENDS]) ->
     at
 }
 
-// Whether so many bytes hold the text of a table. Unless they hold every text, it is put into bytes of its own and measured.
+// How many bytes the line of a blend and its value has: it is put into bytes of its own.
+fn line_size(blend: Blend, value: usize) -> usize
+    requires { ⌜ Proper blend × (value < 65536) ⌝ }
+    ensures { λ r. ⌜ r ≡ length (line (record { multiple = value; of = blend })) ⌝ }
+{
+    let mut bytes = [0u8; LONGEST_LINE];
+    put_line(&mut bytes, 0, blend, value)
+}
+
+// How many bytes the text of a table has.
+fn text_size(table: Table, values: [u16; Table::MOST_BLENDS]) -> usize
+    requires { ⌜ WellFormed table ⌝ }
+    ensures { λ r. ⌜ r ≡ length (tabled table values) ⌝ }
+{
+    let count = table.count;
+    let mut bytes = [0u8; LONGEST_LINE];
+    let mut size = put_number_line(&mut bytes, 0, count);
+    let mut i = 0;
+    while i < count {
+        let blend = table.blends[i];
+        let value = wide(values[i]);
+        size += line_size(blend, value);
+        i += 1;
+    }
+    size
+}
+
+// Whether so many bytes hold the text of a table. It is measured only where they may be too few.
 fn fits(table: Table, values: [u16; Table::MOST_BLENDS], room: usize) -> bool
     requires { ⌜ WellFormed table ⌝ }
     ensures { λ r. ⌜ r ≡ leb (length (tabled table values)) room ⌝ }
@@ -132,8 +162,7 @@ fn fits(table: Table, values: [u16; Table::MOST_BLENDS], room: usize) -> bool
     if LARGEST_TEXT <= room {
         return true;
     }
-    let mut text = [0u8; LARGEST_TEXT];
-    put_table(&mut text, table, values) <= room
+    text_size(table, values) <= room
 }
 
 // The rest of `list`, on the map that is read.

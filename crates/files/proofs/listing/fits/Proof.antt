@@ -1,9 +1,9 @@
--- `listing::fits` meets its contract: a text that is put is as long as the place after it says.
+-- `listing::fits` meets its contract: every text has at most 65,536 bytes.
 use borrow.Author.Needs.{needs, elem-fits}
 use borrow.Author.Tests.{le-leb}
-use native.Mathlib.Nat.{le-trans, zero-add}
+use native.Mathlib.Nat.{le-trans}
 use Prim.Native.Nat.{ℕ, _≤_}
-use mathlib.Core.Path.{sym, ap, _∙_}
+use mathlib.Core.Path.{sym, ap}
 use lib.Dec.{leb}
 use lib.ListN.{length}
 use mir.Syntax.{w16}
@@ -21,11 +21,8 @@ most c =
 returns : tie.Need-returns
 returns c = sym (le-leb _ _ (le-trans (most (c .before)) (c .if1 .taken)))
 
-put-table-requires : tie.Need-put-table-requires
-put-table-requires c κs = let s = c .before .before in (s .pre, most s)
-
 returns-2 : tie.Need-returns-2
-returns-2 c = ap (λ (n : ℕ). leb n (c .before .before .before .before .args .room)) (c .before .put-table .ensures .ends ∙ rw zero-add)
+returns-2 c = ap (λ (n : ℕ). leb n (c .before .before .args .room)) (c .text-size .ensures)
 
 pub fits-spec : {M : Type 1} → statement M
-fits-spec = tie.close (tie.spec returns (λ c. search needs) put-table-requires returns-2)
+fits-spec = tie.close (tie.spec returns (λ c κs. search needs) returns-2)
