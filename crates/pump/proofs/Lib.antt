@@ -2,3 +2,4 @@ pub mod Refusals
 pub mod Coordinates
 pub mod Changing
 pub mod Histories
+pub mod Demand3

@@ -1,10 +1,9 @@
 -- Document 01, "Histories", at the border to C: lists of `pump_` calls on one buffer, and the plain machine beside it.
-use Prim.Native.Nat.{ℕ, _≤_, _%_}
-use mathlib.Core.Path.{_≡_}
+use Prim.Native.Nat.{ℕ, _%_}
 use mathlib.Core.Bool.{Bool, cond, _&&_}
-use mathlib.Core.List.{List, [], _∷_, _++_, map, List·Memᴰ}
+use mathlib.Core.List.{List, [], _∷_, _++_}
 use lib.Dec.{ltb}
-use lib.ListN.{length, take, drop}
+use lib.ListN.{length, drop}
 use Rattle.mesh.specs.declared.Split.{Split}
 use Rattle.mesh.specs.Lines.{allowedSide}
 use Rattle.maps.specs.declared.Map.{Map}
@@ -14,11 +13,9 @@ use Rattle.maps.specs.Record.{plain}
 use Rattle.maps.specs.Calls.{setValue, exactSplit, lengthenedSplit, placeOn, readingOn, weightsOn}
 use Rattle.maps.specs.Sameness.{samePlain}
 use Rattle.maps.specs.Histories as Maps
-use Rattle.maps.specs.Histories.{Call, numberOf, byMachine, ending}
-use Rattle.maps.specs.Demand.{Demand3}
+use Rattle.maps.specs.Histories.{Call, numberOf, byMachine}
 use Rattle.files.specs.File.{fileOf}
 use Rattle.files.specs.Calls.{ifRefused, shortOf, answered, readFile, payloadNumber}
-use Rattle.files.specs.FromFile.{readPlain, fileCalls}
 use Rattle.files.specs.Listing.{tableText, textNumber, textWritten, textAfter}
 use Rattle.pump.specs.Border.{lent, freshNumber, freshBytes, freshUsed, changeNumber, changeBytes, changeUsed, placeNumber, placeBytes, placeAfter, weightsNumber, weightsBytes, weightsAfter, readingNumber, readingLitres, sameNumber, sameYes, checkNumber, payloadFrom, payloadCount}
 
@@ -60,8 +57,8 @@ pub record Buffer : Type 0 where
 abbrev pub buffer : List ℕ → ℕ → Buffer
 buffer bytes used = record { bytes = bytes; used = used }
 
--- The calls of the library: each step is the definition that the call's public contract cites. A question is asked of the first `used` bytes, and
--- sameness with the other file behind the map in the buffer (`sameAs`) or before it (`sameTo`). A value is a 16-bit number.
+-- The calls of the library: each step is the definition that the call's public contract cites. A question is asked of the first `used` bytes,
+-- sameness with the map in the buffer first (`sameAs`) or second (`sameTo`). A value is a 16-bit number: what is left of the given one by 65,536.
 abbrev pub changing : (Map → Changed) → Buffer → PumpOutcome Buffer
 changing call b =
     outcome (answer (changeNumber call (b .bytes) (b .used)) [] []) (buffer (changeBytes call (b .bytes) (b .used)) (changeUsed call (b .bytes) (b .used)))
@@ -84,7 +81,8 @@ byBorder b checks = asking b (λ file. answer (checkNumber file) [] [])
 byBorder b (payloads at) = asking b (λ file. answer (payloadNumber file at) (payloadFrom file at ∷ payloadCount file at ∷ []) [])
 byBorder b (lists out) = asking b (λ file. answer (textNumber file out) (textWritten file out .length ∷ []) (textAfter file out))
 
--- The plain machine at the border: it holds what the record of a map holds, and what the buffer's bytes are to be.
+-- The plain machine at the border: it holds what the record of a map holds, and what the buffer's bytes are to be. It refuses or answers by the rules,
+-- on what it holds.
 pub record Desk : Type 0 where
   pub holds : Plain
   pub bytes : List ℕ
@@ -108,11 +106,12 @@ changes d c =
     let n = numberOf (o .answer) in
     ifRefused n (refuses d n) (puts d (o .next))
 
--- An answer of bytes: its refusals, then 12 where the bytes lent for it are too few.
+-- An answer of so many bytes: the call's refusal, then 12 where fewer are lent for it.
 abbrev pub tells : Desk → ℕ → List ℕ → ℕ → List ℕ → PumpOutcome Desk
 tells d refused bytes size out =
     let n = ifRefused refused refused (shortOf size out) in outcome (answer n [] (answered n bytes out)) d
 
+-- Sameness with a map that is read: 11 where its bytes are no file, and then "no", which is 0.
 abbrev pub compares : Desk → ℕ → Bool → PumpOutcome Desk
 compares d n agree = outcome (answer n (ifRefused n 0 (cond agree 1 0) ∷ []) []) d
 
@@ -150,63 +149,3 @@ lentBy d = buffer (d .bytes) (length (fileOf (d .holds)))
 
 abbrev pub shown : PumpOutcome Desk → PumpOutcome Buffer
 shown o = outcome (o .answered) (lentBy (o .next))
-
--- The history of the map in the buffer: the sides of the last accepted `pump_fresh`, and the accepted changes since then.
-pub record Past : Type 0 where
-  pub w : ℕ
-  pub h : ℕ
-  pub calls : List Call
-
-abbrev pub past : ℕ → ℕ → List Call → Past
-past w h calls = record { w = w; h = h; calls = calls }
-
-abbrev pub with : Past → Call → Past
-with t c = past (t .w) (t .h) (t .calls ++ c ∷ [])
-
-abbrev pub after : Past → PumpCall → Past
-after t (fresh w h) = past w h []
-after t (set m n v) = with t (Maps.set m n v)
-after t (exact s) = with t (Maps.exact s)
-after t (lengthened s) = with t (Maps.lengthened s)
-after t (place i out) = t
-after t (reads u v) = t
-after t (weighs u v out) = t
-after t (sameAs other) = t
-after t (sameTo other) = t
-after t checks = t
-after t (payloads at) = t
-after t (lists out) = t
-
-abbrev pub pastBy : Past → Desk → List PumpCall → Past
-pastBy t d [] = t
-pastBy t d (c ∷ cs) = let o = byRules d c in pastBy (ifRefused (o .answered .number) t (after t c)) (o .next) cs
-
--- Demand 3 at the border, of any list of `pump_` calls on one buffer, refused ones and fresh maps among them: t is the history of the map that is in
--- the buffer before it, d what the machine then holds.
-pub record BorderFrom (t : Past) (d : Desk) (cs : List PumpCall) : Type 0 where
-  -- At every call the number, every number and byte handed back, the buffer and its length in use are those of the plain machine: the file of what
-  -- it holds stands in front, and bytes after it are as they were before the call. So it is after the list.
-  pub same-outcomes : outcomes byBorder (lentBy d) cs ≡ map shown (outcomes byRules d cs)
-  pub same-left : left byBorder (lentBy d) cs ≡ lentBy (left byRules d cs)
-  pub begins : let e = left byRules d cs in take (length (fileOf (e .holds))) (e .bytes) ≡ fileOf (e .holds)
-  -- Bytes after every file that the buffer held meanwhile are as they were before the list.
-  pub untouched : (k : ℕ) → ((o : PumpOutcome Desk) → List·Memᴰ o (outcomes byRules d cs) → length (fileOf (o .next .holds)) ≤ k) →
-      drop k (left byRules d cs .bytes) ≡ drop k (d .bytes)
-  -- The map in the buffer is the one that its history leaves, and demand 3 holds of that history.
-  pub history : let p = pastBy t d cs in left byRules d cs .holds ≡ ending byMachine (freshPlain (p .w) (p .h)) (p .calls)
-  pub demand : let p = pastBy t d cs in Demand3 (p .w) (p .h) (p .calls)
-
--- what the machine holds after an accepted `pump_fresh`
-abbrev pub begun : ℕ → ℕ → Buffer → Desk
-begun w h start = let file = fileOf (freshPlain w h) in desk (freshPlain w h) (file ++ drop (length file) (start .bytes))
-
--- From `pump_fresh`, where it is accepted.
-pub record BorderDemand (w h : ℕ) (start : Buffer) (cs : List PumpCall) : Type 0 where
-  pub made : byBorder start (fresh w h) ≡ outcome (answer 0 [] []) (lentBy (begun w h start))
-  pub holds : BorderFrom (past w h []) (begun w h start) cs
-
--- From a buffer that holds a map's file, with the calls that the file stands for as the history of its map.
-pub record BorderFile (start : Buffer) (cs : List PumpCall) : Type 0 where
-  pub is-lent : let P = readPlain (lent (start .bytes) (start .used)) in lentBy (desk P (start .bytes)) ≡ start
-  pub holds : let P = readPlain (lent (start .bytes) (start .used)) in
-      BorderFrom (past (P .lines .w) (P .lines .h) (fileCalls P)) (desk P (start .bytes)) cs

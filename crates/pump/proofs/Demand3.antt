@@ -1,0 +1,187 @@
+-- Demand 3 of lists of `pump_` calls on one buffer.
+use Prim.Native.Nat.{ℕ, _≤_}
+use native.Mathlib.Omega.{arith}
+use mathlib.Core.Path.{_≡_, refl, sym, ap, _∙_}
+use mathlib.Core.Logic.{⊎-elim}
+use mathlib.Core.Bool.{true, false, _&&_}
+use mathlib.Core.List.{List, [], _∷_, _++_}
+use mathlib.Core.List.List·Memᴰ.{List·Memᴰ·head, List·Memᴰ·tail}
+use borrow.Author.Tests.{leb-true}
+use lib.Dec.{leb, ltb}
+use lib.ListN.{length, take, drop, take-append-drop}
+use lib.Seq.{take-append-seam, length-take-le}
+use Rattle.axis.proofs.Tests.{either, and-both, cond-true, cond-false}
+use Rattle.mesh.specs.Lines.{allowedSide}
+use Rattle.maps.specs.Plain.{Plain, freshPlain}
+use Rattle.maps.specs.Calls.{changed, freshMap}
+use Rattle.maps.specs.Histories as Maps
+use Rattle.maps.specs.Histories.{Call, numberOf, byMachine, ending}
+use Rattle.maps.proofs.GoodRecords.{record-good}
+use Rattle.maps.proofs.Reached.{Reached, fresh-reached, step-leads}
+use Rattle.maps.proofs.Rebuilding.{ending-join}
+use Rattle.maps.proofs.Demand3.{demand-three}
+use Rattle.files.specs.File.{fileOf}
+use Rattle.files.specs.Calls.{ifRefused, writeNumber, readFile}
+use Rattle.files.specs.FromFile.{readPlain, fileCalls}
+use Rattle.files.proofs.RoundTrip.{file-length}
+use Rattle.files.proofs.GoodFiles.{accepts}
+use Rattle.files.proofs.FromFile.{read-reached, calls-end}
+use Rattle.pump.specs.Border.{newNumber, newBytes, newUsed, freshNumber, lent}
+use Rattle.pump.specs.Histories.{PumpCall, fresh, set, exact, lengthened, place, reads, weighs, sameAs, sameTo, checks, payloads, lists, PumpOutcome, Buffer, buffer, Desk, desk, puts, changes, byRules, shown}
+use Rattle.pump.specs.Demand.{Past, past, with, after, BorderFrom, begun, BorderDemand, BorderFile}
+use Rattle.pump.proofs.Histories.{At, puts-untouched, changes-untouched, step-shown}
+
+-- The desk holds what the history of its map leaves.
+pub record Lead (t : Past) (d : Desk) : Type 0 where
+  pub at : At d
+  pub across : allowedSide (t .w) ≡ true
+  pub up : allowedSide (t .h) ≡ true
+  pub is : d .holds ≡ ending byMachine (freshPlain (t .w) (t .h)) (t .calls)
+
+module _ {t : Past} {d : Desk} (l : Lead t d) where
+  puts-lead : (Q : Plain) → Reached Q → (new : Past) → allowedSide (new .w) ≡ true → allowedSide (new .h) ≡ true →
+      Q ≡ ending byMachine (freshPlain (new .w) (new .h)) (new .calls) →
+      let o = puts d Q in Lead (ifRefused (o .answered .number) t new) (o .next)
+  puts-lead Q reached new a b is =
+      ⊎-elim (λ (u : ltb (length (d .bytes)) (length (fileOf Q)) ≡ true). rw u l)
+      (λ (u : ltb (length (d .bytes)) (length (fileOf Q)) ≡ false).
+      rw u
+      (record {
+        at = record { reached = reached; rest = drop (length (fileOf Q)) (d .bytes); begins = refl };
+        across = a;
+        up = b;
+        is = is;
+      }))
+      (either (ltb (length (d .bytes)) (length (fileOf Q))))
+
+  changes-lead : (c : Call) →
+      let o = changes d c in Lead (ifRefused (o .answered .number) t (with t c)) (o .next)
+  changes-lead c =
+      let n = numberOf (byMachine (d .holds) c .answer) in
+      ⊎-elim (λ (y : leb 1 n ≡ true). rw (y, y) l)
+      (λ (f : leb 1 n ≡ false).
+      rw f
+      (puts-lead (byMachine (d .holds) c .next) (step-leads (d .holds) (l .at .reached) c .reached) (with t c) (l .across) (l .up)
+      (ap (λ (P : Plain). byMachine P c .next) (l .is) ∙ sym (ending-join byMachine (freshPlain (t .w) (t .h)) (t .calls) (c ∷ [])))))
+      (either (leb 1 n))
+
+  asks-lead : (n : ℕ) → Lead (ifRefused n t t) d
+  asks-lead n = ⊎-elim (λ (y : leb 1 n ≡ true). rw y l) (λ (f : leb 1 n ≡ false). rw f l) (either (leb 1 n))
+
+  step-lead : (c : PumpCall) → let o = byRules d c in Lead (ifRefused (o .answered .number) t (after t c)) (o .next)
+  step-lead (fresh w h) =
+      ⊎-elim
+      (λ (y : allowedSide w && allowedSide h ≡ true).
+      let b = and-both (allowedSide w) (allowedSide h) y in
+      rw y (puts-lead (freshPlain w h) (fresh-reached w h (b .0) (b .1)) (past w h []) (b .0) (b .1) refl))
+      (λ (f : allowedSide w && allowedSide h ≡ false). rw f l)
+      (either (allowedSide w && allowedSide h))
+  step-lead (set m n v) = changes-lead (Maps.set m n v)
+  step-lead (exact s) = changes-lead (Maps.exact s)
+  step-lead (lengthened s) = changes-lead (Maps.lengthened s)
+  step-lead (place i out) = asks-lead (byRules d (place i out) .answered .number)
+  step-lead (reads u v) = asks-lead (byRules d (reads u v) .answered .number)
+  step-lead (weighs u v out) = asks-lead (byRules d (weighs u v out) .answered .number)
+  step-lead (sameAs other) = asks-lead (byRules d (sameAs other) .answered .number)
+  step-lead (sameTo other) = asks-lead (byRules d (sameTo other) .answered .number)
+  step-lead checks = l
+  step-lead (payloads i) = asks-lead (byRules d (payloads i) .answered .number)
+  step-lead (lists out) = asks-lead (byRules d (lists out) .answered .number)
+
+  step-untouched : (k : ℕ) (c : PumpCall) → length (fileOf (byRules d c .next .holds)) ≤ k → drop k (byRules d c .next .bytes) ≡ drop k (d .bytes)
+  step-untouched k (fresh w h) le =
+      ⊎-elim (λ (y : allowedSide w && allowedSide h ≡ true). rw y (puts-untouched d k (freshPlain w h) (rw y at le)))
+      (λ (f : allowedSide w && allowedSide h ≡ false). rw f) (either (allowedSide w && allowedSide h))
+  step-untouched k (set m n v) le = changes-untouched (l .at) k (Maps.set m n v) le
+  step-untouched k (exact s) le = changes-untouched (l .at) k (Maps.exact s) le
+  step-untouched k (lengthened s) le = changes-untouched (l .at) k (Maps.lengthened s) le
+  step-untouched k (place i out) le = refl
+  step-untouched k (reads u v) le = refl
+  step-untouched k (weighs u v out) le = refl
+  step-untouched k (sameAs other) le = refl
+  step-untouched k (sameTo other) le = refl
+  step-untouched k checks le = refl
+  step-untouched k (payloads i) le = refl
+  step-untouched k (lists out) le = refl
+
+-- So do whole lists.
+pub border-from : (cs : List PumpCall) (t : Past) (d : Desk) → Lead t d → BorderFrom t d cs
+border-from [] t d l =
+    record {
+      same-outcomes = refl;
+      same-left = refl;
+      begins = rw (l .at .begins, take-append-seam);
+      untouched = λ k all. refl;
+      history = l .is;
+      demand = demand-three (t .w) (t .h) (l .across) (l .up) (t .calls);
+    }
+border-from (c ∷ cs) t d l =
+    let o = byRules d c in
+    let rest = border-from cs (ifRefused (o .answered .number) t (after t c)) (o .next) (step-lead l c) in
+    record {
+      same-outcomes = rw (step-shown (l .at) c) (ap (λ (os : List (PumpOutcome Buffer)). shown o ∷ os) (rest .same-outcomes));
+      same-left = rw (step-shown (l .at) c) (rest .same-left);
+      begins = rest .begins;
+      untouched = λ k all. rest .untouched k (λ p m. all p (List·Memᴰ·tail m)) ∙ step-untouched l k c (all o (List·Memᴰ·head refl));
+      history = rest .history;
+      demand = rest .demand;
+    }
+
+-- Demand 3 at the border: from an accepted `pump_fresh`.
+pub border-demand : (w h : ℕ) (start : Buffer) → freshNumber w h (start .bytes) ≡ 0 → (cs : List PumpCall) → BorderDemand w h start cs
+unfolding freshMap newNumber newBytes newUsed writeNumber
+border-demand w h start e cs =
+    ⊎-elim (λ (y : allowedSide w && allowedSide h ≡ true). accepted y) (λ (f : allowedSide w && allowedSide h ≡ false). absurd (omega (arith, rw f at e)))
+    (either (allowedSide w && allowedSide h))
+  where
+    accepted : allowedSide w && allowedSide h ≡ true → BorderDemand w h start cs
+    accepted y =
+        let b = and-both (allowedSide w) (allowedSide h) y in
+        let reached = fresh-reached w h (b .0) (b .1) in
+        let g = record-good (reached .holds) in
+        let file = fileOf (freshPlain w h) in
+        let room : ltb (length (start .bytes)) (length file) ≡ false =
+        ⊎-elim (λ (u : ltb (length (start .bytes)) (length file) ≡ true). absurd (omega (arith, rw (y, g .0, g .1, u) at e))) (λ u. u)
+        (either (ltb (length (start .bytes)) (length file))) in
+        record {
+          made = rw (y, g .0, g .1, room);
+          holds =
+              border-from cs (past w h []) (begun w h start)
+              (record {
+                at = record { reached = reached; rest = drop (length file) (start .bytes); begins = refl };
+                across = b .0;
+                up = b .1;
+                is = refl;
+              });
+        }
+
+-- and from a buffer that holds a map's file.
+pub border-file : (start : Buffer) → readFile (lent (start .bytes) (start .used)) .number ≡ 0 → (cs : List PumpCall) → BorderFile start cs
+border-file start e cs =
+    let bytes = lent (start .bytes) (start .used) in
+    let P = readPlain bytes in
+    let reached = read-reached bytes e in
+    let is-file : bytes ≡ fileOf P = accepts bytes .accepted (readFile bytes .map) (λ i. changed (e i) (readFile bytes .map)) .is-file in
+    let long = file-length P (reached .holds .counted) in
+    let in-buffer : leb (start .used) (length (start .bytes)) ≡ true =
+    ⊎-elim (λ t. t) (λ f. let none : _≡_ {A = ℕ} 0 (length (fileOf P)) = ap length (sym (cond-false _ _ _ f) ∙ is-file) in absurd (omega arith))
+    (either (leb (start .used) (length (start .bytes)))) in
+    let front : take (start .used) (start .bytes) ≡ fileOf P = sym (cond-true _ _ _ in-buffer) ∙ is-file in
+    let used : length (fileOf P) ≡ start .used =
+    ap length (sym front) ∙ length-take-le (start .used) (start .bytes) (leb-true _ _ in-buffer) in
+    record {
+      is-lent = λ i. buffer (start .bytes) (used i);
+      holds =
+          border-from cs (past (P .lines .w) (P .lines .h) (fileCalls P)) (desk P (start .bytes))
+          (record {
+            at =
+                record {
+                  reached = reached;
+                  rest = drop (start .used) (start .bytes);
+                  begins = sym (take-append-drop (start .used) (start .bytes)) ∙ ap (λ (l : List ℕ). l ++ drop (start .used) (start .bytes)) front;
+                };
+            across = reached .holds .taken .across;
+            up = reached .holds .taken .up;
+            is = sym (calls-end P reached);
+          });
+    }
