@@ -64,8 +64,8 @@ all-held {P} p small =
       small = λ i. ltb-true _ 65536 (all-places isSmall refl (P .values ++ replicate unused 0) all-small i);
     }
 
--- the map that is handed back, whether or not they are a file
-pub record Read (bytes : List ℕ) : Type 0 where
+-- The map that is handed back, whether or not the bytes are a file, is such a record,
+record Read (bytes : List ℕ) : Type 0 where
   pub of : Plain
   pub holds : Holds of
   pub small : (v : ℕ) → List·Memᴰ v (of .values) → v < 65536
@@ -91,7 +91,7 @@ read-good bytes = let h = read-holds bytes in rw (h .is) (record-good (h .holds)
 pub map-held : (bytes : List ℕ) → Held (readFile bytes .map)
 map-held bytes = let h = read-holds bytes in rw (h .is) (all-held (h .holds) (h .small))
 
--- so it is an opened map
+-- so it is an opened map.
 module _ (bytes : List ℕ) {file : Opened} (is : file ≡ withTable (readFile bytes)) where
   pub read-opens : Opens file
   read-opens = rw is (record { is-good = read-good bytes; is-table = refl })
