@@ -100,7 +100,12 @@ static size_t table(void) {
     return pump_table(now.bytes, now.used, out, sizeof out, &first);
 }
 
-enum { CALLS = 11 };
+/* A buffer that may be too short: the text is measured first. */
+static size_t short_table(void) {
+    return pump_table(now.bytes, now.used, out, sizeof out - 1, &first);
+}
+
+enum { CALLS = 12 };
 
 static const struct {
     const char *name;
@@ -117,6 +122,7 @@ static const struct {
     {"pump_check", check},
     {"pump_payload", payload},
     {"pump_table", table},
+    {"pump_table that measures", short_table},
 };
 
 static size_t (*run)(void);
@@ -163,12 +169,12 @@ static subject subjects[SUBJECTS];
 
 /* What each call gives on each subject, so that the figures are those of the work that is meant. */
 static const size_t want[SUBJECTS][CALLS] = {
-    {0, 0, 0, 0, 0, 0, 0, 0, 0, 0, 0},
-    {0, 0, 4, 4, 0, 0, 0, 0, 0, 0, 0},
-    {0, 0, 0, 0, 0, 0, 0, 0, 0, 0, 0},
-    {0, 0, 0, 0, 0, 0, 0, 0, 0, 0, 0},
-    {0, 11, 11, 11, 11, 11, 11, 11, 11, 0, 11},
-    {0, 11, 11, 11, 11, 11, 11, 11, 11, 11, 11},
+    {0, 0, 0, 0, 0, 0, 0, 0, 0, 0, 0, 0},
+    {0, 0, 4, 4, 0, 0, 0, 0, 0, 0, 0, 0},
+    {0, 0, 0, 0, 0, 0, 0, 0, 0, 0, 0, 0},
+    {0, 0, 0, 0, 0, 0, 0, 0, 0, 0, 0, 0},
+    {0, 11, 11, 11, 11, 11, 11, 11, 11, 0, 11, 11},
+    {0, 11, 11, 11, 11, 11, 11, 11, 11, 11, 11, 11},
 };
 
 static void make_subjects(void) {

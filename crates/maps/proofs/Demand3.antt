@@ -76,7 +76,8 @@ module _ (P : Plain) (at : Reached P) (cs : List Call) where
   any-gentle c i = rw (ending-follows cs P at, step-follows (ending byMachine P cs) end c) (accepted-gentle (ending byMachine P cs) end c i)
 
 -- lists whose lines cover the same points end with the same blends
-same-lines : (P Q : Plain) → Reached P → Reached Q → (cs ds : List Call) → Q .lines .w ≡ P .lines .w → Q .lines .h ≡ P .lines .h → Coarser (meshBy P cs) (meshBy Q ds) → Coarser (meshBy Q ds) (meshBy P cs) →
+same-lines : (P Q : Plain) → Reached P → Reached Q → (cs ds : List Call) → Q .lines .w ≡ P .lines .w → Q .lines .h ≡ P .lines .h →
+    Coarser (meshBy P cs) (meshBy Q ds) → Coarser (meshBy Q ds) (meshBy P cs) →
     blends (ending byMachine Q ds) ≡ blends (ending byMachine P cs)
 same-lines P Q at from cs ds wide tall f g =
     ending-blends ds Q from ∙ ap₂ (λ (w h : ℕ). live w h (meshBy Q ds)) wide tall ∙

@@ -13,7 +13,7 @@ use Rattle.axis.specs.Range.{only}
 use Rattle.mesh.specs.declared.Split.{Split}
 use Rattle.mesh.specs.Lines.{allowedSide}
 use Rattle.maps.specs.Plain.{Plain, freshPlain, blends}
-use Rattle.maps.specs.Values.{inDomain, placeOf, drawn}
+use Rattle.maps.specs.Values.{placeOf, drawn}
 use Rattle.mesh.specs.Splits.{given, exactNumber, containing, candidate, chosen}
 use Rattle.maps.specs.Record.{good}
 use Rattle.maps.specs.Calls.{setPlain}

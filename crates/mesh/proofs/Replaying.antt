@@ -13,7 +13,7 @@ use lib.Seq.{take-suc}
 use Rattle.axis.specs.Range.{all, any, every, only}
 use Rattle.axis.specs.Triple.{inside}
 use Rattle.mesh.specs.Lines.{Direction, upright, level, number, direction, Mesh, start, draws, allowedSide, inRange, mesh, freshMesh, shares, ended, layout, splitsOf}
-use Rattle.mesh.specs.Blends.{along, crossed, cuts, cutter, isCut, leavesOf, refine, firstFour, live, at}
+use Rattle.mesh.specs.Blends.{along, crossed, cuts, isCut, leavesOf, refine, firstFour, live, at}
 use Rattle.mesh.specs.Order.{Uncut, Coarser}
 use Rattle.mesh.specs.Sound.{sound, table, blendsOf, fitted, full, proper}
 use Rattle.mesh.specs.Bytes.{Square, Marked, Idle, stepOn, bytesMesh, keepAll, clearAll, recut, walk, ifRoom, empty, refused}

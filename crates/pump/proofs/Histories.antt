@@ -3,20 +3,19 @@ use Prim.Native.Nat.{ℕ, _+_, _-_, _≤_, _%_}
 use native.Mathlib.Omega.{arith}
 use mathlib.Core.Path.{_≡_, refl, sym, ap, subst, _∙_}
 use mathlib.Core.Logic.{⊎-elim}
-use mathlib.Core.Bool.{Bool, true, false, cond, _&&_}
-use mathlib.Core.List.{List, [], _∷_, _++_}
+use mathlib.Core.Bool.{true, false, _&&_}
+use mathlib.Core.List.{List, [], _++_}
 use borrow.Author.Tests.{le-leb, leb-false}
 use lib.Dec.{leb, ltb}
 use lib.ListN.{length, drop, length-append}
 use lib.Seq.{take-append-seam, drop-append-add, drop-drop}
 use Rattle.axis.proofs.Tests.{either, and-both, cond-true, cond-false}
-use Rattle.mesh.specs.declared.Split.{Split}
 use Rattle.mesh.specs.Lines.{allowedSide}
 use Rattle.maps.specs.declared.Map.{Map}
 use Rattle.maps.specs.declared.Changed.{Changed}
 use Rattle.maps.specs.Plain.{Plain, freshPlain}
 use Rattle.maps.specs.Values.{inDomain}
-use Rattle.maps.specs.Record.{recordOf, plain, good}
+use Rattle.maps.specs.Record.{recordOf, plain}
 use Rattle.maps.specs.Calls.{changed, freshMap, tablePlace, reading, weights, setValue, exactSplit, lengthenedSplit}
 use Rattle.maps.specs.Sameness.{sameness}
 use Rattle.maps.specs.Histories as Maps
