@@ -25,7 +25,7 @@ use Rattle.maps.specs.declared.values.Entry.{Entry}
 use Rattle.maps.specs.declared.values.Four.{Four}
 use Rattle.maps.specs.declared.values.Sum.{Sum}
 use Rattle.maps.specs.Values.{paired, rounded, weightAt}
-use Rattle.maps.specs.Inner.{entriesOver, entries, portion, exact, SumOf}
+use Rattle.maps.specs.Inner.{entriesOver, entries, portion, fractionOf, SumOf}
 use Rattle.maps.proofs.OverSquare.{weight-shares, weight-outside}
 
 -- a sum with one fraction more is exact, and stays small
@@ -33,7 +33,7 @@ module _ (s : Sum) (p d : ℕ) where
   abbrev pub more : Sum
   more = record { whole = s .whole + p / d; top = s .top * d + p % d * s .bottom; bottom = s .bottom * d }
 
-  pub more-exact : exact more ≡ plus (record { num = p; den = d }) (exact s)
+  pub more-exact : fractionOf more ≡ plus (record { num = p; den = d }) (fractionOf s)
   more-exact =
       let n : more .whole * more .bottom + more .top ≡ p * s .bottom + (s .whole * s .bottom + s .top) * d =
       omega (arith, ap (λ (n : ℕ). n * s .bottom) (div-add-mod' p d)) in
@@ -86,14 +86,14 @@ module _ (x y u v : ℕ) (e : End x u) (f : End y v) (values : List ℕ) where
   -- so the parts of the four that are found in a table make the reading
   pub table-over : (w h : ℕ) → w ≤ 128 → h ≤ 128 → (t : Table) → t .count ≤ length (t .blends) → t .count ≤ length values →
       all (proper w h) (blendsOf t) ≡ true → (four : Four) → entries four ≡ entriesOver (overSquare x y) (blendsOf t) 0 →
-      (s : Sum) → 0 < s .bottom → exact s ≡ total (parts x y u v values (entries four)) →
+      (s : Sum) → 0 < s .bottom → fractionOf s ≡ total (parts x y u v values (entries four)) →
       s .whole + s .top / s .bottom ≡ rounded (value (paired (blendsOf t) (take (t .count) values)) u v 1)
   table-over w h hw hh t long full ok four found s positive same =
       let bs = blendsOf t in
       let vs = take (t .count) values in
       let m = length-take-le (t .count) (t .blends) long in
       let n = length-take-le (t .count) values full in
-      sym (rounds-same (value (paired bs vs) u v 1) (exact s) (value-positive w h bs vs ok u v) positive
+      sym (rounds-same (value (paired bs vs) u v 1) (fractionOf s) (value-positive w h bs vs ok u v) positive
       (subst (Equal (value (paired bs vs) u v 1)) (sym (same ∙ ap (λ (es : List Entry). total (parts x y u v values es)) found))
       (value-over bs vs 0 (proper-most w h bs hw hh ok) (omega arith)
       (λ k lt. getD-take (t .count) values k 0 (omega arith) ∙ ap (λ (j : ℕ). getD values j 0) (omega arith)))) ∙

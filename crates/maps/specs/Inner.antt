@@ -102,8 +102,8 @@ abbrev pub entries : Four → List Entry
 entries f = f .first ∷ f .second ∷ f .third ∷ f .fourth ∷ []
 
 -- a blend with its weight at a corner of a square, as `weightOver` has it at a point
-abbrev pub weighed : ℕ → ℕ → ℕ → ℕ → Blend → Weight
-weighed x y u v B =
+abbrev pub weightOfBlend : ℕ → ℕ → ℕ → ℕ → Blend → Weight
+weightOfBlend x y u v B =
     let f = weightAt x y u v B in
     record { blend = shape B; numerator = f .num; denominator = f .den }
 
@@ -118,8 +118,8 @@ abbrev pub portion : ℕ → ℕ → ℕ → ℕ → Blend → ℕ → Fraction
 portion x y u v B c = let f = weightAt x y u v B in record { num = f .num * c; den = f .den }
 
 -- a sum of n such numbers, with the bounds that keep its parts below 2 to the 64
-abbrev pub exact : Sum → Fraction
-exact s = record { num = s .whole * s .bottom + s .top; den = s .bottom }
+abbrev pub fractionOf : Sum → Fraction
+fractionOf s = record { num = s .whole * s .bottom + s .top; den = s .bottom }
 
 pub record SumOf (n : ℕ) (s : Sum) : Type 0 where
   pub positive : 0 < s .bottom

@@ -23,7 +23,7 @@ ghost use Rattle.mesh.specs.Sound.{proper, overSquare, blendsOf};
 ghost use Rattle.axis.specs.Gap.{corner};
 ghost use Rattle.maps.specs.Values.{placeOf, readingAt};
 ghost use Rattle.maps.specs.Calls.{shape, weightOver};
-ghost use Rattle.maps.specs.Inner.{entries, entriesOver, weighed, Light, portion, exact, SumOf};
+ghost use Rattle.maps.specs.Inner.{entries, entriesOver, weightOfBlend, Light, portion, fractionOf, SumOf};
 
 // A blend in document 01's coordinates.
 pub(crate) fn shape_of(x: Blend) -> Shape
@@ -64,7 +64,7 @@ fn is_over(b: Blend, x: usize, y: usize) -> bool
 // A blend over that square with its weight at a corner of the square, at knots (u, v), over the product of the two gaps in which the square lies.
 fn weight_at(b: Blend, x: usize, y: usize, u: usize, v: usize) -> Weight
     requires { ⌜ (proper largestSide largestSide b ≡ true) × (x ≤ u) × (u ≤ x + 1) × (y ≤ v) × (v ≤ y + 1) ⌝ }
-    ensures { λ r. ⌜ (r ≡ weighed x y u v b) × Light r ⌝ }
+    ensures { λ r. ⌜ (r ≡ weightOfBlend x y u v b) × Light r ⌝ }
 {
     let a = b.across;
     let c = b.up;
@@ -115,7 +115,7 @@ struct Sum {
 // 129 times 129, so with at most four of them each number stays below 2 to the 64.
 fn added(s: Sum, b: Blend, value: u16, x: usize, y: usize, u: usize, v: usize) -> Sum
     requires { ⌜ SumOf 3 s × (proper largestSide largestSide b ≡ true) × (x ≤ u) × (u ≤ x + 1) × (y ≤ v) × (v ≤ y + 1) ⌝ }
-    ensures { λ r. ⌜ (exact r ≡ plus (portion x y u v b value) (exact s)) × ((n : ℕ) → SumOf n s → SumOf (n + 1) r) ⌝ }
+    ensures { λ r. ⌜ (fractionOf r ≡ plus (portion x y u v b value) (fractionOf s)) × ((n : ℕ) → SumOf n s → SumOf (n + 1) r) ⌝ }
 {
     let weight = weight_at(b, x, y, u, v);
     let product = weight.numerator * value as usize;

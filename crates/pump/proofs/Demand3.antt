@@ -28,7 +28,7 @@ use Rattle.files.proofs.GoodFiles.{accepts}
 use Rattle.files.proofs.FromFile.{read-reached, calls-end}
 use Rattle.pump.specs.Border.{newNumber, newBytes, newUsed, freshNumber, lent}
 use Rattle.pump.specs.Histories.{PumpCall, fresh, set, exact, lengthened, place, reads, weighs, sameAs, sameTo, checks, payloads, lists, PumpOutcome, Buffer, buffer, Desk, desk, puts, changes, byRules, shown}
-use Rattle.pump.specs.Demand.{Past, past, with, after, BorderFrom, begun, BorderDemand, BorderFile}
+use Rattle.pump.specs.Demand.{Past, past, withChange, pastAfter, BorderFrom, begun, BorderDemand, BorderFile}
 use Rattle.pump.proofs.Histories.{At, puts-untouched, changes-untouched, step-shown}
 
 -- The desk holds what the history of its map leaves.
@@ -41,7 +41,7 @@ pub record Lead (t : Past) (d : Desk) : Type 0 where
 module _ {t : Past} {d : Desk} (l : Lead t d) where
   puts-lead : (Q : Plain) → Reached Q → (new : Past) → allowedSide (new .w) ≡ true → allowedSide (new .h) ≡ true →
       Q ≡ ending byMachine (freshPlain (new .w) (new .h)) (new .calls) →
-      let o = puts d Q in Lead (ifRefused (o .answered .number) t new) (o .next)
+      let o = puts d Q in Lead (ifRefused (o .answer .number) t new) (o .next)
   puts-lead Q reached new a b is =
       ⊎-elim (λ (u : ltb (length (d .bytes)) (length (fileOf Q)) ≡ true). rw u l)
       (λ (u : ltb (length (d .bytes)) (length (fileOf Q)) ≡ false).
@@ -55,20 +55,20 @@ module _ {t : Past} {d : Desk} (l : Lead t d) where
       (either (ltb (length (d .bytes)) (length (fileOf Q))))
 
   changes-lead : (c : Call) →
-      let o = changes d c in Lead (ifRefused (o .answered .number) t (with t c)) (o .next)
+      let o = changes d c in Lead (ifRefused (o .answer .number) t (withChange t c)) (o .next)
   changes-lead c =
       let n = numberOf (byMachine (d .holds) c .answer) in
       ⊎-elim (λ (y : leb 1 n ≡ true). rw (y, y) l)
       (λ (f : leb 1 n ≡ false).
       rw f
-      (puts-lead (byMachine (d .holds) c .next) (step-leads (d .holds) (l .at .reached) c .reached) (with t c) (l .across) (l .up)
+      (puts-lead (byMachine (d .holds) c .next) (step-leads (d .holds) (l .at .reached) c .reached) (withChange t c) (l .across) (l .up)
       (ap (λ (P : Plain). byMachine P c .next) (l .is) ∙ sym (ending-join byMachine (freshPlain (t .w) (t .h)) (t .calls) (c ∷ [])))))
       (either (leb 1 n))
 
   asks-lead : (n : ℕ) → Lead (ifRefused n t t) d
   asks-lead n = ⊎-elim (λ (y : leb 1 n ≡ true). rw y l) (λ (f : leb 1 n ≡ false). rw f l) (either (leb 1 n))
 
-  step-lead : (c : PumpCall) → let o = byRules d c in Lead (ifRefused (o .answered .number) t (after t c)) (o .next)
+  step-lead : (c : PumpCall) → let o = byRules d c in Lead (ifRefused (o .answer .number) t (pastAfter t c)) (o .next)
   step-lead (fresh w h) =
       ⊎-elim
       (λ (y : allowedSide w && allowedSide h ≡ true).
@@ -79,14 +79,14 @@ module _ {t : Past} {d : Desk} (l : Lead t d) where
   step-lead (set m n v) = changes-lead (Maps.set m n v)
   step-lead (exact s) = changes-lead (Maps.exact s)
   step-lead (lengthened s) = changes-lead (Maps.lengthened s)
-  step-lead (place i out) = asks-lead (byRules d (place i out) .answered .number)
-  step-lead (reads u v) = asks-lead (byRules d (reads u v) .answered .number)
-  step-lead (weighs u v out) = asks-lead (byRules d (weighs u v out) .answered .number)
-  step-lead (sameAs other) = asks-lead (byRules d (sameAs other) .answered .number)
-  step-lead (sameTo other) = asks-lead (byRules d (sameTo other) .answered .number)
+  step-lead (place i out) = asks-lead (byRules d (place i out) .answer .number)
+  step-lead (reads u v) = asks-lead (byRules d (reads u v) .answer .number)
+  step-lead (weighs u v out) = asks-lead (byRules d (weighs u v out) .answer .number)
+  step-lead (sameAs other) = asks-lead (byRules d (sameAs other) .answer .number)
+  step-lead (sameTo other) = asks-lead (byRules d (sameTo other) .answer .number)
   step-lead checks = l
-  step-lead (payloads i) = asks-lead (byRules d (payloads i) .answered .number)
-  step-lead (lists out) = asks-lead (byRules d (lists out) .answered .number)
+  step-lead (payloads i) = asks-lead (byRules d (payloads i) .answer .number)
+  step-lead (lists out) = asks-lead (byRules d (lists out) .answer .number)
 
   step-untouched : (k : ℕ) (c : PumpCall) → length (fileOf (byRules d c .next .holds)) ≤ k → drop k (byRules d c .next .bytes) ≡ drop k (d .bytes)
   step-untouched k (fresh w h) le =
@@ -117,7 +117,7 @@ border-from [] t d l =
     }
 border-from (c ∷ cs) t d l =
     let o = byRules d c in
-    let rest = border-from cs (ifRefused (o .answered .number) t (after t c)) (o .next) (step-lead l c) in
+    let rest = border-from cs (ifRefused (o .answer .number) t (pastAfter t c)) (o .next) (step-lead l c) in
     record {
       same-outcomes = rw (step-shown (l .at) c) (ap (λ (os : List (PumpOutcome Buffer)). shown o ∷ os) (rest .same-outcomes));
       same-left = rw (step-shown (l .at) c) (rest .same-left);

@@ -30,7 +30,7 @@ use Rattle.files.specs.Listing.{textNumber}
 use Rattle.files.proofs.GoodFiles.{reads-back}
 use Rattle.files.proofs.ReadMaps.{read-good}
 use Rattle.pump.specs.Border.{newNumber, newBytes, newUsed, lent, placeNumber, placeAfter, weightsNumber, weightsAfter, readingNumber, readingLitres, sameNumber, sameYes}
-use Rattle.pump.specs.Histories.{PumpCall, fresh, set, exact, lengthened, place, reads, weighs, sameAs, sameTo, checks, payloads, lists, answer, outcome, buffer, changing, byBorder, Desk, refuses, puts, changes, byRules, lentBy, shown}
+use Rattle.pump.specs.Histories.{PumpCall, fresh, set, exact, lengthened, place, reads, weighs, sameAs, sameTo, checks, payloads, lists, says, outcome, buffer, changing, byBorder, Desk, refuses, puts, changes, byRules, lentBy, shown}
 
 -- What holds of the desk throughout: its map was reached, and the buffer begins with that map's file.
 pub record At (d : Desk) : Type 0 where
@@ -49,7 +49,7 @@ past-front front bytes k le =
 -- a new map on the desk, or its refusal, is what writing it into the buffer gives
 module _ (d : Desk) where
   new-shown : (n : ℕ) (Q : Plain) → Reached Q → (r : Changed) → r ≡ changed n (recordOf Q) →
-      outcome (answer (newNumber 0 r (d .bytes)) [] []) (buffer (newBytes 0 r (d .bytes)) (newUsed 0 r (d .bytes) (length (fileOf (d .holds))))) ≡
+      outcome (says (newNumber 0 r (d .bytes)) [] []) (buffer (newBytes 0 r (d .bytes)) (newUsed 0 r (d .bytes) (length (fileOf (d .holds))))) ≡
       shown (ifRefused n (refuses d n) (puts d Q))
   unfolding newNumber newBytes newUsed writeNumber
   new-shown n Q at r is =
@@ -119,7 +119,7 @@ module _ {d : Desk} (at : At d) where
   step-shown (weighs u v out) = let g = record-good (at .reached .holds) in rw (is-read, g .0, g .1)
   step-shown (sameAs other) = let g = record-good (at .reached .holds) in rw (is-read, g .0, g .1, read-good other, itself)
   step-shown (sameTo other) = let g = record-good (at .reached .holds) in rw (is-read, g .0, g .1, read-good other, itself)
-  step-shown checks = ap (λ (c : Changed). outcome (answer (c .number) [] []) (lentBy d)) is-read
+  step-shown checks = ap (λ (c : Changed). outcome (says (c .number) [] []) (lentBy d)) is-read
   step-shown (payloads i) = rw is-lent
   step-shown (lists out) = let g = record-good (at .reached .holds) in rw (is-read, g .1)
 

@@ -11,7 +11,7 @@ use Rattle.files.specs.File.{fileOf}
 use Rattle.files.specs.Calls.{ifRefused}
 use Rattle.files.specs.FromFile.{readPlain, fileCalls}
 use Rattle.pump.specs.Border.{lent}
-use Rattle.pump.specs.Histories.{PumpCall, fresh, set, exact, lengthened, place, reads, weighs, sameAs, sameTo, checks, payloads, lists, answer, PumpOutcome, outcome, Buffer, byBorder, Desk, desk, byRules, outcomes, left, lentBy, shown}
+use Rattle.pump.specs.Histories.{PumpCall, fresh, set, exact, lengthened, place, reads, weighs, sameAs, sameTo, checks, payloads, lists, says, PumpOutcome, outcome, Buffer, byBorder, Desk, desk, byRules, outcomes, left, lentBy, shown}
 
 -- The history of the map in the buffer: the sides of the last accepted `pump_fresh`, and the accepted changes since then.
 pub record Past : Type 0 where
@@ -22,26 +22,26 @@ pub record Past : Type 0 where
 abbrev pub past : ℕ → ℕ → List Call → Past
 past w h calls = record { w = w; h = h; calls = calls }
 
-abbrev pub with : Past → Call → Past
-with t c = past (t .w) (t .h) (t .calls ++ c ∷ [])
+abbrev pub withChange : Past → Call → Past
+withChange t c = past (t .w) (t .h) (t .calls ++ c ∷ [])
 
-abbrev pub after : Past → PumpCall → Past
-after t (fresh w h) = past w h []
-after t (set m n v) = with t (Maps.set m n v)
-after t (exact s) = with t (Maps.exact s)
-after t (lengthened s) = with t (Maps.lengthened s)
-after t (place i out) = t
-after t (reads u v) = t
-after t (weighs u v out) = t
-after t (sameAs other) = t
-after t (sameTo other) = t
-after t checks = t
-after t (payloads at) = t
-after t (lists out) = t
+abbrev pub pastAfter : Past → PumpCall → Past
+pastAfter t (fresh w h) = past w h []
+pastAfter t (set m n v) = withChange t (Maps.set m n v)
+pastAfter t (exact s) = withChange t (Maps.exact s)
+pastAfter t (lengthened s) = withChange t (Maps.lengthened s)
+pastAfter t (place i out) = t
+pastAfter t (reads u v) = t
+pastAfter t (weighs u v out) = t
+pastAfter t (sameAs other) = t
+pastAfter t (sameTo other) = t
+pastAfter t checks = t
+pastAfter t (payloads at) = t
+pastAfter t (lists out) = t
 
 abbrev pub pastBy : Past → Desk → List PumpCall → Past
 pastBy t d [] = t
-pastBy t d (c ∷ cs) = let o = byRules d c in pastBy (ifRefused (o .answered .number) t (after t c)) (o .next) cs
+pastBy t d (c ∷ cs) = let o = byRules d c in pastBy (ifRefused (o .answer .number) t (pastAfter t c)) (o .next) cs
 
 -- The demand on a list of `pump_` calls on one buffer, refused ones and fresh maps among them: t is the history of the map that is in the buffer before
 -- it, d what the machine then holds.
@@ -64,7 +64,7 @@ begun w h start = let file = fileOf (freshPlain w h) in desk (freshPlain w h) (f
 
 -- From `pump_fresh`, where it is accepted.
 pub record BorderDemand (w h : ℕ) (start : Buffer) (cs : List PumpCall) : Type 0 where
-  pub made : byBorder start (fresh w h) ≡ outcome (answer 0 [] []) (lentBy (begun w h start))
+  pub made : byBorder start (fresh w h) ≡ outcome (says 0 [] []) (lentBy (begun w h start))
   pub holds : BorderFrom (past w h []) (begun w h start) cs
 
 -- From a buffer that holds a map's file, with the calls that the file stands for as the history of its map.

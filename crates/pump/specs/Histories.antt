@@ -38,16 +38,16 @@ pub record PumpAnswer : Type 0 where
   pub numbers : List ℕ
   pub out : List ℕ
 
-abbrev pub answer : ℕ → List ℕ → List ℕ → PumpAnswer
-answer n numbers out = record { number = n; numbers = numbers; out = out }
+abbrev pub says : ℕ → List ℕ → List ℕ → PumpAnswer
+says n numbers out = record { number = n; numbers = numbers; out = out }
 
 -- a call's answer, and the buffer, or what the machine holds, for the next call
 pub record PumpOutcome (State : Type 0) : Type 0 where
-  pub answered : PumpAnswer
+  pub answer : PumpAnswer
   pub next : State
 
 abbrev pub outcome : {State : Type 0} → PumpAnswer → State → PumpOutcome State
-outcome a s = record { answered = a; next = s }
+outcome a s = record { answer = a; next = s }
 
 -- The lent buffer: its bytes, and how many of them are the map's file.
 pub record Buffer : Type 0 where
@@ -61,25 +61,25 @@ buffer bytes used = record { bytes = bytes; used = used }
 -- sameness with the map in the buffer first (`sameAs`) or second (`sameTo`). A value is a 16-bit number: what is left of the given one by 65,536.
 abbrev pub changing : (Map → Changed) → Buffer → PumpOutcome Buffer
 changing call b =
-    outcome (answer (changeNumber call (b .bytes) (b .used)) [] []) (buffer (changeBytes call (b .bytes) (b .used)) (changeUsed call (b .bytes) (b .used)))
+    outcome (says (changeNumber call (b .bytes) (b .used)) [] []) (buffer (changeBytes call (b .bytes) (b .used)) (changeUsed call (b .bytes) (b .used)))
 
 abbrev pub asking : Buffer → (List ℕ → PumpAnswer) → PumpOutcome Buffer
 asking b question = outcome (question (lent (b .bytes) (b .used))) b
 
 abbrev pub byBorder : Buffer → PumpCall → PumpOutcome Buffer
 byBorder b (fresh w h) =
-    outcome (answer (freshNumber w h (b .bytes)) [] []) (buffer (freshBytes w h (b .bytes)) (freshUsed w h (b .bytes) (b .used)))
+    outcome (says (freshNumber w h (b .bytes)) [] []) (buffer (freshBytes w h (b .bytes)) (freshUsed w h (b .bytes) (b .used)))
 byBorder b (set m n v) = changing (λ old. setValue old m n (v % 65536)) b
 byBorder b (exact s) = changing (λ old. exactSplit old s) b
 byBorder b (lengthened s) = changing (λ old. lengthenedSplit old s) b
-byBorder b (place i out) = asking b (λ file. answer (placeNumber file i out) [] (placeAfter file i out))
-byBorder b (reads u v) = asking b (λ file. answer (readingNumber file u v) (readingLitres file u v ∷ []) [])
-byBorder b (weighs u v out) = asking b (λ file. answer (weightsNumber file u v out) [] (weightsAfter file u v out))
-byBorder b (sameAs other) = asking b (λ file. answer (sameNumber file other) (sameYes file other ∷ []) [])
-byBorder b (sameTo other) = asking b (λ file. answer (sameNumber other file) (sameYes other file ∷ []) [])
-byBorder b checks = asking b (λ file. answer (checkNumber file) [] [])
-byBorder b (payloads at) = asking b (λ file. answer (payloadNumber file at) (payloadFrom file at ∷ payloadCount file at ∷ []) [])
-byBorder b (lists out) = asking b (λ file. answer (textNumber file out) (textWritten file out .length ∷ []) (textAfter file out))
+byBorder b (place i out) = asking b (λ file. says (placeNumber file i out) [] (placeAfter file i out))
+byBorder b (reads u v) = asking b (λ file. says (readingNumber file u v) (readingLitres file u v ∷ []) [])
+byBorder b (weighs u v out) = asking b (λ file. says (weightsNumber file u v out) [] (weightsAfter file u v out))
+byBorder b (sameAs other) = asking b (λ file. says (sameNumber file other) (sameYes file other ∷ []) [])
+byBorder b (sameTo other) = asking b (λ file. says (sameNumber other file) (sameYes other file ∷ []) [])
+byBorder b checks = asking b (λ file. says (checkNumber file) [] [])
+byBorder b (payloads at) = asking b (λ file. says (payloadNumber file at) (payloadFrom file at ∷ payloadCount file at ∷ []) [])
+byBorder b (lists out) = asking b (λ file. says (textNumber file out) (textWritten file out .length ∷ []) (textAfter file out))
 
 -- The plain machine at the border: it holds what the record of a map holds, and what the buffer's bytes are to be. It refuses or answers by the rules,
 -- on what it holds.
@@ -91,13 +91,13 @@ abbrev pub desk : Plain → List ℕ → Desk
 desk P bytes = record { holds = P; bytes = bytes }
 
 abbrev pub refuses : Desk → ℕ → PumpOutcome Desk
-refuses d n = outcome (answer n [] []) d
+refuses d n = outcome (says n [] []) d
 
 -- A new map: 12 where the buffer is shorter than its file, else the file in front, and "Bytes after a written file stay."
 abbrev pub puts : Desk → Plain → PumpOutcome Desk
 puts d Q =
     cond (ltb (length (d .bytes)) (length (fileOf Q))) (refuses d 12)
-    (outcome (answer 0 [] []) (desk Q (fileOf Q ++ drop (length (fileOf Q)) (d .bytes))))
+    (outcome (says 0 [] []) (desk Q (fileOf Q ++ drop (length (fileOf Q)) (d .bytes))))
 
 -- A change of the map, as the plain machine of maps makes it; its refusals come before 12.
 abbrev pub changes : Desk → Call → PumpOutcome Desk
@@ -109,11 +109,11 @@ changes d c =
 -- An answer of so many bytes: the call's refusal, then 12 where fewer are lent for it.
 abbrev pub tells : Desk → ℕ → List ℕ → ℕ → List ℕ → PumpOutcome Desk
 tells d refused bytes size out =
-    let n = ifRefused refused refused (shortOf size out) in outcome (answer n [] (answered n bytes out)) d
+    let n = ifRefused refused refused (shortOf size out) in outcome (says n [] (answered n bytes out)) d
 
 -- Sameness with a map that is read: 11 where its bytes are no file, and then "no", which is 0.
 abbrev pub compares : Desk → ℕ → Bool → PumpOutcome Desk
-compares d n agree = outcome (answer n (ifRefused n 0 (cond agree 1 0) ∷ []) []) d
+compares d n agree = outcome (says n (ifRefused n 0 (cond agree 1 0) ∷ []) []) d
 
 abbrev pub byRules : Desk → PumpCall → PumpOutcome Desk
 byRules d (fresh w h) = cond (allowedSide w && allowedSide h) (puts d (freshPlain w h)) (refuses d 1)
@@ -121,18 +121,18 @@ byRules d (set m n v) = changes d (Maps.set m n v)
 byRules d (exact s) = changes d (Maps.exact s)
 byRules d (lengthened s) = changes d (Maps.lengthened s)
 byRules d (place i out) = let p = placeOn (d .holds) i in tells d (p .number) (placeBytes p) 14 out
-byRules d (reads u v) = let r = readingOn (d .holds) u v in outcome (answer (r .number) (r .litres ∷ []) []) d
+byRules d (reads u v) = let r = readingOn (d .holds) u v in outcome (says (r .number) (r .litres ∷ []) []) d
 byRules d (weighs u v out) = let w = weightsOn (d .holds) u v in tells d (w .number) (weightsBytes w) 64 out
 byRules d (sameAs other) = let f = readFile other in compares d (f .number) (samePlain (d .holds) (plain (f .map)))
 byRules d (sameTo other) = let f = readFile other in compares d (f .number) (samePlain (plain (f .map)) (d .holds))
-byRules d checks = outcome (answer 0 [] []) d
+byRules d checks = outcome (says 0 [] []) d
 byRules d (payloads at) =
     let file = fileOf (d .holds) in
-    outcome (answer (payloadNumber file at) (payloadFrom file at ∷ payloadCount file at ∷ []) []) d
+    outcome (says (payloadNumber file at) (payloadFrom file at ∷ payloadCount file at ∷ []) []) d
 byRules d (lists out) =
     let text = tableText (d .holds) in
     let n = shortOf (length text) out in
-    outcome (answer n (ifRefused n 0 (length text) ∷ []) (answered n text out)) d
+    outcome (says n (ifRefused n 0 (length text) ∷ []) (answered n text out)) d
 
 -- a list of calls: the outcomes in order, and what is left in the end
 abbrev pub outcomes : {State : Type 0} → (State → PumpCall → PumpOutcome State) → State → List PumpCall → List (PumpOutcome State)
@@ -148,4 +148,4 @@ abbrev pub lentBy : Desk → Buffer
 lentBy d = buffer (d .bytes) (length (fileOf (d .holds)))
 
 abbrev pub shown : PumpOutcome Desk → PumpOutcome Buffer
-shown o = outcome (o .answered) (lentBy (o .next))
+shown o = outcome (o .answer) (lentBy (o .next))

@@ -6,7 +6,7 @@ use mathlib.Core.Path.{ap, _∙_}
 use Prim.Native.Nat.{ℕ, _+_, _*_, _≤_}
 use Rattle.axis.specs.Fraction.{plus}
 use Rattle.maps.specs.declared.Weight.{Weight}
-use Rattle.maps.specs.Inner.{SumOf, exact}
+use Rattle.maps.specs.Inner.{SumOf, fractionOf}
 use Rattle.maps.proofs.Adding.{more, more-exact, more-small}
 use Rattle.maps.proofs.values.added.Statement.{statement}
 use Rattle.maps.proofs.values.added.Tie as tie
@@ -28,7 +28,7 @@ returns c =
     let a = k .before .args in
     let w = k .weight-at in (
       more-exact (a .s) (w .result .numerator * a .value) (w .result .denominator) ∙
-          ap (λ (r : Weight). plus (record { num = r .numerator * a .value; den = r .denominator }) (exact (a .s))) (w .ensures .0),
+          ap (λ (r : Weight). plus (record { num = r .numerator * a .value; den = r .denominator }) (fractionOf (a .s))) (w .ensures .0),
       sum k,
     )
 
