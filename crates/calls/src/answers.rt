@@ -218,7 +218,7 @@ fn question(call: Call, map: Opened, line: &[u8], out: &mut [u8], at: &mut usize
 }
 
 // Answers one line, and hands back the map for the next.
-pub fn answer(map: Opened, line: &[u8], out: &mut [u8], at: &mut usize) -> Opened
+pub(crate) fn answer(map: Opened, line: &[u8], out: &mut [u8], at: &mut usize) -> Opened
     requires { ⌜ Opens map ⌝ }
     ensures { λ r. ⌜ Opens r ⌝ }
 {
@@ -235,7 +235,7 @@ pub fn answer(map: Opened, line: &[u8], out: &mut [u8], at: &mut usize) -> Opene
 }
 
 // Answers the end of a line whose start was too long to keep: no call is that long.
-pub fn answer_rest(rest: &[u8], out: &mut [u8], at: &mut usize) {
+pub(crate) fn answer_rest(rest: &[u8], out: &mut [u8], at: &mut usize) {
     show::text(rest, out, at);
     no_call(out, at);
 }
