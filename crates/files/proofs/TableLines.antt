@@ -16,7 +16,7 @@ use Rattle.axis.specs.Triple.{Rises}
 use Rattle.mesh.specs.declared.Table.{Table}
 use Rattle.mesh.specs.Sound.{none, Proper}
 use Rattle.axis.proofs.Tests.{either}
-use Rattle.files.specs.Inner.{WellFormed, terms, tabled, Puts}
+use Rattle.files.specs.Inner.{WellFormed, terms, textFrom, Puts}
 use Rattle.files.specs.Listing.{digits, spaced, numberLine, knots, line}
 use Rattle.files.proofs.Putting.{put-none, put-length}
 use Rattle.files.proofs.Terms.{term, terms-length, terms-at, terms-rise}
@@ -119,8 +119,8 @@ row-most entry most (x ∷ xs) short =
 -- so a table's text has at most 6 + 42 × 1,024 bytes
 module _ (t : Table) (values : List ℕ) (ok : WellFormed t) (places : length (t .blends) ≡ 1024) (full : length values ≡ 1024)
     (words : (i : ℕ) → getD values i 0 < 65536) where
-  pub tabled-most : length (tabled t values) ≤ 65536
-  tabled-most =
+  pub text-from-most : length (textFrom t values) ≤ 65536
+  text-from-most =
       let first = number-line-short (t .count) (omega (arith, ok .few)) in
       let rows = row-most line 42 (terms t values) each-short in
       rw length-append (omega (arith, first, rows, terms-length t values ok places full, ok .few))

@@ -18,14 +18,14 @@ use Rattle.mesh.proofs.BlendTables.{table-blends, table-count}
 use Rattle.maps.proofs.Changing.{GoodMap, live-table}
 use Rattle.files.proofs.Filing.{ready}
 use Rattle.files.proofs.ReadMaps.{map-held, read-map}
-use Rattle.files.proofs.TableLines.{tabled-most}
+use Rattle.files.proofs.TableLines.{text-from-most}
 use Rattle.files.specs.declared.Written.{Written}
 use Rattle.files.specs.Calls.{readFile, shortOf, counted, answered}
-use Rattle.files.specs.Inner.{tabled, Puts}
+use Rattle.files.specs.Inner.{textFrom, Puts}
 use Rattle.files.specs.Listing.{tableText, largestText, textOf, textNumber, textWritten, textAfter}
 
 -- an opened map's table has the map's text
-pub opened-text : {m : Map} {t : Table} → GoodMap m t → tabled t (m .values) ≡ tableText (plain m)
+pub opened-text : {m : Map} {t : Table} → GoodMap m t → textFrom t (m .values) ≡ tableText (plain m)
 unfolding plain
 opened-text g = rw (live-table g, table-blends, table-count)
 
@@ -37,13 +37,13 @@ module _ {m : Map} {t : Table} (g : GoodMap m t) (out : List ℕ) where
       let n = shortOf (length text) out in
       (_≡_ {A = Written} (record { number = number; length = long }) (counted n text)) × (left ≡ answered n text out)
 
-  pub text-short : leb (length (tabled t (m .values))) (length out) ≡ false → outcome 12 0 out
-  text-short f = let s = lt-ltb _ _ (rw (opened-text g) at (leb-false (length (tabled t (m .values))) (length out) f)) in (rw s, rw s)
+  pub text-short : leb (length (textFrom t (m .values))) (length out) ≡ false → outcome 12 0 out
+  text-short f = let s = lt-ltb _ _ (rw (opened-text g) at (leb-false (length (textFrom t (m .values))) (length out) f)) in (rw s, rw s)
 
-  pub text-put : leb (length (tabled t (m .values))) (length out) ≡ true → {left : List ℕ} {long : ℕ} → Puts out 0 (tabled t (m .values)) left long →
+  pub text-put : leb (length (textFrom t (m .values))) (length out) ≡ true → {left : List ℕ} {long : ℕ} → Puts out 0 (textFrom t (m .values)) left long →
       outcome 0 long left
   text-put room q =
-      let s = le-ltb _ _ (rw (opened-text g) at (leb-true (length (tabled t (m .values))) (length out) room)) in
+      let s = le-ltb _ _ (rw (opened-text g) at (leb-true (length (textFrom t (m .values))) (length out) room)) in
       let p = rw (opened-text g) at q in
       (rw (s, p .ends, zero-add), rw (s, p .is, zero-add))
 
@@ -74,4 +74,4 @@ pub text-most : (bytes : List ℕ) → length (textOf bytes) ≤ largestText
 text-most bytes =
     let g = read-map bytes refl in
     let h = map-held bytes in
-    rw (← opened-text g) (tabled-most _ _ (ready g .well-formed) (all-places g) (h .values) (h .small))
+    rw (← opened-text g) (text-from-most _ _ (ready g .well-formed) (all-places g) (h .values) (h .small))

@@ -32,8 +32,8 @@ filed m t =
     head (m .lines .w) (m .lines .h) ++ joined splitEntry (take (m .lines .count) (m .lines .splits)) ++ joined valueEntry (terms t (m .values)) ++ tail
 
 -- the text of a table with the values that an array begins with
-abbrev pub tabled : Table → List ℕ → List ℕ
-tabled t values = numberLine (t .count) ++ joined line (terms t values)
+abbrev pub textFrom : Table → List ℕ → List ℕ
+textFrom t values = numberLine (t .count) ++ joined line (terms t values)
 
 -- a text is put over bytes from a place on, and `next` is the place after it
 pub record Puts (before : List ℕ) (at : ℕ) (text after : List ℕ) (next : ℕ) : Type 0 where

@@ -14,7 +14,7 @@ ghost use lib.ListN.{length};
 ghost use Rattle.mesh.specs.Sound.{Proper};
 ghost use Rattle.maps.specs.Record.{plain};
 ghost use Rattle.maps.specs.Opened.{Opens};
-ghost use Rattle.files.specs.Inner.{WellFormed, Puts, tabled};
+ghost use Rattle.files.specs.Inner.{WellFormed, Puts, textFrom};
 ghost use Rattle.files.specs.Calls.{shortOf, counted, answered};
 ghost use Rattle.files.specs.Listing.{digits, coordinate, spaced, numberLine, knots, line, tableText, textWritten, textAfter};
 
@@ -112,8 +112,8 @@ fn wide(x: u16) -> usize
 
 // Puts the number of a table's blends, then a line for each.
 fn put_table(out: &mut [u8], table: Table, values: [u16; Table::MOST_BLENDS]) -> usize
-    requires { ⌜ WellFormed table × (length (tabled table values) ≤ length (now out)) ⌝ }
-    ensures { λ r. ⌜ Puts (now (out .entry)) 0 (tabled table values) (now (out .exit)) r ⌝ }
+    requires { ⌜ WellFormed table × (length (textFrom table values) ≤ length (now out)) ⌝ }
+    ensures { λ r. ⌜ Puts (now (out .entry)) 0 (textFrom table values) (now (out .exit)) r ⌝ }
 {
     let count = table.count;
     let mut at = put_number_line(out, 0, count);
@@ -139,7 +139,7 @@ fn line_size(blend: Blend, value: usize) -> usize
 // How many bytes the text of a table has.
 fn text_size(table: Table, values: [u16; Table::MOST_BLENDS]) -> usize
     requires { ⌜ WellFormed table ⌝ }
-    ensures { λ r. ⌜ r ≡ length (tabled table values) ⌝ }
+    ensures { λ r. ⌜ r ≡ length (textFrom table values) ⌝ }
 {
     let count = table.count;
     let mut bytes = [0u8; LONGEST_LINE];
@@ -157,7 +157,7 @@ fn text_size(table: Table, values: [u16; Table::MOST_BLENDS]) -> usize
 // Whether so many bytes hold the text of a table. It is measured only where they may be too few.
 fn fits(table: Table, values: [u16; Table::MOST_BLENDS], room: usize) -> bool
     requires { ⌜ WellFormed table ⌝ }
-    ensures { λ r. ⌜ r ≡ leb (length (tabled table values)) room ⌝ }
+    ensures { λ r. ⌜ r ≡ leb (length (textFrom table values)) room ⌝ }
 {
     if LARGEST_TEXT <= room {
         return true;

@@ -33,6 +33,7 @@ pub data Answer : Type 0 where
   weighed : Weights → Answer
   told : Same → Answer
 
+-- the number of an answer
 abbrev pub numberOf : Answer → ℕ
 numberOf (number n) = n
 numberOf (placed p) = p .number

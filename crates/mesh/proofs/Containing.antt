@@ -14,7 +14,7 @@ use Rattle.axis.proofs.Tests.{and-both, and-of, only-mem, mem-only, each-mem, m
 use Rattle.axis.proofs.Distinct.{each-ordered, only-ordered, first-before}
 use Rattle.mesh.specs.declared.Split.{Split}
 use Rattle.mesh.specs.Lines.{Layout}
-use Rattle.mesh.specs.Splits.{reaching, run, containing, Contains, stepsOf, Shorter, candidate, chosen, Least}
+use Rattle.mesh.specs.Splits.{reaching, run, containing, Contains, stepsOf, Precedes, candidate, chosen, Least}
 
 module _ (P : Layout) (s : Split) where
   -- the line of a length from a start, where it reaches the given end and not past the side; the lines of a length
@@ -90,10 +90,10 @@ module _ (P : Layout) (s : Split) where
   steps-reaching : (from n : ℕ) (c : Split) → c ≡ reaching s from n → (stepsOf c ≡ n) × (c .from ≡ from)
   steps-reaching from n c is = rw is (omega arith, refl)
 
-  pub containing-ordered : Ordered Shorter (containing P s)
+  pub containing-ordered : Ordered Precedes (containing P s)
   unfolding containing
   containing-ordered =
-      each-ordered Shorter 0 (run P s + 1) (λ n. each 0 (s .from + 1) (line n)) by-start
+      each-ordered Precedes 0 (run P s + 1) (λ n. each 0 (s .from + 1) (line n)) by-start
       (λ j k b c lt hi mb mc.
       let x = row-says j b mb in
       let y = row-says k c mc in
@@ -101,10 +101,10 @@ module _ (P : Layout) (s : Split) where
       let q : stepsOf c ≡ k = steps-reaching (y .0) k c (y .1) .0 in
       inl (omega arith))
     where
-      by-start : (n : ℕ) → Ordered Shorter (each 0 (s .from + 1) (line n))
+      by-start : (n : ℕ) → Ordered Precedes (each 0 (s .from + 1) (line n))
       by-start n =
-          each-ordered Shorter 0 (s .from + 1) (line n)
-          (λ from. only-ordered Shorter reaches (reaching s from n ∷ []) (λ y m. absurd (List·Memᴰ·not-nil m), tt))
+          each-ordered Precedes 0 (s .from + 1) (line n)
+          (λ from. only-ordered Precedes reaches (reaching s from n ∷ []) (λ y m. absurd (List·Memᴰ·not-nil m), tt))
           (λ j k b c lt hi mb mc.
           let x = steps-reaching j n b (line-says n j b mb .0) in
           let y = steps-reaching k n c (line-says n k c mc .0) in
@@ -130,7 +130,7 @@ chosen-least P s rises =
           (listed-contains P s c (o .0), o .1);
       first = λ b c m i ok.
           let e = first-one passed c m in
-          first-before Shorter c (e .0) (rw (e .1) at (only-ordered Shorter (candidate P) (containing P s) (containing-ordered P s))) b
+          first-before Precedes c (e .0) (rw (e .1) at (only-ordered Precedes (candidate P) (containing P s) (containing-ordered P s))) b
           (rw (e .1) at (there b i ok));
       some = λ b i ok. begins passed b (there b i ok);
     }

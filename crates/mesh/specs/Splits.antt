@@ -70,11 +70,13 @@ pub record Contains (P : Layout) (s c : Split) : Type 0 where
   pub ends : s .to ≤ c .to
   pub within : c .to ≤ run P s
 
+-- how many unit steps a line has; its ends rise, so nothing is cut off
 abbrev pub stepsOf : Split → ℕ
 stepsOf c = c .to - c .from
 
-abbrev pub Shorter : Split → Split → Type 0
-Shorter b c = (stepsOf b < stepsOf c) ⊎ ((stepsOf b ≡ stepsOf c) × (b .from < c .from))
+-- a line comes before another: it is shorter, or as long and starts lower
+abbrev pub Precedes : Split → Split → Type 0
+Precedes b c = (stepsOf b < stepsOf c) ⊎ ((stepsOf b ≡ stepsOf c) × (b .from < c .from))
 
 -- those that "have both ends on crossing lines, overlap nothing at their position by more than a point and leave a sound map"
 unfoldable pub candidate : Layout → Split → Bool
@@ -88,5 +90,5 @@ chosen P s = take 1 (only (candidate P) (containing P s))
 -- higher; where no line is taken, there is none.
 pub record Least (P : Layout) (s : Split) : Type 0 where
   pub taken : (c : Split) → List·Memᴰ c (chosen P s) → Contains P s c × (candidate P c ≡ true)
-  pub first : (b c : Split) → List·Memᴰ c (chosen P s) → Contains P s b → candidate P b ≡ true → (b ≡ c) ⊎ Shorter c b
+  pub first : (b c : Split) → List·Memᴰ c (chosen P s) → Contains P s b → candidate P b ≡ true → (b ≡ c) ⊎ Precedes c b
   pub some : (b : Split) → Contains P s b → candidate P b ≡ true → (c : Split) × (chosen P s ≡ c ∷ [])

@@ -8,14 +8,14 @@ use lib.Dec.{leb}
 use lib.ListN.{length}
 use mir.Syntax.{w16}
 use Rattle.mesh.proofs.BlendTables.{table-full}
-use Rattle.files.specs.Inner.{tabled}
-use Rattle.files.proofs.TableLines.{tabled-most}
+use Rattle.files.specs.Inner.{textFrom}
+use Rattle.files.proofs.TableLines.{text-from-most}
 use Rattle.files.proofs.listing.fits.Statement.{statement}
 use Rattle.files.proofs.listing.fits.Tie as tie
 
-most : (c : tie.Start) → length (tabled (c .args .table) (c .args .values)) ≤ 65536
+most : (c : tie.Start) → length (textFrom (c .args .table) (c .args .values)) ≤ 65536
 most c =
-    tabled-most (c .args .table) (c .args .values) (c .pre) (table-full (c .args .table) (c .good .0)) (c .good .1 .0 .1 .0 .1)
+    text-from-most (c .args .table) (c .args .values) (c .pre) (table-full (c .args .table) (c .good .0)) (c .good .1 .0 .1 .0 .1)
     (λ i. elem-fits w16 w16 (c .args .values) _ i (c .good .1 .0 .1 .1) tt .fits)
 
 returns : tie.Need-returns

@@ -7,7 +7,7 @@ use lib.ListN.{length, getD}
 use Rattle.mesh.proofs.BlendTables.{table-full}
 use Rattle.mesh.specs.Sound.{none}
 use Rattle.axis.specs.Range.{joined}
-use Rattle.files.specs.Inner.{terms, tabled}
+use Rattle.files.specs.Inner.{terms, textFrom}
 use Rattle.files.specs.Listing.{numberLine, line}
 use Rattle.files.proofs.Terms.{term, terms-length, terms-at}
 use Rattle.files.proofs.Texts.{first-room, next-room, puts-then}
@@ -28,7 +28,7 @@ counted : (c : tie.Start Inv-loop μ-loop) → length (terms (c .args .t2) (c .a
 counted c = terms-length (c .args .t2) (c .args .t3) (c .pre .0) (places c) (c .good .1 .1 .0 .1 .0 .1)
 
 -- there is room for the first line, and for all others after it
-whole : (c : tie.Start Inv-loop μ-loop) → 0 + length (tabled (c .args .t2) (c .args .t3)) ≤ length (c .args .out .now)
+whole : (c : tie.Start Inv-loop μ-loop) → 0 + length (textFrom (c .args .t2) (c .args .t3)) ≤ length (c .args .out .now)
 whole c = omega (arith, c .pre .1)
 
 room : (c : tie.After-put-number-line Inv-loop μ-loop) →

@@ -9,10 +9,10 @@ use mir.Syntax.{w16}
 use Rattle.axis.specs.Range.{joined}
 use Rattle.mesh.specs.Sound.{none}
 use Rattle.mesh.proofs.BlendTables.{table-full}
-use Rattle.files.specs.Inner.{terms, tabled}
+use Rattle.files.specs.Inner.{terms, textFrom}
 use Rattle.files.specs.Listing.{numberLine, line}
 use Rattle.files.proofs.Terms.{term, terms-length, terms-at, terms-rise}
-use Rattle.files.proofs.TableLines.{number-line-short, Sized, sized-more, sized-most, sized-done, tabled-most}
+use Rattle.files.proofs.TableLines.{number-line-short, Sized, sized-more, sized-most, sized-done, text-from-most}
 use Rattle.files.proofs.listing.text_size.Statement.{statement}
 use Rattle.files.proofs.listing.text_size.Tie as tie
 
@@ -25,9 +25,9 @@ abbrev μ-loop : tie.MeasureT-loop
 places : (c : tie.Start Inv-loop μ-loop) → length (c .args .t1 .blends) ≡ 1024
 places c = table-full (c .args .t1) (c .good .0)
 
-most : (c : tie.Start Inv-loop μ-loop) → length (tabled (c .args .t1) (c .args .t2)) ≤ 65536
+most : (c : tie.Start Inv-loop μ-loop) → length (textFrom (c .args .t1) (c .args .t2)) ≤ 65536
 most c =
-    tabled-most (c .args .t1) (c .args .t2) (c .pre) (places c) (c .good .1 .0 .1 .0 .1)
+    text-from-most (c .args .t1) (c .args .t2) (c .pre) (places c) (c .good .1 .0 .1 .0 .1)
     (λ i. elem-fits w16 w16 (c .args .t2) _ i (c .good .1 .0 .1 .1) tt .fits)
 
 counted : (c : tie.Start Inv-loop μ-loop) → length (terms (c .args .t1) (c .args .t2)) ≡ c .args .t1 .count
@@ -37,7 +37,7 @@ counted c = terms-length (c .args .t1) (c .args .t2) (c .pre) (places c) (c .goo
 total : (c : tie.At-loop Inv-loop μ-loop) →
     let first = c .before .before in
     let a = first .before .before .args in
-    first .put-number-line .result + length (joined line (terms (a .t1) (a .t2))) ≡ length (tabled (a .t1) (a .t2))
+    first .put-number-line .result + length (joined line (terms (a .t1) (a .t2))) ≡ length (textFrom (a .t1) (a .t2))
 total c = rw (c .before .before .put-number-line .ensures .ends, zero-add) (sym (length-append (numberLine _) _))
 
 -- the line in hand is the next one
