@@ -246,16 +246,16 @@ module _ {n : ℕ} (K : Multiple n) where
   pub scaled-off : (t : Triple) (z : ℕ) → between z t ≡ false → scaledHat K t z 1 ≡ 0
   scaled-off t z e = scaled-outside t z 1 (knot z t (not-between z t e))
 
-  -- on the domain of side w the first two hats add up to one
-  pub first-two : (w : ℕ) → 1 ≤ w → w + 2 ≤ n → (p d : ℕ) → d ≤ p → p ≤ (w + 1) * d →
-      scaledHat K (low w) p d + scaledHat K (high w) p d ≡ K .all * d
-  first-two w side within p d le ge =
+  -- On the domain of side w the first two hats, times what a straight line a + b x is at the two ends, add up to it; without a slope, to a.
+  pub first-straight : (w : ℕ) → 1 ≤ w → w + 2 ≤ n → (p d : ℕ) → d ≤ p → p ≤ (w + 1) * d → (a b : ℕ) →
+      a * scaledHat K (low w) p d + (a + b * w) * scaledHat K (high w) p d ≡ K .all * (a * d + b * (p - d))
+  first-straight w side within p d le ge a b =
       let f = hat-falls (low w) (rise-of (first-rises w side (low w) is-low)) (omega arith) p d (omega arith) in
       let r = hat-rises (high w) (rise-of (first-rises w side (high w) is-high)) within p d ge in
-      rw (f, r) (both (K .part (w + 1 - 1)) (w + 1 - 1) (K .all) ((w + 1) * d - p) (p - 1 * d) d (K .parts _ (omega arith) (omega arith)) (run (w + 1 - 1) (omega arith)))
+      let one : w + 1 - 1 ≡ w = omega arith in
+      let start : p - 1 * d ≡ p - d = omega arith in
+      rw (f, r, one, start)
+      (both (K .part w) w (K .all) ((w + 1) * d - p) (p - d) (K .parts w (omega arith) (omega arith)) (omega arith))
     where
-      run : (g : ℕ) → g ≡ w → ((w + 1) * d - p) + (p - 1 * d) ≡ g * d
-      run g e = omega (arith, ap (λ (x : ℕ). x * d) e)
-
-      both : (c g K u v d : ℕ) → c * g ≡ K → u + v ≡ g * d → c * u + c * v ≡ K * d
-      both c g K u v d e s = omega (arith, ap (λ (x : ℕ). c * x) s, ap (λ (x : ℕ). x * d) e)
+      both : (c g K u v : ℕ) → c * g ≡ K → u + v ≡ g * d → a * (c * u) + (a + b * g) * (c * v) ≡ K * (a * d + b * v)
+      both c g K u v e s = omega (arith, ap (λ (x : ℕ). a * c * x) s, ap (λ (x : ℕ). x * (a * d + b * v)) e)

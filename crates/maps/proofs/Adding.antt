@@ -11,7 +11,7 @@ use lib.ListN.{length, getD, take}
 use lib.Seq.{length-take-le, getD-take}
 use Rattle.axis.specs.Fraction.{Fraction, Equal, plus, times, whole, total}
 use Rattle.axis.specs.Range.{all}
-use Rattle.axis.proofs.Tests.{either, and-both, cond-true, cond-false}
+use Rattle.axis.proofs.Tests.{either, and-both, all-at, cond-true, cond-false}
 use Rattle.axis.proofs.Sums.{multiple-equal, plus-equal, plus-nothing, rounds-same}
 use Rattle.axis.proofs.Gaps.{End}
 use Rattle.mesh.specs.declared.Blend.{Blend}
@@ -20,12 +20,12 @@ use Rattle.mesh.specs.Weight.{weight, value}
 use Rattle.mesh.specs.Sound.{overSquare, proper, blendsOf}
 use Rattle.mesh.proofs.Cuts.{proper-facts}
 use Rattle.mesh.proofs.BlendTables.{proper-most}
-use Rattle.mesh.proofs.Weights.{weight-den}
 use Rattle.maps.specs.declared.values.Entry.{Entry}
 use Rattle.maps.specs.declared.values.Four.{Four}
 use Rattle.maps.specs.declared.values.Sum.{Sum}
 use Rattle.maps.specs.Values.{paired, rounded, weightAt}
 use Rattle.maps.specs.Inner.{entriesOver, entries, portion, fractionOf, SumOf}
+use Rattle.maps.proofs.ExactSums.{value-positive}
 use Rattle.maps.proofs.OverSquare.{weight-shares, weight-outside}
 
 -- a sum with one fraction more is exact, and stays small
@@ -48,14 +48,6 @@ module _ (s : Sum) (p d : ℕ) where
         rest = omega (arith, mul-le-mul-right d (sum .rest), mul-le-mul-right (s .bottom) (le-of-lt (mod-lt p positive)));
         most = omega (arith, sum .most, div-le-self p d);
       }
-
--- a sum over proper blends has a denominator
-pub value-positive : (w h : ℕ) (bs : List Blend) (vs : List ℕ) → all (proper w h) bs ≡ true → (u v : ℕ) → 0 < value (paired bs vs) u v 1 .den
-value-positive w h [] vs e u v = omega arith
-value-positive w h (B ∷ bs) [] e u v = omega arith
-value-positive w h (B ∷ bs) (c ∷ vs) e u v =
-    let p = and-both (proper w h B) (all (proper w h) bs) e in
-    mul-pos (mul-pos (omega arith) (weight-den w h B (p .0) u v 1 (omega arith))) (value-positive w h bs vs (p .1) u v)
 
 -- the values of some entries times their weights
 abbrev pub parts : ℕ → ℕ → ℕ → ℕ → List ℕ → List Entry → List Fraction
@@ -93,7 +85,7 @@ module _ (x y u v : ℕ) (e : End x u) (f : End y v) (values : List ℕ) where
       let vs = take (t .count) values in
       let m = length-take-le (t .count) (t .blends) long in
       let n = length-take-le (t .count) values full in
-      sym (rounds-same (value (paired bs vs) u v 1) (fractionOf s) (value-positive w h bs vs ok u v) positive
+      sym (rounds-same (value (paired bs vs) u v 1) (fractionOf s) (value-positive w h bs vs (all-at (proper w h) bs ok) u v 1 (omega arith)) positive
       (subst (Equal (value (paired bs vs) u v 1)) (sym (same ∙ ap (λ (es : List Entry). total (parts x y u v values es)) found))
       (value-over bs vs 0 (proper-most w h bs hw hh ok) (omega arith)
       (λ k lt. getD-take (t .count) values k 0 (omega arith) ∙ ap (λ (j : ℕ). getD values j 0) (omega arith)))) ∙

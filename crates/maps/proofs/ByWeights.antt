@@ -1,7 +1,6 @@
 -- A reading is the sum of the values of the weights' four blends times their weights.
 use Prim.Native.Nat.{ℕ, suc, _+_, _*_, _≤_, _<_}
 use native.Mathlib.Omega.{arith}
-use native.Mathlib.Nat.{mul-pos}
 use mathlib.Core.Path.{_≡_, refl, sym, ap, ap₂, subst, _∙_}
 use mathlib.Core.Logic.{⊎-elim}
 use mathlib.Core.Bool.{Bool, true, _&&_}
@@ -16,6 +15,7 @@ use Rattle.axis.proofs.Tests.{either, and-of, all-at, all-of}
 use Rattle.axis.proofs.Gaps.{corner-end}
 use Rattle.axis.proofs.Members.{map-mem}
 use Rattle.axis.proofs.Sums.{rounds-same}
+use Rattle.axis.proofs.Scale.{total-positive}
 use Rattle.mesh.specs.declared.Blend.{Blend}
 use Rattle.mesh.specs.Lines.{meshOf}
 use Rattle.mesh.specs.Sound.{none, proper, overSquare}
@@ -33,9 +33,10 @@ use Rattle.maps.specs.Calls.{shape, tablePlace, reading, weights, weight
 use Rattle.maps.specs.ByWeights.{products, ByWeights}
 use Rattle.maps.specs.Inner.{entriesOver}
 use Rattle.maps.proofs.OverSquare.{entries-only, entry-in, denominator-positive}
-use Rattle.maps.proofs.Adding.{parts, value-positive, value-over}
+use Rattle.maps.proofs.ExactSums.{value-positive}
+use Rattle.maps.proofs.Adding.{parts, value-over}
 use Rattle.maps.proofs.GoodRecords.{Holds, record-good, replays-sides, good-facts}
-use Rattle.maps.proofs.Tabled.{place-listed}
+use Rattle.maps.proofs.Answers.{place-listed, reading-in}
 
 -- an entry's blend stands at its place
 entry-blend : (test : Blend → Bool) (all bs : List Blend) (i : ℕ) → ((k : ℕ) → k < length bs → getD all (i + k) none ≡ getD bs k none) →
@@ -45,11 +46,6 @@ entry-blend test all (B ∷ bs) i same a m =
     let here : getD all i none ≡ B = ap (λ (k : ℕ). getD all k none) (omega arith) ∙ same 0 (omega arith) in
     let later = entry-blend test all bs (i + 1) (λ k lt. ap (λ (j : ℕ). getD all j none) (omega arith) ∙ same (suc k) (omega arith)) a in
     ⊎-elim (λ t. ⊎-elim (λ q. rw q here) later (List·Memᴰ·cases-cons (rw t at m))) (λ t. later (rw t at m)) (either (test B))
-
--- a sum of fractions with denominators has one
-total-positive : (fs : List Fraction) → ((f : Fraction) → List·Memᴰ f fs → 0 < f .den) → 0 < total fs .den
-total-positive [] ok = omega arith
-total-positive (f ∷ fs) ok = mul-pos (ok f (List·Memᴰ·head refl)) (total-positive fs (λ g m. ok g (List·Memᴰ·tail m)))
 
 -- entries whose blends and values the table call gives: the blends and the products of the weights answer are theirs
 module _ (m : Map) (w h u v : ℕ) (values : List ℕ) where
@@ -101,24 +97,18 @@ module _ {P : Plain} (holds : Holds P) (u v : ℕ) (uw : u ≤ P .lines .w) (vh 
   unfolding weights
   the-weights = rw (record-good holds .0, record-good holds .1, in-domain, entries-only test (blends P) 0)
 
-  the-reading : reading (recordOf P) u v ≡ record { number = 0; litres = readingAt (blends P) (P .values) u v }
-  unfolding reading
-  the-reading = rw (record-good holds .0, record-good holds .1, in-domain)
-
   summed : readingAt (blends P) (P .values) u v ≡
       rounded (total (parts (corner w u + 1) (corner h v + 1) (u + 1) (v + 1) (P .values) found))
   unfolding readingAt weightAt
   summed =
       let s = replays-sides (holds .taken) in
-      let ok = all-of (proper w h) (blends P) (live-proper w h (s .0) (s .2) (meshOf (P .lines))) in
-      let most = proper-most w h (blends P) (s .1) (s .3) ok in
-      rounds-same _ _ (value-positive w h (blends P) (P .values) ok (u + 1) (v + 1))
-      (total-positive (parts (corner w u + 1) (corner h v + 1) (u + 1) (v + 1) (P .values) found)
-      (λ f m.
-      let r = map-mem _ found f m in
-      let B = r .0 .blend in
-      let facts = proper-facts 128 128 B (all-at (proper 128 128) (blends P) most B (entry-in test (blends P) 0 (r .0) (r .1) .1)) in
-      rw (r .2) (denominator-positive B facts (corner w u + 1) (corner h v + 1))))
+      let ok = live-proper w h (s .0) (s .2) (meshOf (P .lines)) in
+      let most = proper-most w h (blends P) (s .1) (s .3) (all-of (proper w h) (blends P) ok) in
+      rounds-same _ _ (value-positive w h (blends P) (P .values) ok (u + 1) (v + 1) 1 (omega arith))
+      (total-positive _ found
+      (λ a m.
+      let facts = proper-facts 128 128 (a .blend) (all-at (proper 128 128) (blends P) most (a .blend) (entry-in test (blends P) 0 a m .1)) in
+      denominator-positive (a .blend) facts (corner w u + 1) (corner h v + 1)))
       (value-over (corner w u + 1) (corner h v + 1) (u + 1) (v + 1) (corner-end w u (corner w u) (s .0) uw refl)
       (corner-end h v (corner h v) (s .2) vh refl) (P .values) (blends P) (P .values) 0 most (sym (holds .counted))
       (λ k lt. ap (λ (j : ℕ). getD (P .values) j 0) (omega arith)))
@@ -132,7 +122,7 @@ module _ {P : Plain} (holds : Holds P) (u v : ℕ) (uw : u ≤ P .lines .w) (vh 
             rw (r .2) (ap (λ (p : Placed). p .number) (told (r .0) (r .1)));
         same-blends = told-blends (recordOf P) w h u v (P .values) found told ∙ sym (ap (map (λ (e : Weight). e .blend)) the-weights);
         is-sum =
-            the-reading ∙
+            reading-in P holds u v uw vh ∙
             ap (λ (n : ℕ). record { number = 0; litres = n })
             (summed ∙
             ap (λ (fs : List Fraction). rounded (total fs))

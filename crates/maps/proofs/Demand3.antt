@@ -7,6 +7,7 @@ use mathlib.Core.Bool.{true, cond}
 use mathlib.Core.List.{List, [], _∷_, _++_}
 use borrow.Author.Tests.{eqb-true, eqb-false}
 use lib.Dec.{eqb}
+use lib.IntN.{ℤ}
 use Rattle.mesh.specs.declared.Split.{Split}
 use Rattle.mesh.specs.Lines.{allowedSide}
 use Rattle.mesh.specs.Blends.{live}
@@ -14,12 +15,14 @@ use Rattle.mesh.specs.declared.Blend.{Blend}
 use Rattle.mesh.specs.Order.{Coarser}
 use Rattle.axis.proofs.Tests.{either, and-of, same-test, cond-true}
 use Rattle.mesh.proofs.Order.{same-steps}
+use Rattle.maps.specs.declared.Map.{Map}
 use Rattle.maps.specs.Plain.{Plain, freshPlain, blends}
 use Rattle.mesh.specs.Splits.{given, exactNumber, chosen}
 use Rattle.maps.specs.Values.{drawn}
 use Rattle.maps.specs.Record.{recordOf, plain}
 use Rattle.maps.specs.Calls.{freshMap}
 use Rattle.maps.specs.Histories.{Call, number, Outcome, outcome, firstDrawn, byLibrary, byMachine, ending}
+use Rattle.maps.specs.Straight.{ValuesStraight}
 use Rattle.maps.specs.Demand.{leftBy, Tabled, Gentle, IsSplit, exact-split, lengthened-split, linesBy, meshBy, DemandFrom, Demand3}
 use Rattle.maps.proofs.GoodRecords.{record-good}
 use Rattle.maps.proofs.ChosenLine.{chosen-exact}
@@ -28,6 +31,7 @@ use Rattle.maps.proofs.Following.{step-follows, outcomes-follow, ending
 use Rattle.maps.proofs.Tabled.{tabled-once, holds-tabled}
 use Rattle.maps.proofs.Squares.{valued-four, valued-sum}
 use Rattle.maps.proofs.Gentle.{split-gentle}
+use Rattle.maps.proofs.Straight.{reads-straight, carried-straight}
 
 -- The blends after a list of calls are those of its lines.
 ending-blends : (cs : List Call) (P : Plain) → Reached P → blends (ending byMachine P cs) ≡ live (P .lines .w) (P .lines .h) (meshBy P cs)
@@ -55,11 +59,12 @@ module _ (P : Plain) (at : Reached P) where
       let f = first-accepts s (r .0) (chosen (P .lines) s) refl (sym (ap (λ (o : Outcome Plain). o .answer) (r .1)) ∙ e) in
       (f .0, f .1, ap (λ (o : Outcome Plain). o .next) (r .1) ∙ f .2)
 
-  -- and so does to readings what such a split does.
-  accepted-gentle : (c : Call) → IsSplit c → byMachine P c .answer ≡ number 0 → Gentle (recordOf P) (recordOf (byMachine P c .next))
-  accepted-gentle c i e =
+  -- and so does to the map what such a split does.
+  accepted-does : (Does : Map → Map → Type 0) → ((s : Split) → exactNumber (P .lines) s ≡ 0 → Does (recordOf P) (recordOf (drawn P s))) →
+      (c : Call) → IsSplit c → byMachine P c .answer ≡ number 0 → Does (recordOf P) (recordOf (byMachine P c .next))
+  accepted-does Does drawing c i e =
       let r = split-accepts c i e in
-      subst (λ (N : Plain). Gentle (recordOf P) (recordOf N)) (sym (r .2)) (split-gentle P at (r .0) (r .1))
+      subst (λ (N : Plain). Does (recordOf P) (recordOf N)) (sym (r .2)) (drawing (r .0) (r .1))
 
 -- A list of calls, from a map that was reached:
 module _ (P : Plain) (at : Reached P) (cs : List Call) where
@@ -72,8 +77,12 @@ module _ (P : Plain) (at : Reached P) (cs : List Call) where
   end-lines : plain (leftBy P cs) .lines .splits ≡ P .lines .splits ++ linesBy P cs
   end-lines = rw (ending-follows cs P at, record-good (end .holds) .1) (ending-leads cs P at .more)
 
-  any-gentle : (c : Call) → IsSplit c → let m = leftBy P cs in byLibrary m c .answer ≡ number 0 → Gentle m (byLibrary m c .next)
-  any-gentle c i = rw (ending-follows cs P at, step-follows (ending byMachine P cs) end c) (accepted-gentle (ending byMachine P cs) end c i)
+  any-split : (Does : Map → Map → Type 0) →
+      ((Q : Plain) → Reached Q → (s : Split) → exactNumber (Q .lines) s ≡ 0 → Does (recordOf Q) (recordOf (drawn Q s))) →
+      (c : Call) → IsSplit c → let m = leftBy P cs in byLibrary m c .answer ≡ number 0 → Does m (byLibrary m c .next)
+  any-split Does drawing c i =
+      rw (ending-follows cs P at, step-follows (ending byMachine P cs) end c)
+      (accepted-does (ending byMachine P cs) end Does (drawing (ending byMachine P cs) end) c i)
 
 -- lists whose lines cover the same points end with the same blends
 same-lines : (P Q : Plain) → Reached P → Reached Q → (cs ds : List Call) → Q .lines .w ≡ P .lines .w → Q .lines .h ≡ P .lines .h →
@@ -100,10 +109,13 @@ reached-demand P at cs =
       are-tabled = end-tabled P at cs;
       four-in = λ x y hx hy. valued-four Q (leads .reached .valued) x y (rw (leads .wide) hx) (rw (leads .tall) hy);
       add-up = λ p q d pos hp hq. valued-sum Q (leads .reached .valued) p q d pos (rw (leads .wide) hp) (rw (leads .tall) hq);
-      gentle = λ earlier c later e i. any-gentle P at earlier c i;
+      gentle = λ earlier c later e. any-split P at earlier Gentle split-gentle c;
       are-lines = end-lines P at cs;
       same-blends = λ R start wide tall ds f g bs tabled.
           tabled-once (both-tabled P R at (start-reached R start) wide tall cs ds f g bs tabled) (end-tabled P at cs);
+      straight = reads-straight Q (leads .reached) (leftBy P cs) (P .lines .w) (P .lines .h) (ending-follows cs P at) (leads .wide) (leads .tall);
+      stays-straight = λ earlier c later e.
+          any-split P at earlier (λ m n. (A B C D : ℤ) → ValuesStraight m A B C D → ValuesStraight n A B C D) carried-straight c;
     }
 
 -- and so of every list on a fresh map.

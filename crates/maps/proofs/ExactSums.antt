@@ -108,6 +108,11 @@ pub paired-of : (bs : List Blend) (vs : List ℕ) (t : Term) → List·Memᴰ t 
 paired-of (B ∷ bs) (v ∷ vs) t m =
     ⊎-elim (λ q. List·Memᴰ·head (ap (λ (t : Term). t .of) q)) (λ m. List·Memᴰ·tail (paired-of bs vs t m)) (List·Memᴰ·cases-cons m)
 
+-- a sum over proper blends has a denominator
+pub value-positive : (w h : ℕ) (bs : List Blend) (vs : List ℕ) → AllProper w h bs → (p q d : ℕ) → 0 < d → 0 < value (paired bs vs) p q d .den
+value-positive w h bs vs ok p q d pos =
+    total-positive _ (paired bs vs) (λ t m. mul-pos (omega arith) (weight-den w h (t .of) (ok (t .of) (paired-of bs vs t m)) p q d pos))
+
 -- A reading, multiplied out.
 module _ (w h : ℕ) where
   -- a number that every gap between knots divides; weights are multiplied by its square
@@ -139,8 +144,7 @@ module _ (w h : ℕ) where
   unfolding readingAt scale part
   reading-rounds bs vs ok u v =
       scaled-rounded scale (value (paired bs vs) (u + 1) (v + 1) 1) (exact bs vs (u + 1) (v + 1)) scale-positive
-      (total-positive _ (paired bs vs)
-      (λ t m. mul-pos (omega arith) (weight-den w h (t .of) (ok (t .of) (paired-of bs vs t m)) (u + 1) (v + 1) 1 (omega arith))))
+      (value-positive w h bs vs ok (u + 1) (v + 1) 1 (omega arith))
       (scaled-value K w h (omega arith) (omega arith) (paired bs vs) (λ t m. ok (t .of) (paired-of bs vs t m)) (u + 1) (v + 1) 1)
 
   -- The live blends of a sound map:

@@ -17,6 +17,9 @@ pub mod Changing
 pub mod Opening
 pub mod Rebuilding
 pub mod Squares
+pub mod Answers
 pub mod Tabled
+pub mod Integers
+pub mod Straight
 pub mod ByWeights
 pub mod StaysOpened

@@ -1,25 +1,22 @@
 -- The blends that the table calls give: those that the map holds, and no others.
-use Prim.Native.Nat.{ℕ, _≤_, _<_}
+use Prim.Native.Nat.{ℕ, _<_}
 use native.Mathlib.Omega.{arith}
 use mathlib.Core.Path.{_≡_, sym, ap, _∙_}
-use mathlib.Core.Bool.{cond}
 use mathlib.Core.List.{List}
-use borrow.Author.Tests.{lt-ltb, le-ltb}
-use lib.Dec.{ltb}
 use lib.IntN.{pos, sucℤ, predℤ, suc-pred}
-use lib.ListN.{length, getD}
+use lib.ListN.{length}
 use lib.Seq.{ext-getD}
 use Rattle.mesh.specs.declared.Blend.{Blend}
 use Rattle.mesh.specs.Sound.{none}
-use Rattle.axis.proofs.Tests.{cond-true, cond-false}
 use Rattle.maps.specs.declared.Map.{Map}
 use Rattle.maps.specs.declared.Shape.{Shape}
 use Rattle.maps.specs.declared.Placed.{Placed}
 use Rattle.maps.specs.Plain.{Plain, blends}
 use Rattle.maps.specs.Record.{recordOf}
-use Rattle.maps.specs.Calls.{shape, noShape, tablePlace}
+use Rattle.maps.specs.Calls.{shape}
 use Rattle.maps.specs.Demand.{Tabled}
-use Rattle.maps.proofs.GoodRecords.{Holds, record-good}
+use Rattle.maps.proofs.GoodRecords.{Holds}
+use Rattle.maps.proofs.Answers.{place-listed, place-none}
 
 -- a shape shows the blend
 knot-shown : (a b : ℕ) → predℤ (pos a) ≡ predℤ (pos b) → a ≡ b
@@ -45,22 +42,7 @@ tabled-once {m} {bs} {cs} p q =
     ext-getD none bs cs (omega (arith, no-shorter p q, no-shorter q p))
     (λ i lt. shape-shows _ _ (sym (p .listed i lt .1) ∙ q .listed i (omega (arith, no-shorter q p)) .1))
 
--- What a table place answers, on the record of a map,
-module _ (P : Plain) (holds : Holds P) (i : ℕ) where
-  place-answers : tablePlace (recordOf P) i ≡ cond (ltb i (length (blends P)))
-      (record { number = 0; blend = shape (getD (blends P) i none); value = getD (P .values) i 0 })
-      (record { number = 9; blend = noShape; value = 0 })
-  unfolding tablePlace
-  place-answers = rw (record-good holds .0, record-good holds .1)
-
-  pub place-listed : i < length (blends P) →
-      tablePlace (recordOf P) i ≡ record { number = 0; blend = shape (getD (blends P) i none); value = getD (P .values) i 0 }
-  place-listed lt = place-answers ∙ cond-true _ _ _ (lt-ltb _ _ lt)
-
-  pub place-none : length (blends P) ≤ i → tablePlace (recordOf P) i .number ≡ 9
-  place-none le = ap (λ (r : Placed). r .number) (place-answers ∙ cond-false _ _ _ (le-ltb _ _ le))
-
--- so they give its live blends.
+-- They give its live blends.
 pub holds-tabled : (P : Plain) → Holds P → Tabled (recordOf P) (blends P)
 holds-tabled P holds =
     record {

@@ -4,7 +4,7 @@ use mathlib.Core.Path.{_≡_}
 use mathlib.Core.Bool.{true, cond}
 use mathlib.Core.List.{List, [], _∷_, _++_, map, List·Memᴰ}
 use lib.Dec.{eqb}
-use lib.IntN.{pos}
+use lib.IntN.{ℤ, pos}
 use lib.ListN.{length, getD}
 use Rattle.mesh.specs.declared.Split.{Split}
 use Rattle.mesh.specs.declared.Blend.{Blend}
@@ -19,6 +19,7 @@ use Rattle.mesh.specs.Splits.{given, exactNumber, chosen}
 use Rattle.maps.specs.Record.{recordOf, plain}
 use Rattle.maps.specs.Calls.{changed, freshMap, shape, tablePlace, reading}
 use Rattle.maps.specs.Histories.{Call, set, exact, lengthened, place, reads, weighs, sameAs, number, Outcome, outcome, byLibrary, byMachine, outcomes, ending}
+use Rattle.maps.specs.Straight.{ValuesStraight, ReadsStraight}
 use Rattle.axis.specs.Range.{Distinct}
 
 -- "A history starts from the fresh map of sides W and H": what the map holds at the start of a list.
@@ -126,6 +127,13 @@ pub record DemandFrom (P : Plain) (cs : List Call) : Type 0 where
   pub same-blends : (Q : Plain) → Start Q → Q .lines .w ≡ P .lines .w → Q .lines .h ≡ P .lines .h → (ds : List Call) →
       Coarser (meshBy P cs) (meshBy Q ds) → Coarser (meshBy Q ds) (meshBy P cs) →
       (bs : List Blend) → Tabled (leftBy Q ds) bs → bs ≡ blends
+  -- Document 02, L1: where the value at each anchor (m, n), as the table calls give them after the list, is A + B × m + C × n + D × m × n, the reading at
+  -- every whole point (u, v) of the domain is A + B × u + C × v + D × u × v.
+  pub straight : (A B C D : ℤ) → ValuesStraight (leftBy P cs) A B C D → ReadsStraight (leftBy P cs) blends (P .lines .w) (P .lines .h) A B C D
+  -- "however the map was split": an accepted split in the list, wherever it stands, leaves such values such, those at new anchors among them.
+  pub stays-straight : (earlier : List Call) (c : Call) (later : List Call) → cs ≡ earlier ++ c ∷ later → IsSplit c →
+      let m = leftBy P earlier in byLibrary m c .answer ≡ number 0 →
+      (A B C D : ℤ) → ValuesStraight m A B C D → ValuesStraight (byLibrary m c .next) A B C D
 
 -- Demand 3, of a list of calls on a map of sides w and h: "A history starts from the fresh map of sides W and H."
 pub record Demand3 (w h : ℕ) (cs : List Call) : Type 0 where

@@ -5,6 +5,7 @@ pub mod Calls
 pub mod Opened
 pub mod Sameness
 pub mod Histories
+pub mod Straight
 pub mod Demand
 pub mod Inner
 pub mod Cases

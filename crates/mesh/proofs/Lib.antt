@@ -9,6 +9,7 @@ pub mod Ascending
 pub mod Live
 pub mod Fresh
 pub mod Weights
+pub mod Straight
 pub mod SoundMaps
 pub mod AtMost
 pub mod Quadrants

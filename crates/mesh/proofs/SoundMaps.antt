@@ -13,7 +13,7 @@ use Rattle.mesh.specs.Blends.{live, leavesOf, firstFour, cuts}
 use Rattle.mesh.specs.Order.{Comes, Uncut, Cutting}
 use Rattle.mesh.specs.Sound.{proper, overSquare, fourEverywhere, noneNested, sound}
 use Rattle.mesh.specs.Weight.{Term, weight, value, interpolated}
-use Rattle.axis.specs.Fraction.{total, Equal}
+use Rattle.axis.specs.Fraction.{times, whole, total, Equal}
 use Rattle.mesh.specs.declared.Blend.{Blend}
 use Rattle.axis.proofs.Tests.{and-both, every-at}
 use Rattle.mesh.proofs.Order.{cut-or-not, LeftOf, SameMembers, any-order, comes-trans}
@@ -21,7 +21,8 @@ use Rattle.mesh.proofs.Cuts.{proper-facts, proper-rises}
 use Rattle.mesh.proofs.Places.{sound-own}
 use Rattle.mesh.proofs.Ascending.{OwnAnchors}
 use Rattle.mesh.proofs.Live.{AllProper, refine-left, left-refine, refine-leaves, refine-proper, refine-distinct}
-use Rattle.mesh.proofs.Weights.{square-positive, own-anchor, other-anchor, Covered, CoveredTerms, reproduced, adds-up}
+use Rattle.mesh.proofs.Weights.{square-positive, own-anchor, other-anchor, Covered, CoveredTerms, reproduced}
+use Rattle.mesh.proofs.Straight.{straight, atAnchor, flow-kept, adds-up}
 use Rattle.mesh.proofs.Fresh.{first-proper, firstFour-rises}
 
 module _ (w h : ℕ) (hw : 1 ≤ w) (hh : 1 ≤ h) (M : Mesh) where
@@ -53,6 +54,9 @@ module _ (w h : ℕ) (hw : 1 ≤ w) (hh : 1 ≤ h) (M : Mesh) where
   pub before-live : (B C : Blend) → List·Memᴰ B (firstFour w h) → Comes M B C → Covered M (live w h M) C
   before-live B C m c D l = live-left D .1 (B, m, record { comes = comes-trans c (l .comes); uncut = l .uncut })
 
+  first-covered : (B : Blend) → List·Memᴰ B (firstFour w h) → Covered M (live w h M) B
+  first-covered B m C l = live-left C .1 (B, m, l)
+
   decide : (B : Blend) → proper w h B ≡ true → Uncut M B ⊎ ((d : Direction) × (z : ℕ) × (cuts M d z B ≡ true))
   decide B p = cut-or-not M B (proper-rises w h B p)
 
@@ -69,8 +73,12 @@ module _ (w h : ℕ) (hw : 1 ≤ w) (hh : 1 ≤ h) (M : Mesh) where
     -- at every point of the domain with coordinates p / d, q / d the weights add up to exactly one;
     pub weights-add-up : (p q d : ℕ) → 0 < d → p ≤ w * d → q ≤ h * d →
         let sum = total (map (λ (C : Blend). weight C (p + d) (q + d) d) (live w h M)) in (sum .num ≡ sum .den) × (0 < sum .den)
-    weights-add-up =
-        adds-up M w h (live w h M) decide live-distinct apart live-proper (λ B m C l. live-left C .1 (B, m, l)) hw hh
+    weights-add-up = adds-up M w h (live w h M) decide live-distinct apart live-proper first-covered hw hh
+
+    -- and a straight flow a + b u + c v + e u v, the four numbers whole and from 0, is the sum of its values at the anchors times the weights;
+    pub live-straight : (a b c e p q d : ℕ) → 0 < d → p ≤ w * d → q ≤ h * d →
+        Equal (total (map (λ (C : Blend). times (whole (atAnchor a b c e C)) (weight C (p + d) (q + d) d)) (live w h M))) (record { num = straight a b c e p q d; den = d * d })
+    live-straight = flow-kept M w h (live w h M) decide live-distinct apart live-proper first-covered hw hh
 
     -- the same four blends are positive throughout the inside of a unit square, every other one nowhere in it;
     pub four-positive : (x y : ℕ) → x < w → y < h →

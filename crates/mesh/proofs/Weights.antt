@@ -1,30 +1,28 @@
--- Weights of blends: what they are at anchors and over unit squares; blends are reproduced by what is left of them, and all that is left of the first four
--- adds up to one.
+-- Weights of blends: what they are at anchors and over unit squares; blends are reproduced by what is left of them.
 use Prim.Native.Nat.{ℕ, zero, suc, _+_, _*_, _<_, _≤_}
 use native.Mathlib.Omega.{arith}
-use native.Mathlib.Nat.{mul-pos, eq-of-mul-eq-mul-left, one-mul}
-use mathlib.Core.Path.{_≡_, refl, sym, ap, subst, _∙_}
+use native.Mathlib.Nat.{mul-pos, eq-of-mul-eq-mul-left}
+use mathlib.Core.Path.{_≡_, refl, sym, ap, _∙_}
 use mathlib.Core.Logic.{_⊎_, _↔_, inl, inr, ⊎-elim}
 use mathlib.Core.Bool.{true, false, _&&_, not}
-use mathlib.Core.List.{List, [], _∷_, map, List·Memᴰ}
+use mathlib.Core.List.{List, [], _∷_, List·Memᴰ}
 use borrow.Author.Tests.{not-false}
-use Rattle.axis.specs.Fraction.{Fraction, times, whole, total, Equal}
+use Rattle.axis.specs.Fraction.{times, whole, Equal}
 use Rattle.axis.specs.Triple.{hat, Side, lower, upper, spans, between}
 use Rattle.mesh.specs.Lines.{Direction, upright, level, Mesh}
-use Rattle.mesh.specs.Blends.{crossed, cuts, halve, size, same, firstFour}
+use Rattle.mesh.specs.Blends.{crossed, cuts, halve, size, same}
 use Rattle.mesh.specs.Order.{Left, Uncut}
 use Rattle.mesh.specs.Sound.{proper, overSquare, noneNested}
 use Rattle.mesh.specs.Weight.{weight, Term, value, interpolated}
 use Rattle.mesh.specs.declared.Blend.{Blend}
 use Rattle.axis.proofs.Tests.{and-both, and-of, and-fails}
 use Rattle.axis.specs.Range.{Distinct}
-use Rattle.axis.proofs.Scale.{Multiple, common, Scaled, scaled-times, scaled-total, scaled-more, scaled-multiple, scaled-equal, scaled-one, total-positive, sum, sum-same, sum-zero, sum-multiple, sum-linear, sum-single}
-use Rattle.axis.proofs.Hats.{hat-den, hat-middle, hat-off, step-positive, scaledHat, scaled-hat, two-scale, scaled-middle, scaled-off, first-two}
+use Rattle.axis.proofs.Scale.{Multiple, common, Scaled, scaled-times, scaled-total, scaled-more, scaled-multiple, scaled-equal, sum, sum-zero, sum-multiple, sum-linear, sum-single}
+use Rattle.axis.proofs.Hats.{hat-den, hat-middle, hat-off, step-positive, scaledHat, scaled-hat, two-scale, scaled-middle, scaled-off}
 use Rattle.axis.proofs.Triples.{Inside, rise-of}
 use Rattle.mesh.proofs.Cuts.{proper-facts, proper-of, proper-rises, halve-proper, halve-smaller, size-positive, cut-fact, same-blend}
 use Rattle.mesh.proofs.Order.{left-front, left-itself}
 use Rattle.mesh.proofs.Places.{unnested}
-use Rattle.mesh.proofs.Fresh.{first-proper}
 
 -- a proper blend
 module _ (w h : ℕ) (B : Blend) (ok : proper w h B ≡ true) where
@@ -88,7 +86,7 @@ times-left a b c f g k u e = omega (arith, ap (λ (x : ℕ). u * x) e)
 at-one : (k : ℕ) → k * 1 * (k * 1) ≡ k * k
 at-one k = omega arith
 
-scale-positive : (k d : ℕ) → 0 < k → 0 < d → 0 < k * d * (k * d)
+pub scale-positive : (k d : ℕ) → 0 < k → 0 < d → 0 < k * d * (k * d)
 scale-positive k d k-pos d-pos = mul-pos (mul-pos k-pos d-pos) (mul-pos k-pos d-pos)
 
 -- A blend's weight, multiplied by (all * d) * (all * d); and a sum of multiples of weights.
@@ -122,14 +120,17 @@ module _ {n : ℕ} (K : Multiple n) (L : List Blend) where
       join : (K f g k sf sg sk : ℕ) → a * f ≡ b * g + c * k → K * g ≡ sg → K * k ≡ sk → a * sf ≡ b * sg + c * sk → a * (K * f) ≡ a * sf
       join K f g k sf sg sk e eg ek es = omega (arith, ap (λ (x : ℕ). K * x) e, ap (λ (x : ℕ). b * x) eg, ap (λ (x : ℕ). c * x) ek)
 
-  -- a reproduced function that is one at all anchors is the sum of the weights
-  pub reproduced-one : (f : ℕ → ℕ → ℕ → ℕ) → Reproduced K L f →
-      ((C : Blend) → List·Memᴰ C L → f (C .across .m) (C .up .m) 1 ≡ K .all * K .all) →
-      (p q d : ℕ) → sum (λ (C : Blend). scaledWeight K C p q d) L ≡ f p q d
-  reproduced-one f r one p q d =
+  -- a reproduced function is the sum of what it is at the anchors, there before multiplying out, times the weights
+  pub reproduced-values : (f : ℕ → ℕ → ℕ → ℕ) (v : Blend → ℕ) → Reproduced K L f →
+      ((C : Blend) → List·Memᴰ C L → f (C .across .m) (C .up .m) 1 ≡ K .all * K .all * v C) →
+      (p q d : ℕ) → sum (λ (C : Blend). v C * scaledWeight K C p q d) L ≡ f p q d
+  reproduced-values f v r known p q d =
       eq-of-mul-eq-mul-left (K .all * K .all) (mul-pos (K .positive) (K .positive)) _ _
-      (sum-multiple (K .all * K .all) (λ (C : Blend). scaledWeight K C p q d) (λ (C : Blend). f (C .across .m) (C .up .m) 1 * scaledWeight K C p q d) L
-      (λ C m. ap (λ (x : ℕ). x * scaledWeight K C p q d) (sym (one C m))) ∙ sym (r p q d))
+      (sum-multiple (K .all * K .all) (λ (C : Blend). v C * scaledWeight K C p q d) (λ (C : Blend). f (C .across .m) (C .up .m) 1 * scaledWeight K C p q d) L
+      (λ C m. moved _ _ _ _ (known C m)) ∙ sym (r p q d))
+    where
+      moved : (k v x f : ℕ) → f ≡ k * v → k * (v * x) ≡ f * x
+      moved k v x f e = omega (arith, ap (λ (y : ℕ). y * x) e)
 
 module _ {n : ℕ} (K : Multiple n) (w h : ℕ) (wide : w + 2 ≤ n) (tall : h + 2 ≤ n) where
   pub scaled-weight : (B : Blend) → proper w h B ≡ true → (p q d : ℕ) → Scaled (K .all * d * (K .all * d)) (weight B p q d) (scaledWeight K B p q d)
@@ -177,15 +178,6 @@ module _ {n : ℕ} (K : Multiple n) (w h : ℕ) (wide : w + 2 ≤ n) (tall : h +
       let law = cut-law B ok d z i in
       reproduced-sum K L (law .0) (law .1) (law .2) (scaledWeight K B) (scaledWeight K (halve d lower z B)) (scaledWeight K (halve d upper z B))
       (law .3) (law .4) (halves lower) (halves upper)
-
-  -- the first four add up to one on the domain
-  pub first-four : 1 ≤ w → 1 ≤ h → (p q d : ℕ) → d ≤ p → p ≤ (w + 1) * d → d ≤ q → q ≤ (h + 1) * d →
-      sum (λ (B : Blend). scaledWeight K B p q d) (firstFour w h) ≡ K .all * d * (K .all * d)
-  first-four ws hs p q d p-low p-high q-low q-high =
-      product _ _ _ _ _ (first-two K w ws wide p d p-low p-high) (first-two K h hs tall q d q-low q-high)
-    where
-      product : (a b c e S : ℕ) → a + b ≡ S → c + e ≡ S → a * c + (a * e + (b * c + (b * e + 0))) ≡ S * S
-      product a b c e S x y = omega (arith, ap (λ (i : ℕ). i * (c + e)) x, ap (λ (i : ℕ). S * i) y)
 
 module _ (w h : ℕ) (L : List Blend) (distinct : Distinct L) (apart : noneNested L ≡ true) (rise : (C : Blend) → List·Memᴰ C L → proper w h C ≡ true)
     {n : ℕ} (K : Multiple n) (wide : w + 2 ≤ n) (tall : h + 2 ≤ n) where
@@ -261,54 +253,6 @@ module _ (M : Mesh) (w h : ℕ) (L : List Blend)
         (rw (terms-reproduced ts cov p q d) at (scaled-more (K .all * K .all) _ (value ts p q d) _ (scaled-value K w h wide tall ts (λ t m. cov t m .0) p q d)))
         (scaled-interpolated K w h wide tall ts L (λ t m. cov t m .0) rise p q d)
 
-    -- the weights of L add up to what those of the first four do
-    pub weights-add-up : ((B : Blend) → List·Memᴰ B (firstFour w h) → Covered M L B) → 1 ≤ w → 1 ≤ h → (p q d : ℕ) →
-        d ≤ p → p ≤ (w + 1) * d → d ≤ q → q ≤ (h + 1) * d → sum (λ (C : Blend). scaledWeight K C p q d) L ≡ K .all * d * (K .all * d)
-    weights-add-up full ws hs p q d p-low p-high q-low q-high =
-        reproduced-one K L four
-        (sum-reproduced (λ (B : Blend). 1) (λ (B : Blend). B) (firstFour w h)
-        (λ B m. (first-proper w h ws hs B m, full B m)))
-        at-anchor p q d ∙ four-one p q d p-low p-high q-low q-high
-      where
-        four : ℕ → ℕ → ℕ → ℕ
-        four p q d = sum (λ (B : Blend). 1 * scaledWeight K B p q d) (firstFour w h)
-
-        four-one : (p q d : ℕ) → d ≤ p → p ≤ (w + 1) * d → d ≤ q → q ≤ (h + 1) * d → four p q d ≡ K .all * d * (K .all * d)
-        four-one p q d a b c e =
-            sum-same (λ (B : Blend). 1 * scaledWeight K B p q d) (λ (B : Blend). scaledWeight K B p q d) (firstFour w h) (λ B m. one-mul _) ∙
-            first-four K w h wide tall ws hs p q d a b c e
-
-        at-anchor : (C : Blend) → List·Memᴰ C L → four (C .across .m) (C .up .m) 1 ≡ K .all * K .all
-        at-anchor C m =
-            let a = proper-facts w h C (rise C m) .across in
-            let b = proper-facts w h C (rise C m) .up in
-            four-one (C .across .m) (C .up .m) 1 (omega arith) (omega arith) (omega arith) (omega arith) ∙ at-one (K .all)
-
   -- what is reproduced, in fractions: at every point, inside the domain or not
   pub reproduced : (ts : List Term) → CoveredTerms M w h L ts → (p q d : ℕ) → 0 < d → Equal (value ts p q d) (interpolated ts L p q d)
   reproduced = reproduced-with (common (w + h + 2)) (omega arith) (omega arith)
-
-  -- at each point of the domain, told in document 01's own coordinates, the weights of L add up to one
-  pub adds-up : ((B : Blend) → List·Memᴰ B (firstFour w h) → (C : Blend) → Left M B C → List·Memᴰ C L) → 1 ≤ w → 1 ≤ h →
-      (p q d : ℕ) → 0 < d → p ≤ w * d → q ≤ h * d →
-      let s = total (map (λ (C : Blend). weight C (p + d) (q + d) d) L) in (s .num ≡ s .den) × (0 < s .den)
-  adds-up full ws hs p q d pos p-in q-in = (
-    scaled-one S s (scale-positive (K .all) d (K .positive) pos)
-        (subst (λ (x : ℕ). Scaled S s x)
-        (weights-add-up K (omega arith) (omega arith) full ws hs (p + d) (q + d) d (omega arith) (omega arith) (omega arith) (omega arith))
-        (scaled-total S f (λ (C : Blend). scaledWeight K C (p + d) (q + d) d) L
-        (λ C m. scaled-weight K w h (omega arith) (omega arith) C (rise C m) (p + d) (q + d) d))),
-    total-positive f L (λ C m. weight-den w h C (rise C m) (p + d) (q + d) d pos),
-  )
-    where
-      K : Multiple (w + h + 2)
-      K = common (w + h + 2)
-
-      f : Blend → Fraction
-      f C = weight C (p + d) (q + d) d
-
-      s : Fraction
-      s = total (map f L)
-
-      S : ℕ
-      S = K .all * d * (K .all * d)
