@@ -2,7 +2,7 @@
 use Prim.Native.Nat.{ℕ, zero, suc, _+_, _<_}
 use native.Mathlib.Omega.{arith}
 use native.Mathlib.Numerals.{add-one}
-use mathlib.Core.Path.{_≡_, refl, sym, ap}
+use mathlib.Core.Path.{_≡_, refl, sym, ap, ap₂, _∙_}
 use mathlib.Core.Logic.{_⊎_, inl, inr, ⊎-elim}
 use mathlib.Core.List.{List, [], _∷_, _++_, map, append-assoc, append-nil, List·Memᴰ, List·Memᴰ·cases-cons, List·Memᴰ·not-nil}
 use mathlib.Core.List.List·Memᴰ.{List·Memᴰ·head, List·Memᴰ·tail}
@@ -58,3 +58,11 @@ joined-more f xs i d lt = rw (add-one, take-suc xs i d lt, joined-append, append
 pub each-length : {A : Type 0} (k n : ℕ) (got : ℕ → A) → length (each k n (λ i. got i ∷ [])) ≡ n
 each-length k zero got = refl
 each-length k (suc n) got = ap suc (each-length (k + 1) n got)
+
+-- where these are the entries of a list in order, they make the list
+pub each-entry : {A : Type 0} (got : ℕ → A) (d : A) (xs : List A) (k : ℕ) → ((i : ℕ) → i < length xs → got (k + i) ≡ getD xs i d) →
+    each k (length xs) (λ i. got i ∷ []) ≡ xs
+each-entry got d [] k same = refl
+each-entry got d (x ∷ xs) k same =
+    ap₂ _∷_ (ap got (omega arith) ∙ same 0 (omega arith))
+    (each-entry got d xs (k + 1) (λ i lt. ap got (omega arith) ∙ same (suc i) (omega arith)))

@@ -2,21 +2,20 @@
 use Prim.Native.Nat.{ℕ, suc, _+_, _-_, _*_, _/_, _≤_, _<_}
 use native.Mathlib.Omega.{arith}
 use native.Mathlib.Nat.{mul-div-cancel, le-of-mul-le-mul-right}
-use mathlib.Core.Path.{_≡_, refl, ap, ap₂, subst, _∙_}
+use mathlib.Core.Path.{_≡_, refl, ap, subst, _∙_}
 use mathlib.Core.Logic.{_↔_}
 use mathlib.Core.List.{List, [], _∷_, map}
-use lib.IntN.{ℤ, pos}
+use lib.IntN.{ℤ, pos, _*ℤ_}
 use lib.ListN.{length, getD}
 use Rattle.axis.specs.Fraction.{Fraction, times, whole, total}
-use Rattle.axis.specs.Range.{each}
-use Rattle.axis.proofs.Members.{entry}
+use Rattle.axis.proofs.Members.{entry, each-entry}
 use Rattle.mesh.specs.declared.Split.{Split}
 use Rattle.mesh.specs.declared.Blend.{Blend}
 use Rattle.mesh.specs.Splits.{exactNumber}
 use Rattle.mesh.specs.Lines.{meshOf}
 use Rattle.mesh.specs.Sound.{none}
 use Rattle.mesh.specs.Weight.{Term, weight, value}
-use Rattle.mesh.proofs.Straight.{straight, atAnchor}
+use Rattle.mesh.proofs.Straight.{Flow, flowAt, atAnchor}
 use Rattle.mesh.proofs.SoundMaps.{live-straight}
 use Rattle.maps.specs.declared.Map.{Map}
 use Rattle.maps.specs.declared.Placed.{Placed}
@@ -32,21 +31,42 @@ use Rattle.maps.proofs.OneSplitMore.{exact-says}
 use Rattle.maps.proofs.Readings.{blends-proper, drawn-value}
 use Rattle.maps.proofs.Reached.{Reached, drawn-leads}
 
--- the flow at a whole point, as a difference
-abbrev flowParts : {A B C D : ℤ} → Difference A → Difference B → Difference C → Difference D → (u v : ℕ) → Difference (flow A B C D (pos u) (pos v))
-flowParts a b c d u v = plus (plus (plus a (multiple b u)) (multiple c v)) (multiple (multiple d u) v)
+-- The flow as what it has above 0 less what it has below, two flows whose numbers are from 0.
+module _ (A B C D : ℤ) where
+  abbrev above : Flow
+  above = record { a = parts A .from; b = parts B .from; c = parts C .from; e = parts D .from }
 
--- in the words of the natural flows, at a whole point and at any
-at-whole-point : (x u v a b c e a′ b′ c′ e′ : ℕ) →
-    x + (a′ + b′ * u + c′ * v + e′ * u * v) ≡ a + b * u + c * v + e * u * v ↔ x + straight a′ b′ c′ e′ u v 1 ≡ straight a b c e u v 1
-at-whole-point x u v a b c e a′ b′ c′ e′ = (λ r. omega (arith, r), λ r. omega (arith, r))
+  abbrev below : Flow
+  below = record { a = parts A .less; b = parts B .less; c = parts C .less; e = parts D .less }
 
-at-point : (s n p q d a b c e a′ b′ c′ e′ : ℕ) → s + straight a′ b′ c′ e′ p q d * n ≡ straight a b c e p q d * n →
-    s + (a′ * (d * d) + b′ * d * p + c′ * d * q + e′ * p * q) * n ≡ (a * (d * d) + b * d * p + c * d * q + e * p * q) * n
-at-point s n p q d a b c e a′ b′ c′ e′ r = rw (spread a b c e, spread a′ b′ c′ e′) r
-  where
-    spread : (a b c e : ℕ) → a * (d * d) + b * d * p + c * d * q + e * p * q ≡ straight a b c e p q d
-    spread a b c e = omega arith
+-- as a difference, at a whole point
+abbrev difference : {A B C D : ℤ} → Difference A → Difference B → Difference C → Difference D → (u v : ℕ) → Difference (flow A B C D (pos u) (pos v))
+difference a b c e u v = plus (plus (plus a (multiple b u)) (multiple c v)) (multiple (multiple e u) v)
+
+module _ (A B C D : ℤ) where
+  -- a number from 0 is the flow at a whole point exactly where it is that difference;
+  flow-whole : (x u v : ℕ) → pos x ≡ flow A B C D (pos u) (pos v) ↔ x + flowAt (below A B C D) u v 1 ≡ flowAt (above A B C D) u v 1
+  flow-whole x u v = (λ r. told .0 (as-whole d x r), λ r. is-whole d x (told .1 r))
+    where
+      d : Difference (flow A B C D (pos u) (pos v))
+      d = difference (parts A) (parts B) (parts C) (parts D) u v
+
+      spread : (F G : Flow) →
+          x + (G .a + G .b * u + G .c * v + G .e * u * v) ≡ F .a + F .b * u + F .c * v + F .e * u * v ↔ x + flowAt G u v 1 ≡ flowAt F u v 1
+      spread F G = (λ r. omega (arith, r), λ r. omega (arith, r))
+
+      told : x + d .less ≡ d .from ↔ x + flowAt (below A B C D) u v 1 ≡ flowAt (above A B C D) u v 1
+      told = spread (above A B C D) (below A B C D)
+
+  -- at any point, over n, by multiplying out.
+  flow-point : (x n p q d : ℕ) → x + flowAt (below A B C D) p q d * n ≡ flowAt (above A B C D) p q d * n →
+      pos x ≡ flow (A *ℤ pos (d * d)) (B *ℤ pos d) (C *ℤ pos d) D (pos p) (pos q) *ℤ pos n
+  flow-point x n p q d r =
+      is-whole (multiple (difference (multiple (parts A) (d * d)) (multiple (parts B) d) (multiple (parts C) d) (parts D) p q) n) x
+      (rw (spread (above A B C D), spread (below A B C D)) r)
+    where
+      spread : (F : Flow) → F .a * (d * d) + F .b * d * p + F .c * d * q + F .e * p * q ≡ flowAt F p q d
+      spread F = omega arith
 
 -- Sums over blends whose values and others come to those of a third: the sums do so too, over the same denominator.
 module _ (x : Blend → Fraction) (g k : Blend → ℕ) where
@@ -77,13 +97,6 @@ module _ (x : Blend → Fraction) (g k : Blend → ℕ) where
           v * n * D + a * (1 * d) + (g * n * E + b * (1 * d)) ≡ k * n * F + c * (1 * d)
       added v g k n d a b c D E F e f f′ h = rw (f, f′) (omega (arith, ap (λ (i : ℕ). i * (n * E)) e, ap (λ (i : ℕ). i * d) h))
 
--- what the calls tell, as a list
-each-entry : (f : ℕ → ℕ) (vs : List ℕ) (i : ℕ) → ((k : ℕ) → k < length vs → f (i + k) ≡ getD vs k 0) → each i (length vs) (λ j. f j ∷ []) ≡ vs
-each-entry f [] i same = refl
-each-entry f (v ∷ vs) i same =
-    ap₂ _∷_ (ap f (omega arith) ∙ same 0 (omega arith))
-    (each-entry f vs (i + 1) (λ k lt. ap f (omega arith) ∙ same (suc k) (omega arith)))
-
 -- a fraction that is a whole number rounds down to it
 quotient : (s n f g : ℕ) → 0 < n → s * (1 * 1) + g * n ≡ f * n → s / n + g ≡ f
 quotient s n f g positive e =
@@ -95,28 +108,14 @@ quotient s n f g positive e =
     rest r q = omega (arith, e, ap (λ (i : ℕ). i * n) q)
 
 module _ (P : Plain) (at : Reached P) (A B C D : ℤ) (given : ValuesStraight (recordOf P) A B C D) where
-  abbrev more : Blend → ℕ
-  more = atAnchor (parts A .from) (parts B .from) (parts C .from) (parts D .from)
-
-  abbrev fewer : Blend → ℕ
-  fewer = atAnchor (parts A .less) (parts B .less) (parts C .less) (parts D .less)
-
-  at-place : (i : ℕ) → i < length (blends P) → let X = getD (blends P) i none in getD (P .values) i 0 + fewer X ≡ more X
+  at-place : (i : ℕ) → i < length (blends P) → let X = getD (blends P) i none in
+      getD (P .values) i 0 + atAnchor (below A B C D) X ≡ atAnchor (above A B C D) X
   at-place i lt =
       let X = getD (blends P) i none in
-      let m = entry (blends P) i none lt in
       let listed = place-listed P (at .holds) i lt in
-      let shown = anchor-shown P (at .holds) X m in
-      let told : pos (getD (P .values) i 0) ≡ flow A B C D (pos (X .across .m - 1)) (pos (X .up .m - 1)) =
-      rw (listed, shown .0, shown .1) at (given i (ap (λ (r : Placed). r .number) listed)) in
-      at-whole-point _ _ _ _ _ _ _ _ _ _ _ .0 (as-whole (flowParts (parts A) (parts B) (parts C) (parts D) (X .across .m - 1) (X .up .m - 1)) _ told)
-
-  told : tableValues (recordOf P) (length (blends P)) ≡ P .values
-  told =
-      subst (λ (k : ℕ). tableValues (recordOf P) k ≡ P .values) (at .valued .counted)
-      (each-entry (λ i. tablePlace (recordOf P) i .value) (P .values) 0
-      (λ k lt. ap (λ (j : ℕ). tablePlace (recordOf P) j .value) (omega arith) ∙
-      ap (λ (r : Placed). r .value) (place-listed P (at .holds) k (omega (arith, at .valued .counted)))))
+      let shown = anchor-shown P (at .holds) X (entry (blends P) i none lt) in
+      flow-whole A B C D _ (X .across .m - 1) (X .up .m - 1) .0
+      (rw (listed, shown .0, shown .1) at (given i (ap (λ (r : Placed). r .number) listed)))
 
   -- the sum of value times weight at a point of the domain
   module _ (p q d : ℕ) (positive : 0 < d) (p-in : p ≤ P .lines .w * d) (q-in : q ≤ P .lines .h * d) where
@@ -126,39 +125,38 @@ module _ (P : Plain) (at : Reached P) (A B C D : ℤ) (given : ValuesStraight (r
     sum-positive : 0 < sum .den
     sum-positive = value-positive (P .lines .w) (P .lines .h) (blends P) (P .values) (blends-proper P (at .valued)) (p + d) (q + d) d positive
 
-    sum-flows : sum .num * (d * d) + straight (parts A .less) (parts B .less) (parts C .less) (parts D .less) p q d * sum .den ≡
-        straight (parts A .from) (parts B .from) (parts C .from) (parts D .from) p q d * sum .den
+    sum-flows : sum .num * (d * d) + flowAt (below A B C D) p q d * sum .den ≡ flowAt (above A B C D) p q d * sum .den
     sum-flows =
         let v = at .valued in
-        let kept = live-straight (P .lines .w) (P .lines .h) (v .wide .0) (v .tall .0) (meshOf (P .lines)) (v .is-sound) in
-        let j = sums-join (λ (X : Blend). weight X (p + d) (q + d) d) fewer more (blends P) (P .values) (v .counted) at-place in
-        moved _ _ _ _ _ _ _ _ _ (j .num) (j .den) (j .den′)
-        (kept (parts A .less) (parts B .less) (parts C .less) (parts D .less) p q d positive p-in q-in)
-        (kept (parts A .from) (parts B .from) (parts C .from) (parts D .from) p q d positive p-in q-in)
+        let kept : (F : Flow) → _ = λ F. live-straight (P .lines .w) (P .lines .h) (v .wide .0) (v .tall .0) (meshOf (P .lines)) (v .is-sound) F p q d positive p-in q-in in
+        let j = sums-join (λ (X : Blend). weight X (p + d) (q + d) d) (atAnchor (below A B C D)) (atAnchor (above A B C D)) (blends P) (P .values) (v .counted) at-place in
+        moved _ _ _ _ _ _ _ _ _ (j .num) (j .den) (j .den′) (kept (below A B C D)) (kept (above A B C D))
       where
-        moved : (s g k D E F G K dd : ℕ) → s + g ≡ k → D ≡ E → F ≡ E → g * dd ≡ G * E → k * dd ≡ K * F → s * dd + G * D ≡ K * D
-        moved s g k D E F G K dd e f f′ x y =
-            let y′ : k * dd ≡ K * E = y ∙ ap (λ (i : ℕ). K * i) f′ in
-            rw f (omega (arith, ap (λ (i : ℕ). i * dd) e, x, y′))
+        moved : (s g k x y z f h dd : ℕ) → s + g ≡ k → x ≡ y → z ≡ y → g * dd ≡ f * y → k * dd ≡ h * z → s * dd + f * x ≡ h * x
+        moved s g k x y z f h dd e i j l m =
+            let m′ : k * dd ≡ h * y = m ∙ ap (λ (n : ℕ). h * n) j in
+            rw i (omega (arith, ap (λ (n : ℕ). n * dd) e, l, m′))
 
   -- at a whole point, rounded
   reading-flows : (u v : ℕ) → u ≤ P .lines .w → v ≤ P .lines .h → pos (readingAt (blends P) (P .values) u v) ≡ flow A B C D (pos u) (pos v)
   unfolding readingAt
   reading-flows u v uw vh =
-      let exact = sum-flows u v 1 (omega arith) (omega arith) (omega arith) in
-      let positive = sum-positive u v 1 (omega arith) (omega arith) (omega arith) in
-      is-whole (flowParts (parts A) (parts B) (parts C) (parts D) u v) _ (at-whole-point _ _ _ _ _ _ _ _ _ _ _ .1 (quotient _ _ _ _ positive exact))
+      flow-whole A B C D _ u v .1
+      (quotient _ _ _ _ (sum-positive u v 1 (omega arith) (omega arith) (omega arith)) (sum-flows u v 1 (omega arith) (omega arith) (omega arith)))
+
+  values-told : tableValues (recordOf P) (length (blends P)) ≡ P .values
+  values-told =
+      subst (λ (k : ℕ). tableValues (recordOf P) k ≡ P .values) (at .valued .counted)
+      (each-entry (λ i. tablePlace (recordOf P) i .value) 0 (P .values) 0
+      (λ k lt. ap (λ (j : ℕ). tablePlace (recordOf P) j .value) (omega arith) ∙
+      ap (λ (r : Placed). r .value) (place-listed P (at .holds) k (omega (arith, at .valued .counted)))))
 
   reads : ReadsStraight (recordOf P) (blends P) (P .lines .w) (P .lines .h) A B C D
   reads =
       record {
         readings = λ u v uw vh. rw (reading-in P (at .holds) u v uw vh) (refl, reading-flows u v uw vh);
         sums = λ p q d positive p-in q-in.
-            rw told (
-              is-whole (multiple (flowParts (multiple (parts A) (d * d)) (multiple (parts B) d) (multiple (parts C) d) (parts D) p q) (sum p q d positive p-in q-in .den)) _
-                  (at-point _ _ _ _ _ _ _ _ _ _ _ _ _ (sum-flows p q d positive p-in q-in)),
-              sum-positive p q d positive p-in q-in,
-            );
+            rw values-told (flow-point A B C D _ _ p q d (sum-flows p q d positive p-in q-in), sum-positive p q d positive p-in q-in);
       }
 
 -- of a map that was reached, however it is told

@@ -22,7 +22,7 @@ use Rattle.mesh.proofs.Places.{sound-own}
 use Rattle.mesh.proofs.Ascending.{OwnAnchors}
 use Rattle.mesh.proofs.Live.{AllProper, refine-left, left-refine, refine-leaves, refine-proper, refine-distinct}
 use Rattle.mesh.proofs.Weights.{square-positive, own-anchor, other-anchor, Covered, CoveredTerms, reproduced}
-use Rattle.mesh.proofs.Straight.{straight, atAnchor, flow-kept, adds-up}
+use Rattle.mesh.proofs.Straight.{Flow, flowAt, atAnchor, flow-kept, adds-up}
 use Rattle.mesh.proofs.Fresh.{first-proper, firstFour-rises}
 
 module _ (w h : ℕ) (hw : 1 ≤ w) (hh : 1 ≤ h) (M : Mesh) where
@@ -75,9 +75,9 @@ module _ (w h : ℕ) (hw : 1 ≤ w) (hh : 1 ≤ h) (M : Mesh) where
         let sum = total (map (λ (C : Blend). weight C (p + d) (q + d) d) (live w h M)) in (sum .num ≡ sum .den) × (0 < sum .den)
     weights-add-up = adds-up M w h (live w h M) decide live-distinct apart live-proper first-covered hw hh
 
-    -- and a straight flow a + b u + c v + e u v, the four numbers whole and from 0, is the sum of its values at the anchors times the weights;
-    pub live-straight : (a b c e p q d : ℕ) → 0 < d → p ≤ w * d → q ≤ h * d →
-        Equal (total (map (λ (C : Blend). times (whole (atAnchor a b c e C)) (weight C (p + d) (q + d) d)) (live w h M))) (record { num = straight a b c e p q d; den = d * d })
+    -- and a straight flow is the sum of its values at the anchors times the weights;
+    pub live-straight : (F : Flow) (p q d : ℕ) → 0 < d → p ≤ w * d → q ≤ h * d →
+        Equal (total (map (λ (C : Blend). times (whole (atAnchor F C)) (weight C (p + d) (q + d) d)) (live w h M))) (record { num = flowAt F p q d; den = d * d })
     live-straight = flow-kept M w h (live w h M) decide live-distinct apart live-proper first-covered hw hh
 
     -- the same four blends are positive throughout the inside of a unit square, every other one nowhere in it;

@@ -1,5 +1,5 @@
--- Straight flows a + b u + c v + e u v, the four numbers whole and from 0: on the domain the first four blends, each times the flow at its anchor, add up to them.
--- So all that is left of the first four does; of the flow that is 1 everywhere, the weights alone.
+-- Straight flows: on the domain the first four blends, each times the flow at its anchor, add up to the flow, and so does all that is left of them. Of the flow
+-- that is 1 everywhere this says that the weights add up to one.
 use Prim.Native.Nat.{ℕ, _+_, _-_, _*_, _<_, _≤_}
 use native.Mathlib.Omega.{arith}
 use native.Mathlib.Nat.{mul-pos, eq-of-mul-eq-mul-left}
@@ -21,41 +21,48 @@ use Rattle.mesh.proofs.Cuts.{proper-facts}
 use Rattle.mesh.proofs.Fresh.{first-proper}
 use Rattle.mesh.proofs.Weights.{weight-den, scale-positive, scaledWeight, scaled-weight, reproduced-values, Covered, sum-reproduced}
 
--- the flow at the point (p / d, q / d), times d twice
-abbrev pub straight : ℕ → ℕ → ℕ → ℕ → ℕ → ℕ → ℕ → ℕ
-straight a b c e p q d = a * (d * d) + b * (p * d) + c * (q * d) + e * (p * q)
+-- A straight flow: a + b u + c v + e u v at (u, v), the four numbers whole and from 0.
+pub record Flow : Type 0 where
+  pub a : ℕ
+  pub b : ℕ
+  pub c : ℕ
+  pub e : ℕ
 
--- and at a blend's anchor
-abbrev pub atAnchor : ℕ → ℕ → ℕ → ℕ → Blend → ℕ
-atAnchor a b c e B = straight a b c e (B .across .m - 1) (B .up .m - 1) 1
+-- at the point (p / d, q / d), times d twice; and at a blend's anchor
+abbrev pub flowAt : Flow → ℕ → ℕ → ℕ → ℕ
+flowAt F p q d = F .a * (d * d) + F .b * (p * d) + F .c * (q * d) + F .e * (p * q)
 
--- Two lines of corners, the one at u and the one at 0 or w, and then across: i and j are sums over the first two hats of an axis.
-module _ (a b c e d : ℕ) where
-  column : (u h u′ h′ s t m : ℕ) → u′ ≡ u → h′ ≡ h → (a + b * u) * s + (a + b * u + (c + e * u) * h) * t ≡ m →
-      straight a b c e u′ 0 1 * s + straight a b c e u′ h′ 1 * t ≡ m
+abbrev pub atAnchor : Flow → Blend → ℕ
+atAnchor F B = flowAt F (B .across .m - 1) (B .up .m - 1) 1
+
+-- the flow over the two corners at u, over both pairs of corners, and across from the one pair to the other
+module _ (F : Flow) (d : ℕ) where
+  column : (u h u′ h′ s t m : ℕ) → u′ ≡ u → h′ ≡ h → (F .a + F .b * u) * s + (F .a + F .b * u + (F .c + F .e * u) * h) * t ≡ m →
+      flowAt F u′ 0 1 * s + flowAt F u′ h′ 1 * t ≡ m
   column u h u′ h′ s t m x y r = rw (x, y) (omega (arith, r))
 
   columns : (l r s t i j i′ j′ k f g : ℕ) → i * s + j * t ≡ k * f → i′ * s + j′ * t ≡ k * g →
       i * (l * s) + (j * (l * t) + (i′ * (r * s) + (j′ * (r * t) + 0))) ≡ k * (f * l + g * r)
   columns l r s t i j i′ j′ k f g x y = omega (arith, ap (λ (n : ℕ). l * n) x, ap (λ (n : ℕ). r * n) y)
 
-  rows : (w q l r m : ℕ) → (a * d + c * q) * l + (a * d + c * q + (b * d + e * q) * w) * r ≡ m →
-      ((a + b * 0) * d + (c + e * 0) * q) * l + ((a + b * w) * d + (c + e * w) * q) * r ≡ m
+  rows : (w q l r m : ℕ) → (F .a * d + F .c * q) * l + (F .a * d + F .c * q + (F .b * d + F .e * q) * w) * r ≡ m →
+      ((F .a + F .b * 0) * d + (F .c + F .e * 0) * q) * l + ((F .a + F .b * w) * d + (F .c + F .e * w) * q) * r ≡ m
   rows w q l r m x = omega (arith, x)
 
-  both : (k p q : ℕ) → k * (k * ((a * d + c * q) * d + (b * d + e * q) * p)) ≡ k * k * straight a b c e p q d
+  both : (k p q : ℕ) → k * (k * ((F .a * d + F .c * q) * d + (F .b * d + F .e * q) * p)) ≡ k * k * flowAt F p q d
   both k p q = omega arith
 
-module _ {n : ℕ} (K : Multiple n) (w h : ℕ) (hw : 1 ≤ w) (hh : 1 ≤ h) (wide : w + 2 ≤ n) (tall : h + 2 ≤ n) (a b c e : ℕ) where
+module _ {n : ℕ} (K : Multiple n) (w h : ℕ) (hw : 1 ≤ w) (hh : 1 ≤ h) (wide : w + 2 ≤ n) (tall : h + 2 ≤ n) (F : Flow) where
   first-flow : (p q d : ℕ) → d ≤ p → p ≤ (w + 1) * d → d ≤ q → q ≤ (h + 1) * d →
-      sum (λ (B : Blend). atAnchor a b c e B * scaledWeight K B p q d) (firstFour w h) ≡ K .all * K .all * straight a b c e (p - d) (q - d) d
+      sum (λ (B : Blend). atAnchor F B * scaledWeight K B p q d) (firstFour w h) ≡ K .all * K .all * flowAt F (p - d) (q - d) d
   first-flow p q d p-low p-high q-low q-high =
       let x : w + 1 - 1 ≡ w = omega arith in
       let y : h + 1 - 1 ≡ h = omega arith in
-      let across = first-straight K w hw wide p d p-low p-high (a * d + c * (q - d)) (b * d + e * (q - d)) in
-      let up : (u : ℕ) → _ = λ u. first-straight K h hh tall q d q-low q-high (a + b * u) (c + e * u) in
-      columns a b c e d _ _ _ _ _ _ _ _ (K .all) _ _ (column a b c e d 0 h 0 (h + 1 - 1) _ _ _ refl y (up 0)) (column a b c e d w h (w + 1 - 1) (h + 1 - 1) _ _ _ x y (up w)) ∙
-      ap (λ (m : ℕ). K .all * m) (rows a b c e d w (q - d) _ _ _ across) ∙ both a b c e d (K .all) (p - d) (q - d)
+      let across = first-straight K w hw wide p d p-low p-high (F .a * d + F .c * (q - d)) (F .b * d + F .e * (q - d)) in
+      let up : (u : ℕ) → _ = λ u. first-straight K h hh tall q d q-low q-high (F .a + F .b * u) (F .c + F .e * u) in
+      columns F d _ _ _ _ _ _ _ _ (K .all) _ _
+      (column F d 0 h 0 (h + 1 - 1) _ _ _ refl y (up 0)) (column F d w h (w + 1 - 1) (h + 1 - 1) _ _ _ x y (up w)) ∙
+      ap (λ (m : ℕ). K .all * m) (rows F d w (q - d) _ _ _ across) ∙ both F d (K .all) (p - d) (q - d)
 
 module _ (M : Mesh) (w h : ℕ) (L : List Blend)
     (decide : (B : Blend) → proper w h B ≡ true → Uncut M B ⊎ ((d : Direction) × (z : ℕ) × (cuts M d z B ≡ true)))
@@ -64,13 +71,13 @@ module _ (M : Mesh) (w h : ℕ) (L : List Blend)
   abbrev K : Multiple (w + h + 2)
   K = common (w + h + 2)
 
-  module _ (a b c e : ℕ) where
+  module _ (F : Flow) where
     -- multiplied out, at knots
     scaled-flow : (p q d : ℕ) → d ≤ p → p ≤ (w + 1) * d → d ≤ q → q ≤ (h + 1) * d →
-        sum (λ (C : Blend). atAnchor a b c e C * scaledWeight K C p q d) L ≡ K .all * K .all * straight a b c e (p - d) (q - d) d
+        sum (λ (C : Blend). atAnchor F C * scaledWeight K C p q d) L ≡ K .all * K .all * flowAt F (p - d) (q - d) d
     scaled-flow p q d p-low p-high q-low q-high =
-        reproduced-values K L first (atAnchor a b c e)
-        (sum-reproduced M w h L decide distinct apart rise K (omega arith) (omega arith) (atAnchor a b c e) (λ (B : Blend). B) (firstFour w h)
+        reproduced-values K L first (atAnchor F)
+        (sum-reproduced M w h L decide distinct apart rise K (omega arith) (omega arith) (atAnchor F) (λ (B : Blend). B) (firstFour w h)
         (λ B m. (first-proper w h hw hh B m, full B m)))
         (λ C m.
         let x = proper-facts w h C (rise C m) .across in
@@ -79,21 +86,21 @@ module _ (M : Mesh) (w h : ℕ) (L : List Blend)
         p q d ∙ flow p q d p-low p-high q-low q-high
       where
         first : ℕ → ℕ → ℕ → ℕ
-        first p q d = sum (λ (B : Blend). atAnchor a b c e B * scaledWeight K B p q d) (firstFour w h)
+        first p q d = sum (λ (B : Blend). atAnchor F B * scaledWeight K B p q d) (firstFour w h)
 
-        flow : (p q d : ℕ) → d ≤ p → p ≤ (w + 1) * d → d ≤ q → q ≤ (h + 1) * d → first p q d ≡ K .all * K .all * straight a b c e (p - d) (q - d) d
-        flow = first-flow K w h hw hh (omega arith) (omega arith) a b c e
+        flow : (p q d : ℕ) → d ≤ p → p ≤ (w + 1) * d → d ≤ q → q ≤ (h + 1) * d → first p q d ≡ K .all * K .all * flowAt F (p - d) (q - d) d
+        flow = first-flow K w h hw hh (omega arith) (omega arith) F
 
     -- at each point of the domain, in document 01's own coordinates
     pub flow-kept : (p q d : ℕ) → 0 < d → p ≤ w * d → q ≤ h * d →
-        Equal (total (map (λ (C : Blend). times (whole (atAnchor a b c e C)) (weight C (p + d) (q + d) d)) L)) (record { num = straight a b c e p q d; den = d * d })
+        Equal (total (map (λ (C : Blend). times (whole (atAnchor F C)) (weight C (p + d) (q + d) d)) L)) (record { num = flowAt F p q d; den = d * d })
     flow-kept p q d pos p-in q-in =
         let x : p + d - d ≡ p = omega arith in
         let y : q + d - d ≡ q = omega arith in
         let known = rw (x, y) at (scaled-flow (p + d) (q + d) d (omega arith) (omega arith) (omega arith) (omega arith)) in
-        unscaled (K .all) (straight a b c e p q d) _ _ _ (K .positive) known
-        (scaled-total (K .all * d * (K .all * d)) _ (λ (C : Blend). atAnchor a b c e C * scaledWeight K C (p + d) (q + d) d) L
-        (λ C m. scaled-multiple (atAnchor a b c e C) _ (weight C (p + d) (q + d) d) _ (scaled-weight K w h (omega arith) (omega arith) C (rise C m) (p + d) (q + d) d)))
+        unscaled (K .all) (flowAt F p q d) _ _ _ (K .positive) known
+        (scaled-total (K .all * d * (K .all * d)) _ (λ (C : Blend). atAnchor F C * scaledWeight K C (p + d) (q + d) d) L
+        (λ C m. scaled-multiple (atAnchor F C) _ (weight C (p + d) (q + d) d) _ (scaled-weight K w h (omega arith) (omega arith) C (rise C m) (p + d) (q + d) d)))
       where
         unscaled : (k f s n m : ℕ) → 0 < k → s ≡ k * k * f → s * m ≡ n * (k * d * (k * d)) → n * (d * d) ≡ f * m
         unscaled k f s n m k-pos e scaled =
@@ -105,7 +112,7 @@ module _ (M : Mesh) (w h : ℕ) (L : List Blend)
   adds-up p q d pos p-in q-in = (
     scaled-one S s (scale-positive (K .all) d (K .positive) pos)
         (subst (λ (x : ℕ). Scaled S s x)
-        (sum-same _ _ L (λ C m. alone _ _ _) ∙ scaled-flow 1 0 0 0 (p + d) (q + d) d (omega arith) (omega arith) (omega arith) (omega arith) ∙ squared (K .all) _ _)
+        (sum-same _ _ L (λ C m. alone _ _ _) ∙ scaled-flow one (p + d) (q + d) d (omega arith) (omega arith) (omega arith) (omega arith) ∙ squared (K .all) _ _)
         (scaled-total S f (λ (C : Blend). scaledWeight K C (p + d) (q + d) d) L
         (λ C m. scaled-weight K w h (omega arith) (omega arith) C (rise C m) (p + d) (q + d) d))),
     total-positive f L (λ C m. weight-den w h C (rise C m) (p + d) (q + d) d pos),
@@ -120,8 +127,11 @@ module _ (M : Mesh) (w h : ℕ) (L : List Blend)
       S : ℕ
       S = K .all * d * (K .all * d)
 
-      alone : (m n x : ℕ) → x ≡ straight 1 0 0 0 m n 1 * x
+      one : Flow
+      one = record { a = 1; b = 0; c = 0; e = 0 }
+
+      alone : (m n x : ℕ) → x ≡ flowAt one m n 1 * x
       alone m n x = omega arith
 
-      squared : (k m n : ℕ) → k * k * straight 1 0 0 0 m n d ≡ k * d * (k * d)
+      squared : (k m n : ℕ) → k * k * flowAt one m n d ≡ k * d * (k * d)
       squared k m n = omega arith
