@@ -96,6 +96,7 @@ from-file bytes e =
     let start = recordOf (freshPlain (P .lines .w) (P .lines .h)) in
     let left : leftBy (freshPlain (P .lines .w) (P .lines .h)) (fileCalls P) ≡ readFile bytes .map = calls-left P at ∙ read-record bytes e in
     record {
+      is-record = sym (read-record bytes e);
       all-accepted = calls-accepted P at;
       left = left;
       outcomes-after = λ cs. outcomes-join byLibrary start (fileCalls P) cs ∙

@@ -34,6 +34,8 @@ AllAccepted m cs = (o : Outcome Map) → List·Memᴰ o (outcomes byLibrary m cs
 -- "Reading a file makes a map of its own: demand 3 holds of lists that start from it too, with the splits of the file as their first accepted
 -- ones, taken in order from the fresh map before the file's values are set."
 pub record FromFile (bytes : List ℕ) : Type 0 where
+  -- The map that is read is the record of what it holds.
+  pub is-record : readFile bytes .map ≡ recordOf (readPlain bytes)
   -- The calls that the file stands for are all accepted, and leave the map that is read on the fresh map of its sides;
   pub all-accepted : let P = readPlain bytes in AllAccepted (recordOf (freshPlain (P .lines .w) (P .lines .h))) (fileCalls P)
   pub left : let P = readPlain bytes in leftBy (freshPlain (P .lines .w) (P .lines .h)) (fileCalls P) ≡ readFile bytes .map
@@ -43,7 +45,7 @@ pub record FromFile (bytes : List ℕ) : Type 0 where
       outcomes byLibrary start (fileCalls P ++ cs) ≡ outcomes byLibrary start (fileCalls P) ++ outcomes byLibrary (readFile bytes .map) cs
   pub left-after : (cs : List Call) → let P = readPlain bytes in
       leftBy (freshPlain (P .lines .w) (P .lines .h)) (fileCalls P ++ cs) ≡ ending byLibrary (readFile bytes .map) cs
-  -- of which demand 3 holds; and it holds of the list on its own.
+  -- of which demand 3 holds, with document 02's clauses beside it; and so they do of the list on its own.
   pub whole : (cs : List Call) → let P = readPlain bytes in Demand3 (P .lines .w) (P .lines .h) (fileCalls P ++ cs)
   pub own : (cs : List Call) → DemandFrom (readPlain bytes) cs
   -- "lists on equal sides whose lines cover the same points end with the same blends", also where both start from files.

@@ -68,10 +68,10 @@ module _ (P : Plain) (holds : Holds P) where
 
   -- a point, in the domain and outside it
   module _ (u v : ℕ) where
-    pub reading-in : u ≤ P .lines .w → v ≤ P .lines .h → reading (recordOf P) u v ≡ record { number = 0; litres = readingAt (blends P) (P .values) u v }
+    pub point-answers : u ≤ P .lines .w → v ≤ P .lines .h → reading (recordOf P) u v ≡ record { number = 0; litres = readingAt (blends P) (P .values) u v }
     unfolding reading
-    reading-in uw vh = rw (record-good holds .0, record-good holds .1, le-leb _ _ uw, le-leb _ _ vh)
+    point-answers uw vh = rw (record-good holds .0, record-good holds .1, le-leb _ _ uw, le-leb _ _ vh)
 
-    pub reading-out : inDomain P u v ≡ false → reading (recordOf P) u v ≡ record { number = 10; litres = 0 }
+    pub outside-answers : inDomain P u v ≡ false → reading (recordOf P) u v ≡ record { number = 10; litres = 0 }
     unfolding reading
-    reading-out e = rw (record-good holds .0, record-good holds .1, e)
+    outside-answers e = rw (record-good holds .0, record-good holds .1, e)

@@ -36,7 +36,7 @@ use Rattle.maps.proofs.OverSquare.{entries-only, entry-in, denominator-
 use Rattle.maps.proofs.ExactSums.{value-positive}
 use Rattle.maps.proofs.Adding.{parts, value-over}
 use Rattle.maps.proofs.GoodRecords.{Holds, record-good, replays-sides, good-facts}
-use Rattle.maps.proofs.Answers.{place-listed, reading-in}
+use Rattle.maps.proofs.Answers.{place-listed, point-answers}
 
 -- an entry's blend stands at its place
 entry-blend : (test : Blend → Bool) (all bs : List Blend) (i : ℕ) → ((k : ℕ) → k < length bs → getD all (i + k) none ≡ getD bs k none) →
@@ -122,7 +122,7 @@ module _ {P : Plain} (holds : Holds P) (u v : ℕ) (uw : u ≤ P .lines .w) (vh 
             rw (r .2) (ap (λ (p : Placed). p .number) (told (r .0) (r .1)));
         same-blends = told-blends (recordOf P) w h u v (P .values) found told ∙ sym (ap (map (λ (e : Weight). e .blend)) the-weights);
         is-sum =
-            reading-in P holds u v uw vh ∙
+            point-answers P holds u v uw vh ∙
             ap (λ (n : ℕ). record { number = 0; litres = n })
             (summed ∙
             ap (λ (fs : List Fraction). rounded (total fs))

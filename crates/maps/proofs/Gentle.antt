@@ -24,7 +24,7 @@ use Rattle.maps.proofs.OneSplitMore.{exact-says}
 use Rattle.maps.proofs.GoodRecords.{Holds}
 use Rattle.maps.proofs.Readings.{drawn-reading, drawn-anchor}
 use Rattle.maps.proofs.Reached.{Reached, drawn-leads}
-use Rattle.maps.proofs.Answers.{place-listed, answers-listed, anchor-shown, anchor-in, reading-in, reading-out}
+use Rattle.maps.proofs.Answers.{place-listed, answers-listed, anchor-shown, anchor-in, point-answers, outside-answers}
 
 -- readings of the same number, the second no higher and at most one lower
 record Near (r q : Reading) : Type 0 where
@@ -45,7 +45,7 @@ module _ (P : Plain) (at : Reached P) (s : Split) (accepted : exactNumber (P .li
 
   reading-after : (u v : ℕ) → u ≤ P .lines .w → v ≤ P .lines .h →
       reading (recordOf (drawn P s)) u v ≡ record { number = 0; litres = readingAt (blends (drawn P s)) (drawn P s .values) u v }
-  reading-after u v uw vh = let l = drawn-leads P at s accepted in reading-in (drawn P s) after u v (rw (l .wide) uw) (rw (l .tall) vh)
+  reading-after u v uw vh = let l = drawn-leads P at s accepted in point-answers (drawn P s) after u v (rw (l .wide) uw) (rw (l .tall) vh)
 
   readings-near : (u v : ℕ) → Near (reading (recordOf P) u v) (reading (recordOf (drawn P s)) u v)
   readings-near u v =
@@ -54,8 +54,8 @@ module _ (P : Plain) (at : Reached P) (s : Split) (accepted : exactNumber (P .li
       let uw = leb-true _ _ (d .0) in
       let vh = leb-true _ _ (d .1) in
       let r = drawn-reading P (at .valued) s still u v uw vh in
-      rw (reading-in P (at .holds) u v uw vh, reading-after u v uw vh) (record { number = refl; high = r .0; low = r .1 }))
-      (λ e. rw (reading-out P (at .holds) u v e, reading-out (drawn P s) after u v (same-domain u v ∙ e))
+      rw (point-answers P (at .holds) u v uw vh, reading-after u v uw vh) (record { number = refl; high = r .0; low = r .1 }))
+      (λ e. rw (outside-answers P (at .holds) u v e, outside-answers (drawn P s) after u v (same-domain u v ∙ e))
       (record { number = refl; high = omega arith; low = omega arith }))
       (either (inDomain P u v))
 
@@ -66,7 +66,7 @@ module _ (P : Plain) (at : Reached P) (s : Split) (accepted : exactNumber (P .li
       let u = B .across .m - 1 in
       let v = B .up .m - 1 in
       let d = anchor-in P (at .holds) B m in
-      rw (reading-in P (at .holds) u v (d .0) (d .1), reading-after u v (d .0) (d .1), drawn-anchor P (at .valued) s still B m) (refl, refl)
+      rw (point-answers P (at .holds) u v (d .0) (d .1), reading-after u v (d .0) (d .1), drawn-anchor P (at .valued) s still B m) (refl, refl)
 
   pub split-gentle : Gentle (recordOf P) (recordOf (drawn P s))
   split-gentle =

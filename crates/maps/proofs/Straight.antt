@@ -25,7 +25,7 @@ use Rattle.maps.specs.Record.{recordOf}
 use Rattle.maps.specs.Calls.{tablePlace}
 use Rattle.maps.specs.Straight.{flow, ValuesStraight, tableValues, ReadsStraight}
 use Rattle.maps.proofs.Integers.{Difference, as-whole, is-whole, parts, plus, multiple}
-use Rattle.maps.proofs.Answers.{place-listed, answers-listed, anchor-shown, anchor-in, reading-in}
+use Rattle.maps.proofs.Answers.{place-listed, answers-listed, anchor-shown, anchor-in, point-answers}
 use Rattle.maps.proofs.ExactSums.{value-positive}
 use Rattle.maps.proofs.OneSplitMore.{exact-says}
 use Rattle.maps.proofs.Readings.{blends-proper, drawn-value}
@@ -154,7 +154,7 @@ module _ (P : Plain) (at : Reached P) (A B C D : ℤ) (given : ValuesStraight (r
   reads : ReadsStraight (recordOf P) (blends P) (P .lines .w) (P .lines .h) A B C D
   reads =
       record {
-        readings = λ u v uw vh. rw (reading-in P (at .holds) u v uw vh) (refl, reading-flows u v uw vh);
+        readings = λ u v uw vh. rw (point-answers P (at .holds) u v uw vh) (refl, reading-flows u v uw vh);
         sums = λ p q d positive p-in q-in.
             rw values-told (flow-point A B C D _ _ p q d (sum-flows p q d positive p-in q-in), sum-positive p q d positive p-in q-in);
       }

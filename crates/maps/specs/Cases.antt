@@ -2,6 +2,7 @@
 use Prim.Native.Nat.{ℕ, _+_}
 use mathlib.Core.Path.{_≡_, refl}
 use mathlib.Core.List.{List, [], _∷_}
+use lib.IntN.{pos, negsuc}
 use lib.ListN.{length, replicate}
 use Rattle.mesh.specs.declared.Split.{Split}
 use Rattle.axis.specs.Range.{only}
@@ -16,6 +17,7 @@ use Rattle.maps.specs.Plain.{Plain, freshPlain, blends}
 use Rattle.maps.specs.Values.{readingAt, carried, drawn}
 use Rattle.mesh.specs.Splits.{liveOf, withLine, given, exactNumber, containing, candidate, chosen}
 use Rattle.maps.specs.Calls.{freshMap, setPlain}
+use Rattle.maps.specs.Straight.{flow}
 use Rattle.maps.specs.Histories.{Call, set, exact, lengthened, reads, Answer, number, placed, read, weighed, told, numberOf, byMachine}
 
 -- a row, on the map that the rows before it left
@@ -97,6 +99,10 @@ beside =
     row (lengthened (level 2 6 8)) 0 14 ∷ []) ∷
     -- sides of one step
     on 1 1 (row (reads 1 1) 0 0 ∷ row (exact (upright 1 0 1)) 3 4 ∷ []) ∷
+    -- the straight pump 40 − 6 u + 5 v − u v: its corners measured, then split; new anchors and points between them
+    on 4 3
+    (row (set 0 0 40) 0 4 ∷ row (set 4 0 16) 0 4 ∷ row (set 0 3 55) 0 4 ∷ row (set 4 3 19) 0 4 ∷ row (exact (upright 2 0 3)) 0 6 ∷ row (exact (level 1 0 2)) 0 7 ∷
+    row (reads 0 1) 0 45 ∷ row (reads 1 2) 0 42 ∷ row (reads 3 2) 0 26 ∷ []) ∷
     []
 
 all-starred : AllRight starred
@@ -105,7 +111,11 @@ all-starred = (refl, (refl, (refl, (refl, (refl, (refl, (refl, (refl, refl, (ref
 
 all-beside : AllRight beside
 unfolding AllRight starred beside Right last upright level shownBy freshMap setPlain drawn given exactNumber containing candidate chosen readingAt carried freshPlain Triple.half Triple.hat Lines.inRange Lines.draws Lines.freshMesh Lines.mesh Lines.onLine Lines.shares Lines.ended Blends.halve Nearest.below Nearest.above Nearest.nearest Blends.isCut Blends.leaves Blends.leavesOf Blends.once Blends.inTableOrder Blends.refine Blends.live Sound.fourEverywhere Sound.noneNested Sound.sound
-all-beside = (refl, (refl, refl, (refl, refl, (refl, refl, (refl, refl, tt)))), (refl, (refl, refl, (refl, refl, (refl, refl, (refl, refl, (refl, refl, tt))))), (refl, (refl, refl, (refl, refl, (refl, refl, (refl, refl, (refl, refl, (refl, refl, tt)))))), (refl, (refl, refl, (refl, refl, tt)), tt))))
+all-beside = (refl, (refl, refl, (refl, refl, (refl, refl, (refl, refl, tt)))), (refl, (refl, refl, (refl, refl, (refl, refl, (refl, refl, (refl, refl, tt))))), (refl, (refl, refl, (refl, refl, (refl, refl, (refl, refl, (refl, refl, (refl, refl, tt)))))), (refl, (refl, refl, (refl, refl, tt)), (refl, (refl, refl, (refl, refl, (refl, refl, (refl, refl, (refl, refl, (refl, refl, (refl, refl, (refl, refl, (refl, refl, tt))))))))), tt)))))
+
+-- that pump's flow at the last of these points
+straight-flow : flow (pos 40) (negsuc 5) (pos 5) (negsuc 0) (pos 3) (pos 2) ≡ pos 26
+straight-flow = refl
 
 -- A map of 60 splits takes no more: 4 comes after 3 and before 5; with 59 the next check is made.
 crowded : ℕ → Layout
