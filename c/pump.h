@@ -117,7 +117,9 @@ size_t pump_set(uint8_t *buffer, size_t size, size_t *used, size_t m, size_t n, 
        PUMP_LEVEL at speed `position` from level `from` to level `to`; 0 < position < h and 0 <= from < to <= w.
    Every old anchor keeps its value, and each new one gets the reading that the map had there. So no reading at an
    old anchor changes, none at a whole point rises, and none falls by more than one: that one is lost in the
-   rounding, and a later split may take one again.
+   rounding, and a later split may take one again. Nothing is lost where the pump is straight: if the value at each
+   anchor (m, n) is A + B m + C n + D m n, the four whole numbers of either sign, then so it is after the split, and
+   the reading at every whole point (u, v) is A + B u + C v + D u v, before and after.
    Refused with 11, 3 to 8, or 12. */
 size_t pump_exact_split(uint8_t *buffer, size_t size, size_t *used, size_t direction, size_t position, size_t from,
                         size_t to);

@@ -8,7 +8,7 @@ use mathlib.Core.Bool.{true, false}
 use borrow.Author.Tests.{ltb-true, ltb-false, leb-true, leb-false}
 use lib.Dec.{ltb, leb}
 use Rattle.axis.specs.Fraction.{Fraction}
-use Rattle.axis.specs.Triple.{triple, hat, lower, upper, half, low, high, spans, between}
+use Rattle.axis.specs.Triple.{triple, ascent, descent, hat, lower, upper, half, low, high, spans, between}
 use Rattle.axis.specs.declared.Triple.{Triple}
 use Rattle.axis.proofs.Tests.{either, within-of, within-at, cond-true, cond-false}
 pub use Rattle.axis.proofs.Triples.{Rise}
@@ -16,17 +16,16 @@ use Rattle.axis.proofs.Triples.{Inside, not-between, rise-of, is-low, i
 use Rattle.axis.proofs.Scale.{Multiple, Scaled}
 
 -- the hat's two sides
-hat-left : (t : Triple) (p d : ℕ) → leb p (t .m * d) ≡ true → hat t p d ≡ record { num = p - t .l * d; den = (t .m - t .l) * d }
+hat-left : (t : Triple) (p d : ℕ) → leb p (t .m * d) ≡ true → hat t p d ≡ ascent t p d
 unfolding hat
 hat-left t p d e = cond-true _ _ _ e
 
-hat-right : (t : Triple) (p d : ℕ) → leb p (t .m * d) ≡ false → hat t p d ≡ record { num = t .r * d - p; den = (t .r - t .m) * d }
+hat-right : (t : Triple) (p d : ℕ) → leb p (t .m * d) ≡ false → hat t p d ≡ descent t p d
 unfolding hat
 hat-right t p d e = cond-false _ _ _ e
 
 hat-cases : (t : Triple) (p d : ℕ) (P : Fraction → Type 0) →
-    (p ≤ t .m * d → P (record { num = p - t .l * d; den = (t .m - t .l) * d })) →
-    (t .m * d < p → P (record { num = t .r * d - p; den = (t .r - t .m) * d })) → P (hat t p d)
+    (p ≤ t .m * d → P (ascent t p d)) → (t .m * d < p → P (descent t p d)) → P (hat t p d)
 hat-cases t p d P f g =
     ⊎-elim (λ e. rw (hat-left t p d e) (f (leb-true _ _ e))) (λ e. rw (hat-right t p d e) (g (leb-false _ _ e))) (either (leb p (t .m * d)))
 

@@ -56,8 +56,11 @@ abbrev pub sameTriple : Triple → Triple → Bool
 sameTriple s t = eqb (s .l) (t .l) && eqb (s .m) (t .m) && eqb (s .r) (t .r)
 
 -- The hat at the point p / d: "0 at l and beyond, rises straight to 1 at m, falls straight to 0 at r and beyond".
+abbrev pub ascent : Triple → ℕ → ℕ → Fraction
+ascent t p d = record { num = p - t .l * d; den = (t .m - t .l) * d }
+
+abbrev pub descent : Triple → ℕ → ℕ → Fraction
+descent t p d = record { num = t .r * d - p; den = (t .r - t .m) * d }
+
 unfoldable pub hat : Triple → ℕ → ℕ → Fraction
-hat t p d =
-    cond (leb p (t .m * d))
-    (record { num = p - t .l * d; den = (t .m - t .l) * d })
-    (record { num = t .r * d - p; den = (t .r - t .m) * d })
+hat t p d = cond (leb p (t .m * d)) (ascent t p d) (descent t p d)

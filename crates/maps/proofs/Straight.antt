@@ -128,8 +128,10 @@ module _ (P : Plain) (at : Reached P) (A B C D : ℤ) (given : ValuesStraight (r
     sum-flows : sum .num * (d * d) + flowAt (below A B C D) p q d * sum .den ≡ flowAt (above A B C D) p q d * sum .den
     sum-flows =
         let v = at .valued in
-        let kept : (F : Flow) → _ = λ F. live-straight (P .lines .w) (P .lines .h) (v .wide .0) (v .tall .0) (meshOf (P .lines)) (v .is-sound) F p q d positive p-in q-in in
-        let j = sums-join (λ (X : Blend). weight X (p + d) (q + d) d) (atAnchor (below A B C D)) (atAnchor (above A B C D)) (blends P) (P .values) (v .counted) at-place in
+        let kept : (F : Flow) → _ = λ F.
+        live-straight (P .lines .w) (P .lines .h) (v .wide .0) (v .tall .0) (meshOf (P .lines)) (v .is-sound) F p q d positive p-in q-in in
+        let weighs : Blend → Fraction = λ X. weight X (p + d) (q + d) d in
+        let j = sums-join weighs (atAnchor (below A B C D)) (atAnchor (above A B C D)) (blends P) (P .values) (v .counted) at-place in
         moved _ _ _ _ _ _ _ _ _ (j .num) (j .den) (j .den′) (kept (below A B C D)) (kept (above A B C D))
       where
         moved : (s g k x y z f h dd : ℕ) → s + g ≡ k → x ≡ y → z ≡ y → g * dd ≡ f * y → k * dd ≡ h * z → s * dd + f * x ≡ h * x

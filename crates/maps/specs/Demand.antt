@@ -1,4 +1,4 @@
--- Demand 3 of the product: one claim about a whole list of calls, in the words of document 01, "Histories".
+-- Demand 3 of the product: one claim about a whole list of calls, in the words of document 01, "Histories"; with it what document 02 asks for of whole lists.
 use Prim.Native.Nat.{ℕ, _+_, _*_, _≤_, _<_}
 use mathlib.Core.Path.{_≡_}
 use mathlib.Core.Bool.{true, cond}

@@ -28,7 +28,8 @@ tableValues m k = each 0 k (λ i. tablePlace m i .value ∷ [])
 pub record ReadsStraight (m : Map) (bs : List Blend) (w h : ℕ) (A B C D : ℤ) : Type 0 where
   -- "the reading at every whole point of the map must be that number exactly"
   pub readings : (u v : ℕ) → u ≤ w → v ≤ h → (reading m u v .number ≡ 0) × (pos (reading m u v .litres) ≡ flow A B C D (pos u) (pos v))
-  -- Beyond the request: so is the sum of value times weight, before it is rounded, at each point (p / d, q / d). Here both are multiplied by d twice.
+  -- Beyond the request: so is the sum of value times weight at each point (p / d, q / d), before it is rounded. The flow there, times d twice, is that of the
+  -- numbers A d d, B d, C d and D at (p, q).
   pub sums : (p q d : ℕ) → 0 < d → p ≤ w * d → q ≤ h * d →
       let sum = value (paired bs (tableValues m (length bs))) (p + d) (q + d) d in
       (pos (sum .num * (d * d)) ≡ flow (A *ℤ pos (d * d)) (B *ℤ pos d) (C *ℤ pos d) D (pos p) (pos q) *ℤ pos (sum .den)) × (0 < sum .den)

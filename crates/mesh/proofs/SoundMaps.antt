@@ -77,7 +77,8 @@ module _ (w h : ℕ) (hw : 1 ≤ w) (hh : 1 ≤ h) (M : Mesh) where
 
     -- and a straight flow is the sum of its values at the anchors times the weights;
     pub live-straight : (F : Flow) (p q d : ℕ) → 0 < d → p ≤ w * d → q ≤ h * d →
-        Equal (total (map (λ (C : Blend). times (whole (atAnchor F C)) (weight C (p + d) (q + d) d)) (live w h M))) (record { num = flowAt F p q d; den = d * d })
+        Equal (total (map (λ (C : Blend). times (whole (atAnchor F C)) (weight C (p + d) (q + d) d)) (live w h M)))
+        (record { num = flowAt F p q d; den = d * d })
     live-straight = flow-kept M w h (live w h M) decide live-distinct apart live-proper first-covered hw hh
 
     -- the same four blends are positive throughout the inside of a unit square, every other one nowhere in it;

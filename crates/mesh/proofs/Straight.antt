@@ -35,22 +35,22 @@ flowAt F p q d = F .a * (d * d) + F .b * (p * d) + F .c * (q * d) + F .e * (p * 
 abbrev pub atAnchor : Flow → Blend → ℕ
 atAnchor F B = flowAt F (B .across .m - 1) (B .up .m - 1) 1
 
--- the flow over the two corners at u, over both pairs of corners, and across from the one pair to the other
-module _ (F : Flow) (d : ℕ) where
-  column : (u h u′ h′ s t m : ℕ) → u′ ≡ u → h′ ≡ h → (F .a + F .b * u) * s + (F .a + F .b * u + (F .c + F .e * u) * h) * t ≡ m →
+-- Sums over the first four blends: over the two corners at u, which is 0 or the side; over these pairs; and across from the one pair to the other.
+module _ (F : Flow) where
+  pair : (u h u′ h′ s t m : ℕ) → u′ ≡ u → h′ ≡ h → (F .a + F .b * u) * s + (F .a + F .b * u + (F .c + F .e * u) * h) * t ≡ m →
       flowAt F u′ 0 1 * s + flowAt F u′ h′ 1 * t ≡ m
-  column u h u′ h′ s t m x y r = rw (x, y) (omega (arith, r))
+  pair u h u′ h′ s t m x y r = rw (x, y) (omega (arith, r))
 
-  columns : (l r s t i j i′ j′ k f g : ℕ) → i * s + j * t ≡ k * f → i′ * s + j′ * t ≡ k * g →
-      i * (l * s) + (j * (l * t) + (i′ * (r * s) + (j′ * (r * t) + 0))) ≡ k * (f * l + g * r)
-  columns l r s t i j i′ j′ k f g x y = omega (arith, ap (λ (n : ℕ). l * n) x, ap (λ (n : ℕ). r * n) y)
-
-  rows : (w q l r m : ℕ) → (F .a * d + F .c * q) * l + (F .a * d + F .c * q + (F .b * d + F .e * q) * w) * r ≡ m →
+  across : (d w q l r m : ℕ) → (F .a * d + F .c * q) * l + (F .a * d + F .c * q + (F .b * d + F .e * q) * w) * r ≡ m →
       ((F .a + F .b * 0) * d + (F .c + F .e * 0) * q) * l + ((F .a + F .b * w) * d + (F .c + F .e * w) * q) * r ≡ m
-  rows w q l r m x = omega (arith, x)
+  across d w q l r m x = omega (arith, x)
 
-  both : (k p q : ℕ) → k * (k * ((F .a * d + F .c * q) * d + (F .b * d + F .e * q) * p)) ≡ k * k * flowAt F p q d
-  both k p q = omega arith
+  gathered : (k p q d : ℕ) → k * (k * ((F .a * d + F .c * q) * d + (F .b * d + F .e * q) * p)) ≡ k * k * flowAt F p q d
+  gathered k p q d = omega arith
+
+pairs : (l r s t i j i′ j′ k f g : ℕ) → i * s + j * t ≡ k * f → i′ * s + j′ * t ≡ k * g →
+    i * (l * s) + (j * (l * t) + (i′ * (r * s) + (j′ * (r * t) + 0))) ≡ k * (f * l + g * r)
+pairs l r s t i j i′ j′ k f g x y = omega (arith, ap (λ (n : ℕ). l * n) x, ap (λ (n : ℕ). r * n) y)
 
 module _ {n : ℕ} (K : Multiple n) (w h : ℕ) (hw : 1 ≤ w) (hh : 1 ≤ h) (wide : w + 2 ≤ n) (tall : h + 2 ≤ n) (F : Flow) where
   first-flow : (p q d : ℕ) → d ≤ p → p ≤ (w + 1) * d → d ≤ q → q ≤ (h + 1) * d →
@@ -58,11 +58,10 @@ module _ {n : ℕ} (K : Multiple n) (w h : ℕ) (hw : 1 ≤ w) (hh : 1 ≤ h) (w
   first-flow p q d p-low p-high q-low q-high =
       let x : w + 1 - 1 ≡ w = omega arith in
       let y : h + 1 - 1 ≡ h = omega arith in
-      let across = first-straight K w hw wide p d p-low p-high (F .a * d + F .c * (q - d)) (F .b * d + F .e * (q - d)) in
-      let up : (u : ℕ) → _ = λ u. first-straight K h hh tall q d q-low q-high (F .a + F .b * u) (F .c + F .e * u) in
-      columns F d _ _ _ _ _ _ _ _ (K .all) _ _
-      (column F d 0 h 0 (h + 1 - 1) _ _ _ refl y (up 0)) (column F d w h (w + 1 - 1) (h + 1 - 1) _ _ _ x y (up w)) ∙
-      ap (λ (m : ℕ). K .all * m) (rows F d w (q - d) _ _ _ across) ∙ both F d (K .all) (p - d) (q - d)
+      let level = first-straight K w hw wide p d p-low p-high (F .a * d + F .c * (q - d)) (F .b * d + F .e * (q - d)) in
+      let upright : (u : ℕ) → _ = λ u. first-straight K h hh tall q d q-low q-high (F .a + F .b * u) (F .c + F .e * u) in
+      pairs _ _ _ _ _ _ _ _ (K .all) _ _ (pair F 0 h 0 (h + 1 - 1) _ _ _ refl y (upright 0)) (pair F w h (w + 1 - 1) (h + 1 - 1) _ _ _ x y (upright w)) ∙
+      ap (λ (m : ℕ). K .all * m) (across F d w (q - d) _ _ _ level) ∙ gathered F (K .all) (p - d) (q - d) d
 
 module _ (M : Mesh) (w h : ℕ) (L : List Blend)
     (decide : (B : Blend) → proper w h B ≡ true → Uncut M B ⊎ ((d : Direction) × (z : ℕ) × (cuts M d z B ≡ true)))
@@ -72,7 +71,7 @@ module _ (M : Mesh) (w h : ℕ) (L : List Blend)
   K = common (w + h + 2)
 
   module _ (F : Flow) where
-    -- multiplied out, at knots
+    -- a list that has all that is left of the first four: multiplied out, at knots,
     scaled-flow : (p q d : ℕ) → d ≤ p → p ≤ (w + 1) * d → d ≤ q → q ≤ (h + 1) * d →
         sum (λ (C : Blend). atAnchor F C * scaledWeight K C p q d) L ≡ K .all * K .all * flowAt F (p - d) (q - d) d
     scaled-flow p q d p-low p-high q-low q-high =
@@ -91,16 +90,18 @@ module _ (M : Mesh) (w h : ℕ) (L : List Blend)
         flow : (p q d : ℕ) → d ≤ p → p ≤ (w + 1) * d → d ≤ q → q ≤ (h + 1) * d → first p q d ≡ K .all * K .all * flowAt F (p - d) (q - d) d
         flow = first-flow K w h hw hh (omega arith) (omega arith) F
 
-    -- at each point of the domain, in document 01's own coordinates
+    -- and at each point of the domain, in document 01's own coordinates
     pub flow-kept : (p q d : ℕ) → 0 < d → p ≤ w * d → q ≤ h * d →
-        Equal (total (map (λ (C : Blend). times (whole (atAnchor F C)) (weight C (p + d) (q + d) d)) L)) (record { num = flowAt F p q d; den = d * d })
+        Equal (total (map (λ (C : Blend). times (whole (atAnchor F C)) (weight C (p + d) (q + d) d)) L))
+        (record { num = flowAt F p q d; den = d * d })
     flow-kept p q d pos p-in q-in =
         let x : p + d - d ≡ p = omega arith in
         let y : q + d - d ≡ q = omega arith in
         let known = rw (x, y) at (scaled-flow (p + d) (q + d) d (omega arith) (omega arith) (omega arith) (omega arith)) in
         unscaled (K .all) (flowAt F p q d) _ _ _ (K .positive) known
         (scaled-total (K .all * d * (K .all * d)) _ (λ (C : Blend). atAnchor F C * scaledWeight K C (p + d) (q + d) d) L
-        (λ C m. scaled-multiple (atAnchor F C) _ (weight C (p + d) (q + d) d) _ (scaled-weight K w h (omega arith) (omega arith) C (rise C m) (p + d) (q + d) d)))
+        (λ C m.
+        scaled-multiple (atAnchor F C) _ (weight C (p + d) (q + d) d) _ (scaled-weight K w h (omega arith) (omega arith) C (rise C m) (p + d) (q + d) d)))
       where
         unscaled : (k f s n m : ℕ) → 0 < k → s ≡ k * k * f → s * m ≡ n * (k * d * (k * d)) → n * (d * d) ≡ f * m
         unscaled k f s n m k-pos e scaled =
@@ -112,7 +113,8 @@ module _ (M : Mesh) (w h : ℕ) (L : List Blend)
   adds-up p q d pos p-in q-in = (
     scaled-one S s (scale-positive (K .all) d (K .positive) pos)
         (subst (λ (x : ℕ). Scaled S s x)
-        (sum-same _ _ L (λ C m. alone _ _ _) ∙ scaled-flow one (p + d) (q + d) d (omega arith) (omega arith) (omega arith) (omega arith) ∙ squared (K .all) _ _)
+        (sum-same _ _ L (λ C m. alone _ _ _) ∙
+        scaled-flow one (p + d) (q + d) d (omega arith) (omega arith) (omega arith) (omega arith) ∙ squared (K .all) _ _)
         (scaled-total S f (λ (C : Blend). scaledWeight K C (p + d) (q + d) d) L
         (λ C m. scaled-weight K w h (omega arith) (omega arith) C (rise C m) (p + d) (q + d) d))),
     total-positive f L (λ C m. weight-den w h C (rise C m) (p + d) (q + d) d pos),
