@@ -19,28 +19,28 @@ module _ {z : ℤ} (d : Difference z) (x : ℕ) where
       sym (+ℤ-negℤ-cancel (pos x) (pos (d .less))) ∙ ap (λ (y : ℤ). y -ℤ pos (d .less)) (ap pos e ∙ sym (d .is)) ∙ +ℤ-negℤ-cancel z (pos (d .less))
 
 -- every number,
-abbrev pub parts : (z : ℤ) → Difference z
-parts (pos n) = record { from = n; less = 0; is = ap pos (omega arith) }
-parts (negsuc n) = record { from = 0; less = suc n; is = +ℤ-invl (pos (suc n)) }
+abbrev pub apart : (z : ℤ) → Difference z
+apart (pos n) = record { from = n; less = 0; is = ap pos (omega arith) }
+apart (negsuc n) = record { from = 0; less = suc n; is = +ℤ-invl (pos (suc n)) }
 
 -- a sum,
-pub sum-is : (x y : ℤ) (p n q m : ℕ) → x +ℤ pos n ≡ pos p → y +ℤ pos m ≡ pos q → x +ℤ y +ℤ pos (n + m) ≡ pos (p + q)
-sum-is x y p n q m e f = +ℤ-assoc x y (pos (n + m)) ∙ ap (λ (z : ℤ). x +ℤ z) moved ∙ sym (+ℤ-assoc x (pos n) (y +ℤ pos m)) ∙ ap₂ _+ℤ_ e f
+pub plus-is : (x y : ℤ) (p n q m : ℕ) → x +ℤ pos n ≡ pos p → y +ℤ pos m ≡ pos q → x +ℤ y +ℤ pos (n + m) ≡ pos (p + q)
+plus-is x y p n q m e f = +ℤ-assoc x y (pos (n + m)) ∙ ap (λ (z : ℤ). x +ℤ z) moved ∙ sym (+ℤ-assoc x (pos n) (y +ℤ pos m)) ∙ ap₂ _+ℤ_ e f
   where
     moved : y +ℤ (pos n +ℤ pos m) ≡ pos n +ℤ (y +ℤ pos m)
     moved = sym (+ℤ-assoc y (pos n) (pos m)) ∙ ap (λ (z : ℤ). z +ℤ pos m) (+ℤ-comm y (pos n)) ∙ +ℤ-assoc (pos n) y (pos m)
 
 abbrev pub plus : {x y : ℤ} → Difference x → Difference y → Difference (x +ℤ y)
 plus {x} {y} d e =
-    record { from = d .from + e .from; less = d .less + e .less; is = sum-is x y (d .from) (d .less) (e .from) (e .less) (d .is) (e .is) }
+    record { from = d .from + e .from; less = d .less + e .less; is = plus-is x y (d .from) (d .less) (e .from) (e .less) (d .is) (e .is) }
 
 -- and a multiple.
-pub multiple-is : (x : ℤ) (p n k : ℕ) → x +ℤ pos n ≡ pos p → x *ℤ pos k +ℤ pos (n * k) ≡ pos (p * k)
-multiple-is (pos a) p n k e = ap pos (each (ap natAbs e))
+pub times-is : (x : ℤ) (p n k : ℕ) → x +ℤ pos n ≡ pos p → x *ℤ pos k +ℤ pos (n * k) ≡ pos (p * k)
+times-is (pos a) p n k e = ap pos (each (ap natAbs e))
   where
     each : a + n ≡ p → a * k + n * k ≡ p * k
     each e = omega (arith, ap (λ (i : ℕ). i * k) e)
-multiple-is (negsuc a) p n k e =
+times-is (negsuc a) p n k e =
     ap (λ (i : ℕ). negℤ down +ℤ pos i) (each (ap natAbs raised)) ∙ sym (+ℤ-assoc (negℤ down) down (pos (p * k))) ∙
     ap (λ (z : ℤ). z +ℤ pos (p * k)) (+ℤ-invl down) ∙ +ℤ-idl (pos (p * k))
   where
@@ -55,5 +55,5 @@ multiple-is (negsuc a) p n k e =
     each : n ≡ suc a + p → n * k ≡ suc a * k + p * k
     each e = omega (arith, ap (λ (i : ℕ). i * k) e)
 
-abbrev pub multiple : {x : ℤ} → Difference x → (k : ℕ) → Difference (x *ℤ pos k)
-multiple {x} d k = record { from = d .from * k; less = d .less * k; is = multiple-is x (d .from) (d .less) k (d .is) }
+abbrev pub times : {x : ℤ} → Difference x → (k : ℕ) → Difference (x *ℤ pos k)
+times {x} d k = record { from = d .from * k; less = d .less * k; is = times-is x (d .from) (d .less) k (d .is) }

@@ -24,7 +24,8 @@ use Rattle.maps.specs.Values.{paired, readingAt, drawn}
 use Rattle.maps.specs.Record.{recordOf}
 use Rattle.maps.specs.Calls.{tablePlace}
 use Rattle.maps.specs.Straight.{flow, ValuesStraight, tableValues, ReadsStraight}
-use Rattle.maps.proofs.Integers.{Difference, as-whole, is-whole, parts, plus, multiple}
+use Rattle.maps.proofs.Integers.{Difference, as-whole, is-whole, apart}
+use Rattle.maps.proofs.Integers as Integers
 use Rattle.maps.proofs.Answers.{place-listed, answers-listed, anchor-shown, anchor-in, point-answers}
 use Rattle.maps.proofs.ExactSums.{value-positive}
 use Rattle.maps.proofs.OneSplitMore.{exact-says}
@@ -34,14 +35,15 @@ use Rattle.maps.proofs.Reached.{Reached, drawn-leads}
 -- The flow as what it has above 0 less what it has below, two flows whose numbers are from 0.
 module _ (A B C D : ℤ) where
   abbrev above : Flow
-  above = record { a = parts A .from; b = parts B .from; c = parts C .from; e = parts D .from }
+  above = record { a = apart A .from; b = apart B .from; c = apart C .from; e = apart D .from }
 
   abbrev below : Flow
-  below = record { a = parts A .less; b = parts B .less; c = parts C .less; e = parts D .less }
+  below = record { a = apart A .less; b = apart B .less; c = apart C .less; e = apart D .less }
 
 -- as a difference, at a whole point
-abbrev difference : {A B C D : ℤ} → Difference A → Difference B → Difference C → Difference D → (u v : ℕ) → Difference (flow A B C D (pos u) (pos v))
-difference a b c e u v = plus (plus (plus a (multiple b u)) (multiple c v)) (multiple (multiple e u) v)
+abbrev difference : {A B C D : ℤ} → Difference A → Difference B → Difference C → Difference D → (u v : ℕ) →
+    Difference (flow A B C D (pos u) (pos v))
+difference a b c e u v = Integers.plus (Integers.plus (Integers.plus a (Integers.times b u)) (Integers.times c v)) (Integers.times (Integers.times e u) v)
 
 module _ (A B C D : ℤ) where
   -- a number from 0 is the flow at a whole point exactly where it is that difference;
@@ -49,7 +51,7 @@ module _ (A B C D : ℤ) where
   flow-whole x u v = (λ r. told .0 (as-whole d x r), λ r. is-whole d x (told .1 r))
     where
       d : Difference (flow A B C D (pos u) (pos v))
-      d = difference (parts A) (parts B) (parts C) (parts D) u v
+      d = difference (apart A) (apart B) (apart C) (apart D) u v
 
       spread : (F G : Flow) →
           x + (G .a + G .b * u + G .c * v + G .e * u * v) ≡ F .a + F .b * u + F .c * v + F .e * u * v ↔ x + flowAt G u v 1 ≡ flowAt F u v 1
@@ -62,8 +64,8 @@ module _ (A B C D : ℤ) where
   flow-point : (x n p q d : ℕ) → x + flowAt (below A B C D) p q d * n ≡ flowAt (above A B C D) p q d * n →
       pos x ≡ flow (A *ℤ pos (d * d)) (B *ℤ pos d) (C *ℤ pos d) D (pos p) (pos q) *ℤ pos n
   flow-point x n p q d r =
-      is-whole (multiple (difference (multiple (parts A) (d * d)) (multiple (parts B) d) (multiple (parts C) d) (parts D) p q) n) x
-      (rw (spread (above A B C D), spread (below A B C D)) r)
+      let scaled = difference (Integers.times (apart A) (d * d)) (Integers.times (apart B) d) (Integers.times (apart C) d) (apart D) p q in
+      is-whole (Integers.times scaled n) x (rw (spread (above A B C D), spread (below A B C D)) r)
     where
       spread : (F : Flow) → F .a * (d * d) + F .b * d * p + F .c * d * q + F .e * p * q ≡ flowAt F p q d
       spread F = omega arith
