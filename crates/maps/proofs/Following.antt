@@ -11,12 +11,12 @@ use Rattle.mesh.specs.declared.Split.{Split}
 use Rattle.maps.specs.declared.Map.{Map}
 use Rattle.maps.specs.declared.Changed.{Changed}
 use Rattle.maps.specs.Plain.{Plain, blends}
-use Rattle.maps.specs.Values.{inDomain, placeOf}
+use Rattle.maps.specs.Values.{placeOf}
 use Rattle.mesh.specs.Splits.{given, exactNumber, chosen}
 use Rattle.maps.specs.Record.{recordOf, plain, good}
 use Rattle.maps.specs.Calls.{setValue, tablePlace, reading, weights, exactSplit, drawnFirst, lengthenedSplit}
 use Rattle.maps.specs.Sameness.{sameness}
-use Rattle.maps.specs.Histories.{Call, set, exact, lengthened, place, reads, weighs, sameAs, Answer, number, placed, read, weighed, told, Outcome, outcome, byLibrary, firstDrawn, byMachine, outcomes, ending}
+use Rattle.maps.specs.Histories.{Call, set, exact, lengthened, place, reads, weighs, sameAs, number, Outcome, outcome, byLibrary, firstDrawn, byMachine, outcomes, ending}
 use Rattle.maps.specs.Demand.{leftBy, recorded}
 use Rattle.axis.proofs.Tests.{either}
 use Rattle.maps.proofs.GoodRecords.{record-good}

@@ -1,12 +1,12 @@
 -- What a good record gives, and what makes a record good.
 use Prim.Native.Nat.{ℕ, _-_, _≤_}
 use native.Mathlib.Omega.{arith}
-use mathlib.Core.Path.{_≡_, refl, ap, _∙_}
+use mathlib.Core.Path.{_≡_, refl}
 use mathlib.Core.Bool.{true, _&&_}
 use mathlib.Core.List.{List, [], _∷_, _++_, append-assoc, append-nil}
 use borrow.Author.Tests.{le-leb, leb-true, eqb-true, eq-eqb}
 use lib.Dec.{eqb, leb}
-use lib.ListN.{length, take, drop, replicate, length-append, length-set, length-map}
+use lib.ListN.{length, length-append, length-set, length-map}
 use lib.Seq.{length-take-le, take-append-seam, drop-append-seam}
 use Rattle.axis.specs.Range.{all}
 use Rattle.axis.proofs.Tests.{and-both, and-of, all-append}

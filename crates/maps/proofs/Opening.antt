@@ -1,20 +1,18 @@
 -- Opening a record: the tests of a good one, one by one, and what is then in hand.
 use mathlib.Core.Path.{_≡_, sym, ap, _∙_}
 use mathlib.Core.Logic.{⊎-elim}
-use mathlib.Core.Bool.{true, false, cond}
+use mathlib.Core.Bool.{true}
 use mathlib.Core.List.{[]}
 use lib.ListN.{length, drop}
 use Rattle.axis.specs.Range.{all}
 use Rattle.mesh.specs.declared.Lines.{Lines}
-use Rattle.mesh.specs.declared.Table.{Table}
 use Rattle.mesh.specs.declared.Found.{Found}
 use Rattle.mesh.specs.Lines.{layoutOf}
 use Rattle.mesh.specs.Sound.{table}
 use Rattle.mesh.specs.Splits.{liveOf}
 use Rattle.mesh.specs.Replay.{replays, replayed}
-use Rattle.axis.proofs.Tests.{either, false-of, and-both, cond-true, cond-false}
+use Rattle.axis.proofs.Tests.{either, false-of, and-both, cond-true}
 use Rattle.maps.specs.declared.Map.{Map}
-use Rattle.maps.specs.declared.opened.Opened.{Opened}
 use Rattle.maps.specs.Plain.{blends}
 use Rattle.maps.specs.Record.{isNoSplit, isZero, plain, good}
 use Rattle.maps.specs.Opened.{tableOf, opened}

@@ -1,7 +1,6 @@
 -- Are two maps the same: what the tests of two good records and their tables say.
 use mathlib.Core.Path.{_≡_, sym, _∙_}
-use mathlib.Core.Bool.{Bool, true, false, cond, and-false}
-use lib.Dec.{eqb}
+use mathlib.Core.Bool.{Bool, true, false, and-false}
 use lib.ListN.{take}
 use Rattle.axis.specs.Range.{agree}
 use Rattle.axis.proofs.Entries.{agree-length}
@@ -9,7 +8,6 @@ use Rattle.mesh.specs.declared.Table.{Table}
 use Rattle.mesh.specs.Blends.{same}
 use Rattle.mesh.specs.Sound.{blendsOf}
 use Rattle.maps.specs.declared.Map.{Map}
-use Rattle.maps.specs.declared.Same.{Same}
 use Rattle.maps.specs.Plain.{blends}
 use Rattle.maps.specs.Record.{plain, good}
 use Rattle.maps.specs.Sameness.{samePlain, sameness}

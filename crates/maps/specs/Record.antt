@@ -1,7 +1,7 @@
 -- Document 01, "Values, readings, splits": the record of a map, and when it is good.
 use Prim.Native.Nat.{ℕ, _-_}
 use mathlib.Core.Bool.{Bool, _&&_}
-use mathlib.Core.List.{List, _++_}
+use mathlib.Core.List.{_++_}
 use lib.Dec.{eqb}
 use lib.ListN.{length, take, drop, replicate}
 use Rattle.axis.specs.Limits.{mostSplits, mostBlends}

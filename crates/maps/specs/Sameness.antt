@@ -1,9 +1,6 @@
 -- Document 01: "Two maps are the same when sides, live blends and values agree."
-use Prim.Native.Nat.{ℕ}
-use mathlib.Core.Bool.{Bool, true, false, cond, _&&_, not}
-use mathlib.Core.List.{List, [], _∷_}
+use mathlib.Core.Bool.{Bool, false, cond, _&&_, not}
 use lib.Dec.{eqb}
-use Rattle.mesh.specs.declared.Blend.{Blend}
 use Rattle.axis.specs.Range.{agree}
 use Rattle.mesh.specs.Blends.{same}
 use Rattle.maps.specs.declared.Map.{Map}

@@ -1,6 +1,6 @@
 -- Document 01, "Sides and lines". The lines of a map are told by their unit steps, so lines at one position that overlap or touch are one line.
 use Prim.Native.Nat.{ℕ, _+_, _-_}
-use mathlib.Core.Bool.{Bool, true, false, cond, _&&_, _||_}
+use mathlib.Core.Bool.{Bool, cond, _&&_, _||_}
 use mathlib.Core.List.{List}
 use lib.Dec.{ltb, leb, eqb}
 use lib.ListN.{take}

@@ -1,7 +1,6 @@
-use Prim.Native.Nat.{ℕ, _+_, _*_, _-_, _≤_, _<_}
+use Prim.Native.Nat.{_-_, _≤_}
 use lib.ListN.{length}
 use borrow.Author.Needs.{needs}
-use native.Mathlib.Omega.{arith}
 use Rattle.calls.proofs.line_end.Statement.{statement}
 use Rattle.calls.proofs.line_end.Tie as tie
 use Rattle.calls.proofs.line_end.Reads as reads

@@ -1,6 +1,5 @@
 -- `axis::shares::corner_of` meets its contract: each return is a case of `corner`.
 use borrow.Author.Needs.{needs}
-use native.Mathlib.Omega.{arith}
 use borrow.Author.Tests.{eq-eqb, ne-eqb}
 use Rattle.axis.proofs.shares.corner_of.Statement.{statement}
 use Rattle.axis.proofs.shares.corner_of.Tie as tie

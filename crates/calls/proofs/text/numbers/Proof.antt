@@ -1,7 +1,5 @@
-use Prim.Native.Nat.{ℕ, _+_, _*_, _-_, _≤_, _<_}
-use lib.ListN.{length}
+use Prim.Native.Nat.{_-_, _≤_}
 use borrow.Author.Needs.{needs}
-use native.Mathlib.Omega.{arith}
 use Rattle.calls.proofs.text.numbers.Statement.{statement}
 use Rattle.calls.proofs.text.numbers.Tie as tie
 use Rattle.calls.proofs.text.numbers.Reads as reads

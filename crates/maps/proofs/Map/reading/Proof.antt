@@ -1,7 +1,6 @@
 -- `maps::Map::reading` meets its contract: a record that is not good is refused, else the answer is that of the opened one.
 use borrow.Author.Needs.{needs}
-use native.Mathlib.Omega.{arith}
-use mathlib.Core.Path.{_≡_, sym, ap, _∙_}
+use mathlib.Core.Path.{sym, ap}
 use mathlib.Core.Bool.{not}
 use Rattle.axis.proofs.Tests.{cond-true}
 use Rattle.maps.specs.Calls.{reading}

@@ -1,7 +1,5 @@
 -- `maps::Map::same` meets its contract: a record that is not good is refused, else the answer is that of the opened ones.
 use borrow.Author.Needs.{needs}
-use native.Mathlib.Omega.{arith}
-use mathlib.Core.Path.{_≡_, sym, ap, _∙_}
 use Rattle.maps.proofs.Changing.{same-map, not-good, is-opened}
 use Rattle.maps.proofs.SameMaps.{first-bad, second-bad}
 use Rattle.maps.proofs.Map.same.Statement.{statement}

@@ -1,7 +1,7 @@
 -- `maps::opened::after_step` meets its contract.
 use borrow.Author.Needs.{needs}
 use native.Mathlib.Omega.{arith}
-use mathlib.Core.Path.{_≡_, sym, ap, _∙_}
+use mathlib.Core.Path.{_∙_}
 use Rattle.maps.proofs.Changing.{GoodMap, open-map, in-table, step-refused, step-room, new-few, new-proper, step-drawn}
 use Rattle.maps.proofs.opened.after_step.Statement.{statement}
 use Rattle.maps.proofs.opened.after_step.Tie as tie

@@ -1,8 +1,6 @@
 -- `maps::sameness::same_maps` meets its contract: each return is what the tests before it decide.
-use borrow.Author.Needs.{needs}
-use native.Mathlib.Omega.{arith}
 use borrow.Author.Tests.{eq-eqb, ne-eqb}
-use mathlib.Core.Path.{_≡_, sym, _∙_}
+use mathlib.Core.Path.{_≡_, _∙_}
 use Rattle.axis.specs.Range.{agree}
 use Rattle.axis.proofs.Tests.{failed, passed}
 use Rattle.mesh.specs.Blends.{same}

@@ -1,8 +1,7 @@
 -- `maps::splits::lengthened_step` meets its contract: a refusal leaves the table in hand, and without one the lines decide.
 use borrow.Author.Needs.{needs}
-use native.Mathlib.Omega.{arith}
 use borrow.Author.Tests.{eq-eqb, ne-eqb}
-use mathlib.Core.Path.{_≡_, sym, ap, _∙_}
+use mathlib.Core.Path.{sym, _∙_}
 use Rattle.axis.proofs.Tests.{cond-true, cond-false}
 use Rattle.maps.specs.Inner.{lengthenedStep}
 use Rattle.maps.proofs.splits.lengthened_step.Statement.{statement}

@@ -1,10 +1,6 @@
 -- `maps::opened::Opened::lengthened_split` meets its contract: the step is that of the call.
-use borrow.Author.Needs.{needs}
-use native.Mathlib.Omega.{arith}
 use mathlib.Core.Path.{_∙_, ap}
-use Rattle.maps.specs.declared.splits.Step.{Step}
 use Rattle.maps.specs.Opened.{withTable}
-use Rattle.maps.specs.Inner.{Drawable, drawnBy}
 use Rattle.maps.proofs.Changing.{GoodMap, open-map, lengthened-by, lengthened-drawable}
 use Rattle.maps.proofs.opened.Opened.lengthened_split.Statement.{statement}
 use Rattle.maps.proofs.opened.Opened.lengthened_split.Tie as tie

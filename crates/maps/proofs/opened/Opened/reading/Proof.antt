@@ -1,7 +1,5 @@
 -- `maps::opened::Opened::reading` meets its contract.
 use borrow.Author.Needs.{needs}
-use native.Mathlib.Omega.{arith}
-use mathlib.Core.Path.{_≡_, _∙_}
 use Rattle.axis.proofs.Tests.{failed, passed}
 use Rattle.maps.proofs.Changing.{GoodMap, open-map}
 use Rattle.maps.proofs.Asking.{reading-out, at-point, reading-in}

@@ -1,6 +1,4 @@
 -- `maps::opened::Opened::same` meets its contract.
-use borrow.Author.Needs.{needs}
-use native.Mathlib.Omega.{arith}
 use Rattle.maps.proofs.SameMaps.{both-good}
 use Rattle.maps.proofs.opened.Opened.same.Statement.{statement}
 use Rattle.maps.proofs.opened.Opened.same.Tie as tie

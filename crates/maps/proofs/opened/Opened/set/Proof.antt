@@ -1,9 +1,8 @@
 -- `maps::opened::Opened::set` meets its contract.
 use borrow.Author.Needs.{needs}
 use native.Mathlib.Omega.{arith}
-use mathlib.Core.Path.{_≡_, sym, _∙_}
-use Prim.Native.Nat.{_+_, _≤_, _<_}
-use lib.ListN.{length}
+use mathlib.Core.Path.{_≡_, _∙_}
+use Prim.Native.Nat.{_+_}
 use Rattle.maps.specs.Plain.{blends}
 use Rattle.maps.specs.Record.{plain}
 use Rattle.maps.specs.Values.{placeOf}

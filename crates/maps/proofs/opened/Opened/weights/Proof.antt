@@ -1,8 +1,6 @@
 -- `maps::opened::Opened::weights` meets its contract.
 use borrow.Author.Needs.{needs}
-use native.Mathlib.Omega.{arith}
-use mathlib.Core.Path.{_≡_, _∙_}
-use Rattle.maps.specs.declared.Weight.{Weight}
+use mathlib.Core.Path.{_∙_}
 use Rattle.axis.proofs.Tests.{failed, passed}
 use Rattle.maps.proofs.Changing.{GoodMap, open-map}
 use Rattle.maps.proofs.Asking.{weights-out, at-point, weights-in}
