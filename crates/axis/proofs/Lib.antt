@@ -3,6 +3,7 @@ pub mod Members
 pub mod Entries
 pub mod Distinct
 pub mod Counts
+pub mod Turns
 pub mod Padding
 pub mod Triples
 pub mod Nearest

@@ -1,6 +1,6 @@
 -- Walks over a run of numbers and over a list, as tests and as lists.
 use Prim.Native.Nat.{ℕ, zero, suc, _+_}
-use mathlib.Core.Bool.{Bool, true, false, cond, _&&_, _||_}
+use mathlib.Core.Bool.{Bool, true, false, cond, _&&_, _||_, not}
 use mathlib.Core.List.{List, [], _∷_, _++_, List·Memᴰ}
 
 -- whether the test holds of each of the `n` numbers from `from` on
@@ -17,6 +17,17 @@ some from (suc n) test = test from || some (from + 1) n test
 abbrev pub each {ℓ} : {A : Type ℓ} → ℕ → ℕ → (ℕ → List A) → List A
 each from zero f = []
 each from (suc n) f = f from ++ each (from + 1) n f
+
+-- whether one of two tests holds and the other does not
+abbrev pub differ : Bool → Bool → Bool
+differ a b = (a && not b) || (not a && b)
+
+-- those of the `n` numbers from `from` on at which a test turns: it differs at the next number
+abbrev pub turns : (ℕ → Bool) → ℕ → Bool
+turns test k = differ (test k) (test (k + 1))
+
+abbrev pub turnsFrom : ℕ → ℕ → (ℕ → Bool) → List ℕ
+turnsFrom from n test = each from n (λ k. cond (turns test k) (k ∷ []) [])
 
 -- whether the test holds of each entry of a list; of some entry
 abbrev pub all {ℓ} : {A : Type ℓ} → (A → Bool) → List A → Bool

@@ -12,6 +12,7 @@ use lib.Seq.{length-take-le, getD-take}
 use Rattle.axis.specs.Fraction.{Fraction, Equal, plus, times, whole, total}
 use Rattle.axis.specs.Range.{all}
 use Rattle.axis.proofs.Tests.{either, and-both, all-at, cond-true, cond-false}
+use Rattle.axis.proofs.Scale.{total-positive}
 use Rattle.axis.proofs.Sums.{multiple-equal, plus-equal, plus-nothing, rounds-same}
 use Rattle.axis.proofs.Gaps.{End}
 use Rattle.mesh.specs.declared.Blend.{Blend}
@@ -24,9 +25,9 @@ use Rattle.maps.specs.declared.values.Entry.{Entry}
 use Rattle.maps.specs.declared.values.Four.{Four}
 use Rattle.maps.specs.declared.values.Sum.{Sum}
 use Rattle.maps.specs.Values.{paired, rounded, weightAt}
-use Rattle.maps.specs.Inner.{entriesOver, entries, portion, fractionOf, SumOf}
+use Rattle.maps.specs.Inner.{entriesOver, entries, portion, parts, fractionOf, SumOf}
 use Rattle.maps.proofs.ExactSums.{value-positive}
-use Rattle.maps.proofs.OverSquare.{weight-shares, weight-outside}
+use Rattle.maps.proofs.OverSquare.{weight-shares, weight-outside, denominator-positive, entry-in}
 
 -- a sum with one fraction more is exact, and stays small
 module _ (s : Sum) (p d : ℕ) where
@@ -48,10 +49,6 @@ module _ (s : Sum) (p d : ℕ) where
         rest = omega (arith, mul-le-mul-right d (sum .rest), mul-le-mul-right (s .bottom) (le-of-lt (mod-lt p positive)));
         most = omega (arith, sum .most, div-le-self p d);
       }
-
--- the values of some entries times their weights
-abbrev pub parts : ℕ → ℕ → ℕ → ℕ → List ℕ → List Entry → List Fraction
-parts x y u v values = map (λ (a : Entry). portion x y u v (a .blend) (getD values (a .place) 0))
 
 -- At a corner (u, v) of the square from (x, y) the sum over all blends is that over the blends over the square, since the others weigh 0 there.
 module _ (x y u v : ℕ) (e : End x u) (f : End y v) (values : List ℕ) where
@@ -75,18 +72,24 @@ module _ (x y u v : ℕ) (e : End x u) (f : End y v) (values : List ℕ) where
       (plus-nothing (times (whole c) (weight B u v 1)) _ _ (rw (weight-outside B facts x y u v e f o) (omega arith)) rest))
       (either (overSquare x y B))
 
-  -- so the parts of the four that are found in a table make the reading
+  -- so the parts of those over the square make the reading,
+  pub sum-over : (w h : ℕ) → w ≤ 128 → h ≤ 128 → (bs : List Blend) (vs : List ℕ) → all (proper w h) bs ≡ true → length bs ≡ length vs →
+      ((k : ℕ) → k < length vs → getD vs k 0 ≡ getD values k 0) →
+      rounded (value (paired bs vs) u v 1) ≡ rounded (total (parts x y u v values (entriesOver (overSquare x y) bs 0)))
+  unfolding weightAt
+  sum-over w h hw hh bs vs ok long same =
+      let most = proper-most w h bs hw hh ok in
+      rounds-same _ _ (value-positive w h bs vs (all-at (proper w h) bs ok) u v 1 (omega arith))
+      (total-positive _ (entriesOver (overSquare x y) bs 0)
+      (λ a m. denominator-positive (a .blend) (proper-facts 128 128 (a .blend) (all-at (proper 128 128) bs most (a .blend) (entry-in (overSquare x y) bs 0 a m .1))) x y))
+      (value-over bs vs 0 most long (λ k lt. same k lt ∙ ap (λ (j : ℕ). getD values j 0) (omega arith)))
+
+  -- and so do those of the four that are found in a table
   pub table-over : (w h : ℕ) → w ≤ 128 → h ≤ 128 → (t : Table) → t .count ≤ length (t .blends) → t .count ≤ length values →
       all (proper w h) (blendsOf t) ≡ true → (four : Four) → entries four ≡ entriesOver (overSquare x y) (blendsOf t) 0 →
-      (s : Sum) → 0 < s .bottom → fractionOf s ≡ total (parts x y u v values (entries four)) →
-      s .whole + s .top / s .bottom ≡ rounded (value (paired (blendsOf t) (take (t .count) values)) u v 1)
-  table-over w h hw hh t long full ok four found s positive same =
-      let bs = blendsOf t in
-      let vs = take (t .count) values in
+      rounded (total (parts x y u v values (entries four))) ≡ rounded (value (paired (blendsOf t) (take (t .count) values)) u v 1)
+  table-over w h hw hh t long full ok four found =
       let m = length-take-le (t .count) (t .blends) long in
       let n = length-take-le (t .count) values full in
-      sym (rounds-same (value (paired bs vs) u v 1) (fractionOf s) (value-positive w h bs vs (all-at (proper w h) bs ok) u v 1 (omega arith)) positive
-      (subst (Equal (value (paired bs vs) u v 1)) (sym (same ∙ ap (λ (es : List Entry). total (parts x y u v values es)) found))
-      (value-over bs vs 0 (proper-most w h bs hw hh ok) (omega arith)
-      (λ k lt. getD-take (t .count) values k 0 (omega arith) ∙ ap (λ (j : ℕ). getD values j 0) (omega arith)))) ∙
-      mul-add-div-right positive (s .whole) (s .top))
+      sym (sum-over w h hw hh (blendsOf t) (take (t .count) values) ok (omega arith) (λ k lt. getD-take (t .count) values k 0 (omega arith)) ∙
+      ap (λ (es : List Entry). rounded (total (parts x y u v values es))) (sym found))

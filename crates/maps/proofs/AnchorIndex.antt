@@ -26,7 +26,8 @@ use Rattle.mesh.proofs.SoundMaps.{live-proper, live-distinct, own-anchors}
 use Rattle.maps.specs.Values.{placeOf, readingAt, carried}
 use Rattle.maps.specs.Plain.{Plain, blends}
 use Rattle.mesh.specs.Lines.{meshOf}
-use Rattle.maps.specs.Inner.{anchorIndex, InTable}
+use Rattle.maps.specs.Inner.{anchorIndex, InTable, AtPoint}
+use Rattle.maps.proofs.OverSquare.{four-at}
 use Rattle.axis.proofs.Members.{entry, placed}
 use Rattle.maps.proofs.Readings.{Valued, place-found}
 use Rattle.mesh.proofs.BlendTables.{table-blends, table-count}
@@ -152,6 +153,19 @@ module _ {w h : ℕ} {t : Table} {values : List ℕ} (old : InTable w h t values
 
   pub old-table : (all (proper w h) (blendsOf t) ≡ true) × (sound w h (blendsOf t) ≡ true)
   old-table = rw blends-of (all-of (proper w h) (blends (old .of)) old-proper, old .is-sound)
+
+  pub old-point : (u v : ℕ) → u ≤ w → v ≤ h → AtPoint w h t u v
+  old-point u v uw vh = (
+    count-most,
+    old-table .0,
+    four-at w h (blendsOf t) (old-table .1) u v (old .sides .0) (old .sides .2) uw vh,
+    old .sides .0,
+    old .sides .1,
+    old .sides .2,
+    old .sides .3,
+    uw,
+    vh,
+  )
 
   sound-here : sound (old .of .lines .w) (old .of .lines .h) (blends (old .of)) ≡ true
   sound-here = ap₂ (λ (a b : ℕ). sound a b (blends (old .of))) (old .across) (old .up) ∙ old .is-sound

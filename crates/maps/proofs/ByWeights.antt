@@ -11,16 +11,12 @@ use lib.Dec.{leb}
 use lib.ListN.{length, getD}
 use Rattle.axis.specs.Fraction.{Fraction, total}
 use Rattle.axis.specs.Gap.{corner}
-use Rattle.axis.proofs.Tests.{either, and-of, all-at, all-of}
+use Rattle.axis.proofs.Tests.{either, and-of, all-of}
 use Rattle.axis.proofs.Gaps.{corner-end}
 use Rattle.axis.proofs.Members.{map-mem}
-use Rattle.axis.proofs.Sums.{rounds-same}
-use Rattle.axis.proofs.Scale.{total-positive}
 use Rattle.mesh.specs.declared.Blend.{Blend}
 use Rattle.mesh.specs.Lines.{meshOf}
 use Rattle.mesh.specs.Sound.{none, proper, overSquare}
-use Rattle.mesh.proofs.Cuts.{proper-facts}
-use Rattle.mesh.proofs.BlendTables.{proper-most}
 use Rattle.mesh.proofs.SoundMaps.{live-proper}
 use Rattle.maps.specs.declared.Map.{Map}
 use Rattle.maps.specs.declared.Placed.{Placed}
@@ -31,10 +27,9 @@ use Rattle.maps.specs.Values.{rounded, readingAt, weightAt}
 use Rattle.maps.specs.Record.{recordOf, plain, good}
 use Rattle.maps.specs.Calls.{shape, tablePlace, reading, weights, weightOver}
 use Rattle.maps.specs.ByWeights.{products, ByWeights}
-use Rattle.maps.specs.Inner.{entriesOver}
-use Rattle.maps.proofs.OverSquare.{entries-only, entry-in, denominator-positive}
-use Rattle.maps.proofs.ExactSums.{value-positive}
-use Rattle.maps.proofs.Adding.{parts, value-over}
+use Rattle.maps.specs.Inner.{entriesOver, parts}
+use Rattle.maps.proofs.OverSquare.{entries-only, entry-in}
+use Rattle.maps.proofs.Adding.{sum-over}
 use Rattle.maps.proofs.GoodRecords.{Holds, record-good, replays-sides, good-facts}
 use Rattle.maps.proofs.Answers.{place-listed, point-answers}
 
@@ -99,19 +94,12 @@ module _ {P : Plain} (holds : Holds P) (u v : ℕ) (uw : u ≤ P .lines .w) (vh 
 
   summed : readingAt (blends P) (P .values) u v ≡
       rounded (total (parts (corner w u + 1) (corner h v + 1) (u + 1) (v + 1) (P .values) found))
-  unfolding readingAt weightAt
+  unfolding readingAt
   summed =
       let s = replays-sides (holds .taken) in
-      let ok = live-proper w h (s .0) (s .2) (meshOf (P .lines)) in
-      let most = proper-most w h (blends P) (s .1) (s .3) (all-of (proper w h) (blends P) ok) in
-      rounds-same _ _ (value-positive w h (blends P) (P .values) ok (u + 1) (v + 1) 1 (omega arith))
-      (total-positive _ found
-      (λ a m.
-      let facts = proper-facts 128 128 (a .blend) (all-at (proper 128 128) (blends P) most (a .blend) (entry-in test (blends P) 0 a m .1)) in
-      denominator-positive (a .blend) facts (corner w u + 1) (corner h v + 1)))
-      (value-over (corner w u + 1) (corner h v + 1) (u + 1) (v + 1) (corner-end w u (corner w u) (s .0) uw refl)
-      (corner-end h v (corner h v) (s .2) vh refl) (P .values) (blends P) (P .values) 0 most (sym (holds .counted))
-      (λ k lt. ap (λ (j : ℕ). getD (P .values) j 0) (omega arith)))
+      sum-over (corner w u + 1) (corner h v + 1) (u + 1) (v + 1) (corner-end w u (corner w u) (s .0) uw refl) (corner-end h v (corner h v) (s .2) vh refl)
+      (P .values) w h (s .1) (s .3) (blends P) (P .values) (all-of (proper w h) (blends P) (live-proper w h (s .0) (s .2) (meshOf (P .lines))))
+      (sym (holds .counted)) (λ k lt. refl)
 
   record-weights : ByWeights (recordOf P) u v
   record-weights =

@@ -1,6 +1,8 @@
 pub mod Adding
 pub mod SameMaps
 pub mod Asking
+pub mod Walking
+pub mod PairsTold
 pub mod Demand3
 pub mod ExactSums
 pub mod Following

@@ -25,7 +25,7 @@ use Rattle.axis.proofs.Sums.{times-equal}
 use Rattle.axis.proofs.Triples.{rise-of}
 use Rattle.maps.specs.declared.values.Entry.{Entry}
 use Rattle.maps.specs.declared.values.Four.{Four}
-use Rattle.maps.specs.Inner.{entriesOver, entries}
+use Rattle.maps.specs.Inner.{entriesOver, entries, Listed, AllListed}
 use Rattle.axis.proofs.Gaps.{End, corner-in, gap-most, gap-positive, hat-outside-step, hat-share, share-most}
 
 -- the weight of a blend at a corner of a square, over the gaps in which the square lies: both numbers are small
@@ -55,7 +55,7 @@ module _ (B : Blend) (ok : ProperIn 128 128 B) (x y : ℕ) where
         (and-fails (spans x (B .across)) (spans y (B .up)) o)
 
 -- exactly four blends of a sound map lie over each square of the domain
-four-over : (w h : ℕ) (bs : List Blend) → sound w h bs ≡ true → (x y : ℕ) → 1 ≤ x → x ≤ w → 1 ≤ y → y ≤ h →
+pub four-over : (w h : ℕ) (bs : List Blend) → sound w h bs ≡ true → (x y : ℕ) → 1 ≤ x → x ≤ w → 1 ≤ y → y ≤ h →
     length (only (overSquare x y) bs) ≡ 4
 unfolding sound fourEverywhere
 four-over w h bs e x y x1 xw y1 yh =
@@ -121,22 +121,45 @@ module _ {whole : List Entry} (four : length whole ≡ 4) where
   window-all {left = []} {n = n} w le = let e : n ≡ 4 = omega (arith, w .most) in rw e at (w .joins)
   window-all {left = e ∷ left} w le = absurd (omega (arith, window-left w))
 
--- each of the four that are found in a table of proper blends stands in it
-pub record Listed (t : Table) (e : Entry) : Type 0 where
-  pub inside : e .place < t .count
-  pub is-proper : proper 128 128 (e .blend) ≡ true
+-- Entries that pass a test: where all of them pass another one too, by which no more entries pass, those that pass the other are the same.
+module _ (test other : Blend → Bool) where
+  fewer : (bs : List Blend) → all other (only test bs) ≡ true → length (only test bs) ≤ length (only other bs)
+  fewer [] e = omega arith
+  fewer (B ∷ bs) e =
+      ⊎-elim
+      (λ (t : test B ≡ true).
+      let b = and-both (other B) _ (rw t at e) in
+      rw (t, b .0) (omega (arith, fewer bs (b .1))))
+      (λ (t : test B ≡ false).
+      let rest = fewer bs (rw t at e) in
+      ⊎-elim (λ (o : other B ≡ true). rw (t, o) (omega arith)) (λ (o : other B ≡ false). rw (t, o) rest) (either (other B)))
+      (either (test B))
 
-pub all-listed : (w h : ℕ) → w ≤ 128 → h ≤ 128 → (t : Table) → all (proper w h) (blendsOf t) ≡ true →
-    (x y : ℕ) (f : Four) → entries f ≡ entriesOver (overSquare x y) (blendsOf t) 0 →
-    Listed t (f .first) × Listed t (f .second) × Listed t (f .third) × Listed t (f .fourth)
-all-listed w h hw hh t ok x y f e = (
+  pub entries-stay : (bs : List Blend) (i : ℕ) → all other (only test bs) ≡ true → length (only other bs) ≤ length (only test bs) →
+      entriesOver test bs i ≡ entriesOver other bs i
+  entries-stay [] i e le = refl
+  entries-stay (B ∷ bs) i e le =
+      ⊎-elim
+      (λ (t : test B ≡ true).
+      let b = and-both (other B) _ (rw t at e) in
+      let rest = entries-stay bs (i + 1) (b .1) (omega (arith, rw (t, b .0) at le)) in
+      rw (t, b .0) (ap (λ (es : List Entry). record { blend = B; place = i } ∷ es) rest))
+      (λ (t : test B ≡ false).
+      ⊎-elim (λ (o : other B ≡ true). absurd (omega (arith, rw (t, o) at le, fewer bs (rw t at e))))
+      (λ (o : other B ≡ false). rw (t, o) (entries-stay bs (i + 1) (rw t at e) (rw (t, o) at le))) (either (other B)))
+      (either (test B))
+
+-- each of the four that are found in a table of proper blends stands in it
+pub all-listed : (w h : ℕ) → w ≤ 128 → h ≤ 128 → (t : Table) → t .count ≤ 1024 → all (proper w h) (blendsOf t) ≡ true →
+    (x y : ℕ) (f : Four) → entries f ≡ entriesOver (overSquare x y) (blendsOf t) 0 → AllListed f
+all-listed w h hw hh t few ok x y f e = (
   listed _ (List·Memᴰ·head refl),
   listed _ (List·Memᴰ·tail (List·Memᴰ·head refl)),
   listed _ (List·Memᴰ·tail (List·Memᴰ·tail (List·Memᴰ·head refl))),
   listed _ (List·Memᴰ·tail (List·Memᴰ·tail (List·Memᴰ·tail (List·Memᴰ·head refl)))),
 )
   where
-    listed : (a : Entry) → List·Memᴰ a (entries f) → Listed t a
+    listed : (a : Entry) → List·Memᴰ a (entries f) → Listed a
     listed a m =
         let r = entry-in (overSquare x y) (blendsOf t) 0 a (rw e at m) in
         record {

@@ -17,7 +17,7 @@ use Rattle.maps.specs.Values.{placeOf, drawn}
 use Rattle.mesh.specs.Splits.{given, exactNumber, containing, candidate, chosen}
 use Rattle.maps.specs.Record.{good}
 use Rattle.maps.specs.Calls.{setPlain}
-use Rattle.maps.specs.Histories.{Call, set, exact, lengthened, place, reads, weighs, sameAs, Outcome, firstDrawn, byMachine, ending}
+use Rattle.maps.specs.Histories.{Call, set, exact, lengthened, place, reads, weighs, alongRow, alongColumn, sameAs, Outcome, firstDrawn, byMachine, ending}
 use Rattle.maps.specs.Demand.{Start, fresh, lineBy, linesBy}
 use Rattle.maps.proofs.OneSplitMore.{exact-says}
 use Rattle.maps.proofs.GoodRecords.{Holds, replays-sides, replays-stands, fresh-holds, set-holds, drawn-holds}
@@ -110,6 +110,8 @@ module _ (P : Plain) (at : Reached P) where
   step-leads (place i) = leads-nowhere
   step-leads (reads u v) = leads-nowhere
   step-leads (weighs u v) = leads-nowhere
+  step-leads (alongRow v wanted) = leads-nowhere
+  step-leads (alongColumn u wanted) = leads-nowhere
   step-leads (sameAs m) = by-test [] (good m) _ _ (λ e. leads-nowhere) (λ e. leads-nowhere)
 
 -- A list of calls:

@@ -18,12 +18,14 @@ use Rattle.maps.specs.Values.{readingAt, carried, drawn}
 use Rattle.mesh.specs.Splits.{liveOf, withLine, given, exactNumber, containing, candidate, chosen}
 use Rattle.maps.specs.Calls.{freshMap, setPlain}
 use Rattle.maps.specs.Straight.{flow}
-use Rattle.maps.specs.Histories.{Call, set, exact, lengthened, reads, Answer, number, placed, read, weighed, told, numberOf, byMachine}
+use Rattle.maps.specs.Histories.{Call, set, exact, lengthened, reads, alongRow, alongColumn, Answer, number, placed, read, weighed, paired, told, numberOf, byMachine}
 
 -- a row, on the map that the rows before it left
 data Row : Type 0 where
-  -- a call, its number, and the litres of a reading or else the count of live blends after the call
+  -- a call, its number, and the litres of a reading, the count of pairs or else the count of live blends after the call
   row : Call → ℕ → ℕ → Row
+  -- a call along a row or a column that is accepted: how many pairs, and the first point of the first
+  reached : Call → ℕ → ℕ → Row
   -- the ends with which the last split was drawn
   drawnFrom : ℕ → ℕ → Row
   -- with a line drawn as given, in how many supports the unit square at (x, y) lies
@@ -34,6 +36,7 @@ shownBy (number n) P = length (blends P)
 shownBy (placed p) P = length (blends P)
 shownBy (read r) P = r .litres
 shownBy (weighed w) P = length (blends P)
+shownBy (paired p) P = p .count
 shownBy (told s) P = length (blends P)
 
 upright : ℕ → ℕ → ℕ → Split
@@ -53,6 +56,7 @@ Right P [] = Unit
 Right P (row c n s ∷ rs) =
     let o = byMachine P c in
     (numberOf (o .answer) ≡ n) × (shownBy (o .answer) (o .next) ≡ s) × Right (o .next) rs
+Right P (reached c n k ∷ rs) = (byMachine P c .answer ≡ paired (record { number = 0; count = n; first = k })) × Right P rs
 Right P (drawnFrom f t ∷ rs) = (last (P .lines .splits) .from ≡ f) × (last (P .lines .splits) .to ≡ t) × Right P rs
 Right P (supports s x y n ∷ rs) = (length (only (overSquare (x + 1) (y + 1)) (liveOf (withLine (P .lines) s))) ≡ n) × Right P rs
 
@@ -103,6 +107,14 @@ beside =
     on 4 3
     (row (set 0 0 40) 0 4 ∷ row (set 4 0 16) 0 4 ∷ row (set 0 3 55) 0 4 ∷ row (set 4 3 19) 0 4 ∷ row (exact (upright 2 0 3)) 0 6 ∷ row (exact (level 1 0 2)) 0 7 ∷
     row (reads 0 1) 0 45 ∷ row (reads 1 2) 0 42 ∷ row (reads 3 2) 0 26 ∷ []) ∷
+    -- L2: readings 0, 3, 6, 10 along a row of 3 by 1, and 5 to 10 up the last column; then a hill, 0, 5, 10, 5, 0, which crosses 5 once up and once down, below 5
+    -- only at the ends; rows and columns outside, wanted flows out of range, no pair
+    on 3 1
+    (row (set 3 0 5) 0 4 ∷ row (set 3 1 10) 0 4 ∷ reached (alongRow 1 6) 1 1 ∷ reached (alongRow 1 7) 1 2 ∷ reached (alongColumn 3 6) 1 0 ∷ reached (alongRow 0 1) 1 0 ∷
+    row (alongRow 2 6) 10 0 ∷ row (alongColumn 4 0) 10 0 ∷ row (alongRow 1 11) 13 0 ∷ row (alongRow 0 0) 13 0 ∷ row (alongColumn 3 65536) 13 0 ∷ []) ∷
+    on 4 1
+    (row (exact (upright 2 0 1)) 0 6 ∷ row (set 2 0 10) 0 6 ∷ reached (alongRow 0 5) 2 0 ∷ reached (alongRow 0 6) 2 1 ∷ reached (alongColumn 2 10) 1 0 ∷
+    row (alongColumn 0 5) 13 0 ∷ []) ∷
     []
 
 all-starred : AllRight starred
@@ -111,7 +123,7 @@ all-starred = (refl, (refl, (refl, (refl, (refl, (refl, (refl, (refl, refl, (ref
 
 all-beside : AllRight beside
 unfolding AllRight starred beside Right last upright level shownBy freshMap setPlain drawn given exactNumber containing candidate chosen readingAt carried freshPlain Triple.half Triple.hat Lines.inRange Lines.draws Lines.freshMesh Lines.mesh Lines.onLine Lines.shares Lines.ended Blends.halve Nearest.below Nearest.above Nearest.nearest Blends.isCut Blends.leaves Blends.leavesOf Blends.once Blends.inTableOrder Blends.refine Blends.live Sound.fourEverywhere Sound.noneNested Sound.sound
-all-beside = (refl, (refl, refl, (refl, refl, (refl, refl, (refl, refl, tt)))), (refl, (refl, refl, (refl, refl, (refl, refl, (refl, refl, (refl, refl, tt))))), (refl, (refl, refl, (refl, refl, (refl, refl, (refl, refl, (refl, refl, (refl, refl, tt)))))), (refl, (refl, refl, (refl, refl, tt)), (refl, (refl, refl, (refl, refl, (refl, refl, (refl, refl, (refl, refl, (refl, refl, (refl, refl, (refl, refl, (refl, refl, tt))))))))), tt)))))
+all-beside = (refl, (refl, refl, (refl, refl, (refl, refl, (refl, refl, tt)))), (refl, (refl, refl, (refl, refl, (refl, refl, (refl, refl, (refl, refl, tt))))), (refl, (refl, refl, (refl, refl, (refl, refl, (refl, refl, (refl, refl, (refl, refl, tt)))))), (refl, (refl, refl, (refl, refl, tt)), (refl, (refl, refl, (refl, refl, (refl, refl, (refl, refl, (refl, refl, (refl, refl, (refl, refl, (refl, refl, (refl, refl, tt))))))))), (refl, (refl, refl, (refl, refl, (refl, (refl, (refl, (refl, (refl, refl, (refl, refl, (refl, refl, (refl, refl, (refl, refl, tt))))))))))), (refl, (refl, refl, (refl, refl, (refl, (refl, (refl, (refl, refl, tt)))))), tt)))))))
 
 -- that pump's flow at the last of these points
 straight-flow : flow (pos 40) (negsuc 5) (pos 5) (negsuc 0) (pos 3) (pos 2) ≡ pos 26

@@ -18,7 +18,7 @@ use Rattle.maps.specs.Plain.{Plain, freshPlain}
 use Rattle.mesh.specs.Splits.{given, exactNumber, chosen}
 use Rattle.maps.specs.Record.{recordOf, plain}
 use Rattle.maps.specs.Calls.{changed, freshMap, shape, tablePlace, reading}
-use Rattle.maps.specs.Histories.{Call, set, exact, lengthened, place, reads, weighs, sameAs, number, Outcome, outcome, byLibrary, byMachine, outcomes, ending}
+use Rattle.maps.specs.Histories.{Call, set, exact, lengthened, place, reads, weighs, alongRow, alongColumn, sameAs, number, Outcome, outcome, byLibrary, byMachine, outcomes, ending}
 use Rattle.maps.specs.Straight.{ValuesStraight, ReadsStraight}
 use Rattle.axis.specs.Range.{Distinct}
 
@@ -94,6 +94,8 @@ lineBy P (set i j v) = []
 lineBy P (place i) = []
 lineBy P (reads u v) = []
 lineBy P (weighs u v) = []
+lineBy P (alongRow v wanted) = []
+lineBy P (alongColumn u wanted) = []
 lineBy P (sameAs m) = []
 
 abbrev pub linesBy : Plain → List Call → List Split

@@ -4,20 +4,23 @@ use mathlib.Core.Path.{_≡_}
 use mathlib.Core.Bool.{Bool, true, cond}
 use mathlib.Core.List.{List, [], _∷_, _++_, map}
 use lib.Dec.{eqb}
-use lib.ListN.{length, take, set, replicate}
+use lib.ListN.{length, getD, take, set, replicate}
 use Rattle.axis.specs.Limits.{largestSide, mostSplits, mostBlends}
 use Rattle.axis.specs.Fraction.{Fraction}
+use Rattle.axis.specs.Gap.{corner}
+use Rattle.axis.specs.Range.{all, only}
 use Rattle.mesh.specs.declared.Split.{Split}
 use Rattle.mesh.specs.declared.Lines.{Lines}
 use Rattle.mesh.specs.declared.Table.{Table}
 use Rattle.mesh.specs.declared.Blend.{Blend}
 use Rattle.mesh.specs.Lines.{layoutOf, allowed}
-use Rattle.mesh.specs.Sound.{sound, table}
+use Rattle.mesh.specs.Sound.{sound, proper, overSquare, table, blendsOf}
 use Rattle.mesh.specs.Blends.{place}
 use Rattle.maps.specs.declared.splits.Step.{Step}
 use Rattle.mesh.specs.Splits.{liveOf, withLine, soundWith, given, exactNumber, chosen}
 use Rattle.maps.specs.declared.Map.{Map}
 use Rattle.maps.specs.declared.Changed.{Changed}
+use Rattle.maps.specs.declared.Pairs.{Pairs}
 use Rattle.maps.specs.declared.Weight.{Weight}
 use Rattle.maps.specs.declared.values.Sum.{Sum}
 use Rattle.maps.specs.declared.values.Entry.{Entry}
@@ -26,6 +29,7 @@ use Rattle.maps.specs.Plain.{Plain, blends}
 use Rattle.maps.specs.Values.{carried, drawn, weightAt}
 use Rattle.maps.specs.Record.{plain, recordOf}
 use Rattle.maps.specs.Calls.{changed, shape}
+use Rattle.maps.specs.Pairs.{rowPairs, columnPairs}
 
 -- the lines with one split more
 abbrev pub withSplit : Lines → Split → Lines
@@ -82,6 +86,12 @@ pub record InTable (w h : ℕ) (t : Table) (values : List ℕ) : Type 0 where
   pub is-short : length (blends of) ≤ mostBlends
   pub are-values : of .values ≡ take (length (blends of)) values
 
+-- a table of proper blends of which four lie over the unit square at a point of the domain
+abbrev pub AtPoint : ℕ → ℕ → Table → ℕ → ℕ → Type 0
+AtPoint w h t u v =
+    (t .count ≤ mostBlends) × (all (proper w h) (blendsOf t) ≡ true) × (length (only (overSquare (corner w u + 1) (corner h v + 1)) (blendsOf t)) ≡ 4) ×
+    (1 ≤ w) × (w ≤ largestSide) × (1 ≤ h) × (h ≤ largestSide) × (u ≤ w) × (v ≤ h)
+
 -- a step from an opened record: a line that is drawn is one that an exact split may draw, and the table is that of the map with it
 abbrev pub Drawable : Map → Step → Type 0
 Drawable m r =
@@ -101,6 +111,20 @@ entriesOver test (B ∷ bs) i =
 abbrev pub entries : Four → List Entry
 entries f = f .first ∷ f .second ∷ f .third ∷ f .fourth ∷ []
 
+-- an entry that can be weighed: a proper blend, at a place of the array of values
+pub record Listed (e : Entry) : Type 0 where
+  pub inside : e .place < mostBlends
+  pub is-proper : proper largestSide largestSide (e .blend) ≡ true
+
+abbrev pub AllListed : Four → Type 0
+AllListed f = Listed (f .first) × Listed (f .second) × Listed (f .third) × Listed (f .fourth)
+
+-- four entries of a table that are those over some square
+pub record FourOf (t : Table) (f : Four) : Type 0 where
+  pub x : ℕ
+  pub y : ℕ
+  pub are : entries f ≡ entriesOver (overSquare x y) (blendsOf t) 0
+
 -- a blend with its weight at a corner of a square, as `weightOver` has it at a point
 abbrev pub weightOfBlend : ℕ → ℕ → ℕ → ℕ → Blend → Weight
 weightOfBlend x y u v B =
@@ -117,6 +141,10 @@ pub record Light (w : Weight) : Type 0 where
 abbrev pub portion : ℕ → ℕ → ℕ → ℕ → Blend → ℕ → Fraction
 portion x y u v B c = let f = weightAt x y u v B in record { num = f .num * c; den = f .den }
 
+-- the values of some entries times their weights
+abbrev pub parts : ℕ → ℕ → ℕ → ℕ → List ℕ → List Entry → List Fraction
+parts x y u v values = map (λ (a : Entry). portion x y u v (a .blend) (getD values (a .place) 0))
+
 -- a sum of n such numbers, with the bounds that keep its parts below 2 to the 64
 abbrev pub fractionOf : Sum → Fraction
 fractionOf s = record { num = s .whole * s .bottom + s .top; den = s .bottom }
@@ -126,3 +154,11 @@ pub record SumOf (n : ℕ) (s : Sum) : Type 0 where
   pub low : s .bottom ≤ 16641 ^ n
   pub rest : s .top ≤ n * s .bottom
   pub most : s .whole ≤ n * (16641 * 65535)
+
+-- pairs with one more, whose first point is k
+abbrev pub withPair : Pairs → ℕ → Pairs
+withPair p k = record { number = 0; count = p .count + 1; first = cond (eqb (p .count) 0) k (p .first) }
+
+-- the pairs along a row, or up a column
+abbrev pub alongPairs : Map → Bool → ℕ → ℕ → Pairs
+alongPairs m row at wanted = cond row (rowPairs m at wanted) (columnPairs m at wanted)

@@ -2,6 +2,8 @@ pub mod Plain
 pub mod Values
 pub mod Record
 pub mod Calls
+pub mod Pairs
+pub mod PairsTold
 pub mod Opened
 pub mod Sameness
 pub mod Histories

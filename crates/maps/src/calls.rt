@@ -1,6 +1,7 @@
 // The calls on a map. Each opens the record first, once; a refusal hands back the map as it came.
 use crate::Changed;
 use crate::Map;
+use crate::Pairs;
 use crate::Placed;
 use crate::Reading;
 use crate::Same;
@@ -14,6 +15,7 @@ ghost use mathlib.Core.Path.{_≡_};
 ghost use mathlib.Core.Bool.{_&&_};
 ghost use lib.Dec.{leb};
 ghost use Rattle.maps.specs.Calls.{noShape, noPlace, noWeights, setValue, tablePlace, reading, weights, exactSplit, lengthenedSplit};
+ghost use Rattle.maps.specs.Pairs.{noPairs, rowPairs, columnPairs};
 ghost use Rattle.maps.specs.Sameness.{sameness};
 
 fn no_shape() -> Shape
@@ -63,6 +65,16 @@ pub(crate) fn no_place(number: usize) -> Placed
     }
 }
 
+pub(crate) fn no_pairs(number: usize) -> Pairs
+    ensures { λ r. ⌜ r ≡ noPairs number ⌝ }
+{
+    Pairs {
+        number: number,
+        count: 0,
+        first: 0,
+    }
+}
+
 impl Map {
     // The blend and value at a table place, from 0: refused with 2 or 9.
     pub fn place(self, i: usize) -> Placed
@@ -98,6 +110,29 @@ impl Map {
             return no_weights(2);
         }
         opened.weights(u, v)
+    }
+
+    // The pairs of neighbouring points of the row v of which one reading is below the wanted flow and the other is not, and the first: refused with 2, 10
+    // or 13.
+    pub fn row(self, v: usize, wanted: usize) -> Pairs
+        ensures { λ r. ⌜ r ≡ rowPairs self v wanted ⌝ }
+    {
+        let opened = open(self);
+        if opened.number != 0 {
+            return no_pairs(2);
+        }
+        opened.row(v, wanted)
+    }
+
+    // The same up the column u: refused with 2, 10 or 13.
+    pub fn column(self, u: usize, wanted: usize) -> Pairs
+        ensures { λ r. ⌜ r ≡ columnPairs self u wanted ⌝ }
+    {
+        let opened = open(self);
+        if opened.number != 0 {
+            return no_pairs(2);
+        }
+        opened.column(u, wanted)
     }
 
     // Sets the value at the anchor (m, n): refused with 2 or 9.

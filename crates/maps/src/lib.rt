@@ -5,6 +5,7 @@ pub mod opened;
 mod sameness;
 mod splits;
 mod values;
+mod walk;
 
 use mesh::Lines;
 use mesh::Split;
@@ -114,6 +115,13 @@ pub struct Weight {
 pub struct Weights {
     pub number: usize,
     pub entries: [Weight; 4],
+}
+
+// A number, how many pairs of neighbouring points lie on different sides of a wanted flow along a row or a column, and the first point of the first pair.
+pub struct Pairs {
+    pub number: usize,
+    pub count: usize,
+    pub first: usize,
 }
 
 // A number, and whether two maps are the same.

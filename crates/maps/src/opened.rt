@@ -3,11 +3,13 @@
 // read a map from its file does not replay it again.
 use crate::Changed;
 use crate::Map;
+use crate::Pairs;
 use crate::Placed;
 use crate::Reading;
 use crate::Same;
 use crate::Weights;
 use crate::calls::in_domain;
+use crate::calls::no_pairs;
 use crate::calls::no_place;
 use crate::calls::no_weights;
 use crate::carry::carried_values;
@@ -19,6 +21,8 @@ use crate::values::place_of;
 use crate::values::reading_of;
 use crate::values::shape_of;
 use crate::values::weights_of;
+use crate::walk::along;
+use crate::walk::pairs_along;
 use axis::Triple;
 use mesh::Blend;
 use mesh::Split;
@@ -35,9 +39,10 @@ ghost use Rattle.axis.specs.Range.{all};
 ghost use Rattle.mesh.specs.Sound.{table};
 ghost use Rattle.maps.specs.Record.{isNoSplit};
 ghost use Rattle.maps.specs.Calls.{changed, freshMap, setValue, tablePlace, reading, weights, exactSplit, lengthenedSplit};
+ghost use Rattle.maps.specs.Pairs.{rowPairs, columnPairs};
 ghost use Rattle.maps.specs.Sameness.{sameness};
 ghost use Rattle.maps.specs.Opened.{withTable, opened, Opens};
-ghost use Rattle.maps.specs.Inner.{Drawable, drawnBy};
+ghost use Rattle.maps.specs.Inner.{Drawable, drawnBy, alongPairs};
 
 // A number, a map, and the table of its live blends; an empty one where its record is not good.
 pub struct Opened {
@@ -251,6 +256,44 @@ impl Opened {
         }
         let table = self.table;
         weights_of(table, w, h, u, v)
+    }
+
+    // The rest of `Map::row`, or of `Map::column`.
+    fn along(self, row: bool, at: usize, wanted: usize) -> Pairs
+        requires { ⌜ Opens self ⌝ }
+        ensures { λ r. ⌜ r ≡ alongPairs (self .map) row at wanted ⌝ }
+    {
+        let map = self.map;
+        let w = map.lines.w;
+        let h = map.lines.h;
+        if along(row, h, w) < at {
+            return no_pairs(10);
+        }
+        if wanted < 1 {
+            return no_pairs(13);
+        }
+        if 65535 < wanted {
+            return no_pairs(13);
+        }
+        let table = self.table;
+        let values = map.values;
+        pairs_along(table, values, w, h, row, at, wanted)
+    }
+
+    // The rest of `Map::row`.
+    pub fn row(self, v: usize, wanted: usize) -> Pairs
+        requires { ⌜ Opens self ⌝ }
+        ensures { λ r. ⌜ r ≡ rowPairs (self .map) v wanted ⌝ }
+    {
+        self.along(true, v, wanted)
+    }
+
+    // The rest of `Map::column`.
+    pub fn column(self, u: usize, wanted: usize) -> Pairs
+        requires { ⌜ Opens self ⌝ }
+        ensures { λ r. ⌜ r ≡ columnPairs (self .map) u wanted ⌝ }
+    {
+        self.along(false, u, wanted)
     }
 
     // The rest of `Map::set`.

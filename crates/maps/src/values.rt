@@ -16,14 +16,14 @@ ghost use mathlib.Core.List.{map};
 ghost use Prim.Native.Nat.{ℕ, _+_, _≤_, _<_};
 ghost use lib.ListN.{length, take};
 ghost use Rattle.axis.specs.Limits.{largestSide, mostBlends};
-ghost use Rattle.axis.specs.Range.{all, only};
-ghost use Rattle.axis.specs.Fraction.{plus};
+ghost use Rattle.axis.specs.Range.{only};
+ghost use Rattle.axis.specs.Fraction.{plus, total};
 ghost use Rattle.mesh.specs.Blends.{anchored};
 ghost use Rattle.mesh.specs.Sound.{proper, overSquare, blendsOf};
 ghost use Rattle.axis.specs.Gap.{corner};
-ghost use Rattle.maps.specs.Values.{placeOf, readingAt};
+ghost use Rattle.maps.specs.Values.{rounded, placeOf, readingAt};
 ghost use Rattle.maps.specs.Calls.{shape, weightOver};
-ghost use Rattle.maps.specs.Inner.{entries, entriesOver, weightOfBlend, Light, portion, fractionOf, SumOf};
+ghost use Rattle.maps.specs.Inner.{AtPoint, entries, entriesOver, AllListed, weightOfBlend, Light, portion, parts, fractionOf, SumOf};
 
 // A blend in document 01's coordinates.
 pub(crate) fn shape_of(x: Blend) -> Shape
@@ -42,7 +42,7 @@ pub(crate) fn shape_of(x: Blend) -> Shape
 }
 
 // The knot at the low end of the unit step at a coordinate of a side. The coordinate's own knot is an end of that step.
-fn low_knot(side: usize, u: usize) -> usize
+pub(crate) fn low_knot(side: usize, u: usize) -> usize
     requires { ⌜ (1 ≤ side) × (side ≤ 128) × (u ≤ side) ⌝ }
     ensures { λ r. ⌜ (r ≡ corner side u + 1) × (r ≤ u + 1) × (u ≤ r) ⌝ }
 {
@@ -50,7 +50,7 @@ fn low_knot(side: usize, u: usize) -> usize
 }
 
 // Whether the unit square whose low corner is at knots (x, y) lies in the blend's support.
-fn is_over(b: Blend, x: usize, y: usize) -> bool
+pub(crate) fn is_over(b: Blend, x: usize, y: usize) -> bool
     ensures { λ r. ⌜ r ≡ overSquare x y b ⌝ }
 {
     let a = b.across;
@@ -177,26 +177,19 @@ pub(crate) fn four_over(table: Table, x: usize, y: usize) -> Four
     four
 }
 
-// The reading at the whole point (u, v): the weights of the blends over its unit square times their values, rounded down. They are added
-// from the last to the first, as the sum over a list is.
-pub(crate) fn reading_of(
-    table: Table,
+// The reading at knots (u, v), a corner of the unit square whose low corner is at knots (x, y), by the four blends over that square: their weights times
+// their values, rounded down. They are added from the last to the first, as the sum over a list is.
+pub(crate) fn reading_over(
+    four: Four,
     values: [u16; Table::MOST_BLENDS],
-    w: usize,
-    h: usize,
+    x: usize,
+    y: usize,
     u: usize,
     v: usize,
 ) -> usize
-    requires { ⌜ (table .count ≤ mostBlends) × (all (proper w h) (blendsOf table) ≡ true) ×
-        (length (only (overSquare (corner w u + 1) (corner h v + 1)) (blendsOf table)) ≡ 4) ×
-        (1 ≤ w) × (w ≤ largestSide) × (1 ≤ h) × (h ≤ largestSide) × (u ≤ w) × (v ≤ h) ⌝ }
-    ensures { λ r. ⌜ r ≡ readingAt (blendsOf table) (take (table .count) values) u v ⌝ }
+    requires { ⌜ AllListed four × (x ≤ u) × (u ≤ x + 1) × (y ≤ v) × (v ≤ y + 1) ⌝ }
+    ensures { λ r. ⌜ r ≡ rounded (total (parts x y u v values (entries four))) ⌝ }
 {
-    let x = low_knot(w, u);
-    let y = low_knot(h, v);
-    let m = u + 1;
-    let n = v + 1;
-    let four = four_over(table, x, y);
     let i = four.first.place;
     let j = four.second.place;
     let k = four.third.place;
@@ -206,18 +199,34 @@ pub(crate) fn reading_of(
         top: 0,
         bottom: 1,
     };
-    let one = added(none, four.fourth.blend, values[l], x, y, m, n);
-    let two = added(one, four.third.blend, values[k], x, y, m, n);
-    let three = added(two, four.second.blend, values[j], x, y, m, n);
-    let sum = added(three, four.first.blend, values[i], x, y, m, n);
+    let one = added(none, four.fourth.blend, values[l], x, y, u, v);
+    let two = added(one, four.third.blend, values[k], x, y, u, v);
+    let three = added(two, four.second.blend, values[j], x, y, u, v);
+    let sum = added(three, four.first.blend, values[i], x, y, u, v);
     sum.whole + sum.top / sum.bottom
+}
+
+// The reading at the whole point (u, v).
+pub(crate) fn reading_of(
+    table: Table,
+    values: [u16; Table::MOST_BLENDS],
+    w: usize,
+    h: usize,
+    u: usize,
+    v: usize,
+) -> usize
+    requires { ⌜ AtPoint w h table u v ⌝ }
+    ensures { λ r. ⌜ r ≡ readingAt (blendsOf table) (take (table .count) values) u v ⌝ }
+{
+    let x = low_knot(w, u);
+    let y = low_knot(h, v);
+    let four = four_over(table, x, y);
+    reading_over(four, values, x, y, u + 1, v + 1)
 }
 
 // The weights of the four blends over the unit square at a whole point, in table order.
 pub(crate) fn weights_of(table: Table, w: usize, h: usize, u: usize, v: usize) -> Weights
-    requires { ⌜ (table .count ≤ mostBlends) × (all (proper w h) (blendsOf table) ≡ true) ×
-        (length (only (overSquare (corner w u + 1) (corner h v + 1)) (blendsOf table)) ≡ 4) ×
-        (1 ≤ w) × (w ≤ largestSide) × (1 ≤ h) × (h ≤ largestSide) × (u ≤ w) × (v ≤ h) ⌝ }
+    requires { ⌜ AtPoint w h table u v ⌝ }
     ensures { λ r. ⌜ (r .number ≡ 0) × (r .entries ≡ map (weightOver w h u v) (only (overSquare (corner w u + 1) (corner h v + 1)) (blendsOf table))) ⌝ }
 {
     let x = low_knot(w, u);

@@ -27,7 +27,7 @@ use Rattle.files.proofs.RoundTrip.{file-length}
 use Rattle.files.proofs.GoodFiles.{accepts}
 use Rattle.files.proofs.FromFile.{read-reached, calls-end}
 use Rattle.pump.specs.Border.{newNumber, newBytes, newUsed, freshNumber, lent}
-use Rattle.pump.specs.Histories.{PumpCall, fresh, set, exact, lengthened, place, reads, weighs, sameAs, sameTo, checks, payloads, lists, PumpOutcome, Buffer, buffer, Desk, desk, puts, changes, byRules, shown}
+use Rattle.pump.specs.Histories.{PumpCall, fresh, set, exact, lengthened, place, reads, weighs, alongRow, alongColumn, sameAs, sameTo, checks, payloads, lists, PumpOutcome, Buffer, buffer, Desk, desk, puts, changes, byRules, shown}
 use Rattle.pump.specs.Demand.{Past, past, withChange, pastAfter, BorderFrom, begun, BorderDemand, BorderFile}
 use Rattle.pump.proofs.Histories.{At, puts-untouched, changes-untouched, step-shown}
 
@@ -82,6 +82,8 @@ module _ {t : Past} {d : Desk} (l : Lead t d) where
   step-lead (place i out) = asks-lead (byRules d (place i out) .answer .number)
   step-lead (reads u v) = asks-lead (byRules d (reads u v) .answer .number)
   step-lead (weighs u v out) = asks-lead (byRules d (weighs u v out) .answer .number)
+  step-lead (alongRow v wanted) = asks-lead (byRules d (alongRow v wanted) .answer .number)
+  step-lead (alongColumn u wanted) = asks-lead (byRules d (alongColumn u wanted) .answer .number)
   step-lead (sameAs other) = asks-lead (byRules d (sameAs other) .answer .number)
   step-lead (sameTo other) = asks-lead (byRules d (sameTo other) .answer .number)
   step-lead checks = l
@@ -98,6 +100,8 @@ module _ {t : Past} {d : Desk} (l : Lead t d) where
   step-untouched k (place i out) le = refl
   step-untouched k (reads u v) le = refl
   step-untouched k (weighs u v out) le = refl
+  step-untouched k (alongRow v wanted) le = refl
+  step-untouched k (alongColumn u wanted) le = refl
   step-untouched k (sameAs other) le = refl
   step-untouched k (sameTo other) le = refl
   step-untouched k checks le = refl

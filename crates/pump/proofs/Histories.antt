@@ -4,7 +4,7 @@ use native.Mathlib.Omega.{arith}
 use mathlib.Core.Path.{_≡_, refl, sym, ap, subst, _∙_}
 use mathlib.Core.Logic.{⊎-elim}
 use mathlib.Core.Bool.{true, false, _&&_}
-use mathlib.Core.List.{List, [], _++_}
+use mathlib.Core.List.{List, [], _∷_, _++_}
 use borrow.Author.Tests.{le-leb, leb-false}
 use lib.Dec.{leb, ltb}
 use lib.ListN.{length, drop, length-append}
@@ -13,10 +13,12 @@ use Rattle.axis.proofs.Tests.{either, and-both, cond-true, cond-false}
 use Rattle.mesh.specs.Lines.{allowedSide}
 use Rattle.maps.specs.declared.Map.{Map}
 use Rattle.maps.specs.declared.Changed.{Changed}
+use Rattle.maps.specs.declared.Pairs.{Pairs}
 use Rattle.maps.specs.Plain.{Plain, freshPlain}
 use Rattle.maps.specs.Values.{inDomain}
 use Rattle.maps.specs.Record.{recordOf, plain}
 use Rattle.maps.specs.Calls.{changed, freshMap, tablePlace, reading, weights, setValue, exactSplit, lengthenedSplit}
+use Rattle.maps.specs.Pairs.{rowOn, rowPairs, columnOn, columnPairs}
 use Rattle.maps.specs.Sameness.{sameness}
 use Rattle.maps.specs.Histories as Maps
 use Rattle.maps.specs.Histories.{Call, Outcome, numberOf, byMachine}
@@ -24,13 +26,14 @@ use Rattle.maps.specs.Demand.{recorded}
 use Rattle.maps.proofs.GoodRecords.{record-good}
 use Rattle.maps.proofs.Reached.{Reached, fresh-reached, step-leads}
 use Rattle.maps.proofs.Following.{step-follows}
+use Rattle.maps.proofs.PairsTold.{Nothing, row-nothing, column-nothing}
 use Rattle.files.specs.File.{fileOf}
 use Rattle.files.specs.Calls.{ifRefused, writeNumber, readFile}
 use Rattle.files.specs.Listing.{textNumber}
 use Rattle.files.proofs.GoodFiles.{reads-back}
 use Rattle.files.proofs.ReadMaps.{read-good}
 use Rattle.pump.specs.Border.{newNumber, newBytes, newUsed, lent, placeNumber, placeAfter, weightsNumber, weightsAfter, readingNumber, readingLitres, sameNumber, sameYes}
-use Rattle.pump.specs.Histories.{PumpCall, fresh, set, exact, lengthened, place, reads, weighs, sameAs, sameTo, checks, payloads, lists, says, outcome, buffer, changing, byBorder, Desk, refuses, puts, changes, byRules, lentBy, shown}
+use Rattle.pump.specs.Histories.{PumpCall, fresh, set, exact, lengthened, place, reads, weighs, alongRow, alongColumn, sameAs, sameTo, checks, payloads, lists, says, outcome, buffer, changing, byBorder, Desk, refuses, puts, changes, tellsPairs, byRules, lentBy, shown}
 
 -- What holds of the desk throughout: its map was reached, and the buffer begins with that map's file.
 pub record At (d : Desk) : Type 0 where
@@ -96,8 +99,14 @@ module _ {d : Desk} (at : At d) where
   itself n =
       ⊎-elim (λ (t : leb 1 n ≡ true). rw t) (λ (f : leb 1 n ≡ false). let z : n ≡ 0 = (let le = leb-false 1 n f in omega arith) in rw z) (either (leb 1 n))
 
+  pairs-shown : (p : Pairs) → Nothing p → let n = ifRefused (p .number) (p .number) 0 in
+      outcome (says n (ifRefused n 0 (p .count) ∷ ifRefused n 0 (p .first) ∷ []) []) (lentBy d) ≡ shown (tellsPairs d p)
+  pairs-shown p none =
+      rw (itself (p .number))
+      (⊎-elim (λ (t : leb 1 (p .number) ≡ true). rw (t, none t .0, none t .1)) (λ (f : leb 1 (p .number) ≡ false). rw f) (either (leb 1 (p .number))))
+
   pub step-shown : (c : PumpCall) → byBorder (lentBy d) c ≡ shown (byRules d c)
-  unfolding freshMap placeNumber placeAfter tablePlace weightsNumber weightsAfter weights readingNumber readingLitres reading sameNumber sameYes sameness textNumber
+  unfolding freshMap placeNumber placeAfter tablePlace weightsNumber weightsAfter weights readingNumber readingLitres reading rowPairs columnPairs sameNumber sameYes sameness textNumber
   step-shown (fresh w h) =
       ⊎-elim
       (λ (t : allowedSide w && allowedSide h ≡ true).
@@ -117,6 +126,11 @@ module _ {d : Desk} (at : At d) where
       rw (is-read, g .0, g .1)
       (⊎-elim (λ (t : inDomain (d .holds) u v ≡ true). rw t) (λ (f : inDomain (d .holds) u v ≡ false). rw f) (either (inDomain (d .holds) u v)))
   step-shown (weighs u v out) = let g = record-good (at .reached .holds) in rw (is-read, g .0, g .1)
+  step-shown (alongRow v wanted) =
+      let g = record-good (at .reached .holds) in rw (is-read, g .0, g .1) (pairs-shown (rowOn (d .holds) v wanted) (row-nothing (d .holds) v wanted))
+  step-shown (alongColumn u wanted) =
+      let g = record-good (at .reached .holds) in
+      rw (is-read, g .0, g .1) (pairs-shown (columnOn (d .holds) u wanted) (column-nothing (d .holds) u wanted))
   step-shown (sameAs other) = let g = record-good (at .reached .holds) in rw (is-read, g .0, g .1, read-good other, itself)
   step-shown (sameTo other) = let g = record-good (at .reached .holds) in rw (is-read, g .0, g .1, read-good other, itself)
   step-shown checks = ap (λ (c : Changed). outcome (says (c .number) [] []) (lentBy d)) is-read

@@ -13,6 +13,7 @@ use Rattle.maps.specs.declared.Shape.{Shape}
 use Rattle.maps.specs.declared.Placed.{Placed}
 use Rattle.maps.specs.declared.Weight.{Weight}
 use Rattle.maps.specs.declared.Weights.{Weights}
+use Rattle.maps.specs.declared.Pairs.{Pairs}
 use Rattle.maps.specs.Record.{plain}
 use Rattle.maps.specs.Calls.{freshMap, tablePlace, reading, weights}
 use Rattle.maps.specs.Sameness.{sameness}
@@ -98,6 +99,16 @@ readingNumber file u v = firstOf (readFile file .number) (reading (readFile file
 
 unfoldable pub readingLitres : List ℕ → ℕ → ℕ → ℕ
 readingLitres file u v = ifRefused (readingNumber file u v) 0 (reading (readFile file .map) u v .litres)
+
+-- pump_row, pump_column: 11, then the call on the map, 10 or 13; a refusal gives no pairs, and 0 for the first.
+abbrev pub pairsNumber : (Map → Pairs) → List ℕ → ℕ
+pairsNumber call file = firstOf (readFile file .number) (call (readFile file .map) .number) 0
+
+abbrev pub pairsCount : (Map → Pairs) → List ℕ → ℕ
+pairsCount call file = ifRefused (pairsNumber call file) 0 (call (readFile file .map) .count)
+
+abbrev pub pairsFirst : (Map → Pairs) → List ℕ → ℕ
+pairsFirst call file = ifRefused (pairsNumber call file) 0 (call (readFile file .map) .first)
 
 -- pump_same: 11 where either is no file, and then "no", which is 0.
 unfoldable pub sameNumber : List ℕ → List ℕ → ℕ

@@ -11,7 +11,7 @@ use Rattle.files.specs.File.{fileOf}
 use Rattle.files.specs.Calls.{ifRefused}
 use Rattle.files.specs.FromFile.{readPlain, fileCalls}
 use Rattle.pump.specs.Border.{lent}
-use Rattle.pump.specs.Histories.{PumpCall, fresh, set, exact, lengthened, place, reads, weighs, sameAs, sameTo, checks, payloads, lists, says, PumpOutcome, outcome, Buffer, byBorder, Desk, desk, byRules, outcomes, left, lentBy, shown}
+use Rattle.pump.specs.Histories.{PumpCall, fresh, set, exact, lengthened, place, reads, weighs, alongRow, alongColumn, sameAs, sameTo, checks, payloads, lists, says, PumpOutcome, outcome, Buffer, byBorder, Desk, desk, byRules, outcomes, left, lentBy, shown}
 
 -- The history of the map in the buffer: the sides of the last accepted `pump_fresh`, and the accepted changes since then.
 pub record Past : Type 0 where
@@ -33,6 +33,8 @@ pastAfter t (lengthened s) = withChange t (Maps.lengthened s)
 pastAfter t (place i out) = t
 pastAfter t (reads u v) = t
 pastAfter t (weighs u v out) = t
+pastAfter t (alongRow v wanted) = t
+pastAfter t (alongColumn u wanted) = t
 pastAfter t (sameAs other) = t
 pastAfter t (sameTo other) = t
 pastAfter t checks = t

@@ -8,16 +8,18 @@ use Rattle.mesh.specs.declared.Split.{Split}
 use Rattle.mesh.specs.Lines.{allowedSide}
 use Rattle.maps.specs.declared.Map.{Map}
 use Rattle.maps.specs.declared.Changed.{Changed}
+use Rattle.maps.specs.declared.Pairs.{Pairs}
 use Rattle.maps.specs.Plain.{Plain, freshPlain}
 use Rattle.maps.specs.Record.{plain}
 use Rattle.maps.specs.Calls.{setValue, exactSplit, lengthenedSplit, placeOn, readingOn, weightsOn}
+use Rattle.maps.specs.Pairs.{rowOn, rowPairs, columnOn, columnPairs}
 use Rattle.maps.specs.Sameness.{samePlain}
 use Rattle.maps.specs.Histories as Maps
 use Rattle.maps.specs.Histories.{Call, numberOf, byMachine}
 use Rattle.files.specs.File.{fileOf}
 use Rattle.files.specs.Calls.{ifRefused, shortOf, answered, readFile, payloadNumber}
 use Rattle.files.specs.Listing.{tableText, textNumber, textWritten, textAfter}
-use Rattle.pump.specs.Border.{lent, freshNumber, freshBytes, freshUsed, changeNumber, changeBytes, changeUsed, placeNumber, placeBytes, placeAfter, weightsNumber, weightsBytes, weightsAfter, readingNumber, readingLitres, sameNumber, sameYes, checkNumber, payloadFrom, payloadCount}
+use Rattle.pump.specs.Border.{lent, freshNumber, freshBytes, freshUsed, changeNumber, changeBytes, changeUsed, placeNumber, placeBytes, placeAfter, weightsNumber, weightsBytes, weightsAfter, readingNumber, readingLitres, pairsNumber, pairsCount, pairsFirst, sameNumber, sameYes, checkNumber, payloadFrom, payloadCount}
 
 -- A call on the map in the buffer. What it is lent beside the buffer stands with its arguments: bytes for an answer, another map's file.
 pub data PumpCall : Type 0 where
@@ -27,6 +29,7 @@ pub data PumpCall : Type 0 where
   place : ℕ → List ℕ → PumpCall
   reads : ℕ → ℕ → PumpCall
   weighs : ℕ → ℕ → List ℕ → PumpCall
+  alongRow alongColumn : ℕ → ℕ → PumpCall
   sameAs sameTo : List ℕ → PumpCall
   checks : PumpCall
   payloads : ℕ → PumpCall
@@ -66,6 +69,9 @@ changing call b =
 abbrev pub asking : Buffer → (List ℕ → PumpAnswer) → PumpOutcome Buffer
 asking b question = outcome (question (lent (b .bytes) (b .used))) b
 
+abbrev pub askingPairs : Buffer → (Map → Pairs) → PumpOutcome Buffer
+askingPairs b call = asking b (λ file. says (pairsNumber call file) (pairsCount call file ∷ pairsFirst call file ∷ []) [])
+
 abbrev pub byBorder : Buffer → PumpCall → PumpOutcome Buffer
 byBorder b (fresh w h) =
     outcome (says (freshNumber w h (b .bytes)) [] []) (buffer (freshBytes w h (b .bytes)) (freshUsed w h (b .bytes) (b .used)))
@@ -75,6 +81,8 @@ byBorder b (lengthened s) = changing (λ old. lengthenedSplit old s) b
 byBorder b (place i out) = asking b (λ file. says (placeNumber file i out) [] (placeAfter file i out))
 byBorder b (reads u v) = asking b (λ file. says (readingNumber file u v) (readingLitres file u v ∷ []) [])
 byBorder b (weighs u v out) = asking b (λ file. says (weightsNumber file u v out) [] (weightsAfter file u v out))
+byBorder b (alongRow v wanted) = askingPairs b (λ m. rowPairs m v wanted)
+byBorder b (alongColumn u wanted) = askingPairs b (λ m. columnPairs m u wanted)
 byBorder b (sameAs other) = asking b (λ file. says (sameNumber file other) (sameYes file other ∷ []) [])
 byBorder b (sameTo other) = asking b (λ file. says (sameNumber other file) (sameYes other file ∷ []) [])
 byBorder b checks = asking b (λ file. says (checkNumber file) [] [])
@@ -115,6 +123,10 @@ tells d refused bytes size out =
 abbrev pub compares : Desk → ℕ → Bool → PumpOutcome Desk
 compares d n agree = outcome (says n (ifRefused n 0 (cond agree 1 0) ∷ []) []) d
 
+-- The pairs along a row or up a column: their number, how many they are and the first.
+abbrev pub tellsPairs : Desk → Pairs → PumpOutcome Desk
+tellsPairs d p = outcome (says (p .number) (p .count ∷ p .first ∷ []) []) d
+
 abbrev pub byRules : Desk → PumpCall → PumpOutcome Desk
 byRules d (fresh w h) = cond (allowedSide w && allowedSide h) (puts d (freshPlain w h)) (refuses d 1)
 byRules d (set m n v) = changes d (Maps.set m n v)
@@ -123,6 +135,8 @@ byRules d (lengthened s) = changes d (Maps.lengthened s)
 byRules d (place i out) = let p = placeOn (d .holds) i in tells d (p .number) (placeBytes p) 14 out
 byRules d (reads u v) = let r = readingOn (d .holds) u v in outcome (says (r .number) (r .litres ∷ []) []) d
 byRules d (weighs u v out) = let w = weightsOn (d .holds) u v in tells d (w .number) (weightsBytes w) 64 out
+byRules d (alongRow v wanted) = tellsPairs d (rowOn (d .holds) v wanted)
+byRules d (alongColumn u wanted) = tellsPairs d (columnOn (d .holds) u wanted)
 byRules d (sameAs other) = let f = readFile other in compares d (f .number) (samePlain (d .holds) (plain (f .map)))
 byRules d (sameTo other) = let f = readFile other in compares d (f .number) (samePlain (plain (f .map)) (d .holds))
 byRules d checks = outcome (says 0 [] []) d

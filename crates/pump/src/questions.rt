@@ -9,6 +9,7 @@ use files::bytes::put_words;
 use files::listing::list;
 use files::read;
 use files::read_opened;
+use maps::Pairs;
 use maps::Weight;
 ghost use mathlib.Core.Path.{_≡_};
 ghost use mathlib.Core.Bool.{cond};
@@ -16,9 +17,10 @@ ghost use Prim.Native.Nat.{_≤_};
 ghost use lib.ListN.{length};
 ghost use Rattle.axis.specs.Range.{joined};
 ghost use Rattle.files.specs.File.{put};
-ghost use Rattle.files.specs.Calls.{payloadNumber};
+ghost use Rattle.files.specs.Calls.{ifRefused, payloadNumber};
 ghost use Rattle.files.specs.Listing.{textNumber, textWritten, textAfter};
-ghost use Rattle.pump.specs.Border.{placeNumber, placeAfter, weightBytes, weightsNumber, weightsAfter, readingNumber, readingLitres, sameNumber, sameYes, checkNumber, payloadFrom, payloadCount};
+ghost use Rattle.maps.specs.Pairs.{rowPairs, columnPairs};
+ghost use Rattle.pump.specs.Border.{firstOf, placeNumber, placeAfter, weightBytes, weightsNumber, weightsAfter, readingNumber, readingLitres, pairsNumber, pairsCount, pairsFirst, sameNumber, sameYes, checkNumber, payloadFrom, payloadCount};
 
 #[no_mangle]
 pub extern "C" fn pump_place(file: &[u8], place: usize, out: &mut [u8]) -> usize
@@ -77,6 +79,49 @@ pub extern "C" fn pump_weights(file: &[u8], u: usize, v: usize, out: &mut [u8]) 
     let entries = four.entries;
     put_weights(out, entries);
     number
+}
+
+// Ends a call along a row or a column: what was refused before, the call's own refusal, or the pairs.
+fn tell_pairs(refused: usize, pairs: Pairs, count: &mut usize, first_pair: &mut usize) -> usize
+    ensures { λ r. ⌜ (r ≡ firstOf refused (pairs .number) 0) × (now (count .exit) ≡ ifRefused (firstOf refused (pairs .number) 0) 0 (pairs .count)) ×
+        (now (first_pair .exit) ≡ ifRefused (firstOf refused (pairs .number) 0) 0 (pairs .first)) ⌝ }
+{
+    let number = first(refused, pairs.number, 0);
+    *count = if_refused(number, 0, pairs.count);
+    *first_pair = if_refused(number, 0, pairs.first);
+    number
+}
+
+#[no_mangle]
+pub extern "C" fn pump_row(
+    file: &[u8],
+    v: usize,
+    wanted: usize,
+    count: &mut usize,
+    first_pair: &mut usize,
+) -> usize
+    ensures { λ r. ⌜ (r ≡ pairsNumber (λ m. rowPairs m v wanted) (now (file .entry))) ×
+        (now (count .exit) ≡ pairsCount (λ m. rowPairs m v wanted) (now (file .entry))) ×
+        (now (first_pair .exit) ≡ pairsFirst (λ m. rowPairs m v wanted) (now (file .entry))) ⌝ }
+{
+    let known = read_opened(file);
+    tell_pairs(known.number, known.row(v, wanted), count, first_pair)
+}
+
+#[no_mangle]
+pub extern "C" fn pump_column(
+    file: &[u8],
+    u: usize,
+    wanted: usize,
+    count: &mut usize,
+    first_pair: &mut usize,
+) -> usize
+    ensures { λ r. ⌜ (r ≡ pairsNumber (λ m. columnPairs m u wanted) (now (file .entry))) ×
+        (now (count .exit) ≡ pairsCount (λ m. columnPairs m u wanted) (now (file .entry))) ×
+        (now (first_pair .exit) ≡ pairsFirst (λ m. columnPairs m u wanted) (now (file .entry))) ⌝ }
+{
+    let known = read_opened(file);
+    tell_pairs(known.number, known.column(u, wanted), count, first_pair)
 }
 
 fn one_or_none(yes: bool) -> usize

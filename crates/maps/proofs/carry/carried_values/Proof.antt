@@ -12,9 +12,8 @@ use borrow.Author.Needs.{needs, elem-fits}
 use Rattle.mesh.proofs.BlendTables.{table-full, proper-most}
 use Rattle.mesh.specs.declared.Blend.{Blend}
 use Rattle.axis.proofs.Members.{entry}
-use Rattle.maps.proofs.OverSquare.{four-at}
 use Rattle.maps.proofs.Readings.{Valued, reading-most}
-use Rattle.maps.proofs.AnchorIndex.{OnKnots, on-knots, Indexed, old-valued, count-most, blends-of, values-of, old-indexed, old-table, noted-most, carried-new, carried-old, fill-more, fill-all}
+use Rattle.maps.proofs.AnchorIndex.{OnKnots, on-knots, Indexed, old-valued, count-most, blends-of, values-of, old-indexed, old-table, old-point, noted-most, carried-new, carried-old, fill-more, fill-all}
 use Rattle.mesh.specs.Sound.{proper, none, blendsOf}
 use Rattle.mesh.specs.Blends.{place}
 use Rattle.axis.proofs.Tests.{all-at}
@@ -118,22 +117,8 @@ sub-reading-of-2 c = omega (arith, c .wide2 .ensures, knots (c .before .before .
 reading-of-requires : tie.Need-reading-of-requires Inv-loop μ-loop
 reading-of-requires c κs =
     let t = c .before .before .before .before .before in
-    let old = t .before .before .before .before .before .pre .0 in
-    let o = old-table old in
     let k = knots t in
-    let a = t .before .before .before .before .before .args in
-    let across : c .before .wide .result - 1 ≤ a .w = rw (c .before .wide .ensures) (k .1) in
-    let up : c .wide2 .result - 1 ≤ a .h = rw (c .wide2 .ensures) (k .3) in (
-      count-most old,
-      o .0,
-      four-at _ _ _ (o .1) _ _ (old .sides .0) (old .sides .2) across up,
-      old .sides .0,
-      old .sides .1,
-      old .sides .2,
-      old .sides .3,
-      across,
-      up,
-    )
+    old-point (t .before .before .before .before .before .pre .0) _ _ (rw (c .before .wide .ensures) (k .1)) (rw (c .wide2 .ensures) (k .3))
 
 -- the reading at the next blend's anchor
 taken : (c : tie.After-reading-of Inv-loop μ-loop) →

@@ -5,7 +5,8 @@ use mathlib.Core.List.{map}
 use Rattle.mesh.specs.Sound.{blendsOf}
 use Rattle.maps.specs.declared.values.Entry.{Entry}
 use Rattle.maps.specs.Calls.{weightOver}
-use Rattle.maps.proofs.OverSquare.{Listed, all-listed, entries-only}
+use Rattle.maps.specs.Inner.{AllListed}
+use Rattle.maps.proofs.OverSquare.{all-listed, entries-only}
 use Rattle.maps.proofs.values.weights_of.Statement.{statement}
 use Rattle.maps.proofs.values.weights_of.Tie as tie
 
@@ -15,11 +16,10 @@ four-over-requires c κs =
     (p .0, rw (c .before .low-knot .ensures .0, c .low-knot2 .ensures .0) (p .2))
 
 -- the four stand in the table
-listed : (c : tie.After-four-over) → let t = c .before .before .before .args .table in let f = c .four-over .result in
-    Listed t (f .first) × Listed t (f .second) × Listed t (f .third) × Listed t (f .fourth)
+listed : (c : tie.After-four-over) → AllListed (c .four-over .result)
 listed c =
     let s = c .before .before .before in
-    all-listed (s .args .w) (s .args .h) (s .pre .4) (s .pre .6) (s .args .table) (s .pre .1) _ _ (c .four-over .result) (c .four-over .ensures)
+    all-listed (s .args .w) (s .args .h) (s .pre .4) (s .pre .6) (s .args .table) (s .pre .0) (s .pre .1) _ _ (c .four-over .result) (c .four-over .ensures)
 
 returns : tie.Need-returns
 returns c =

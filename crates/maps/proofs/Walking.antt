@@ -1,0 +1,66 @@
+-- A walk along a row or up a column: the four blends over one square that lie over the next are those over it, and pairs noted point by point are all pairs.
+use Prim.Native.Nat.{ℕ, _+_, _-_, _≤_, _<_}
+use native.Mathlib.Omega.{arith}
+use mathlib.Core.Path.{_≡_, refl, ap, subst, _∙_}
+use mathlib.Core.Logic.{⊎-elim}
+use mathlib.Core.Bool.{Bool, true, false, cond}
+use mathlib.Core.List.{List, [], _∷_, map}
+use borrow.Author.Tests.{ne-eqb}
+use lib.ListN.{length}
+use Rattle.axis.specs.Range.{all, only, turns, turnsFrom}
+use Rattle.axis.proofs.Tests.{either, each-turn, each-none}
+use Rattle.mesh.specs.declared.Blend.{Blend}
+use Rattle.mesh.specs.declared.Table.{Table}
+use Rattle.mesh.specs.Sound.{overSquare, blendsOf}
+use Rattle.maps.specs.declared.Pairs.{Pairs}
+use Rattle.maps.specs.declared.values.Entry.{Entry}
+use Rattle.maps.specs.declared.values.Four.{Four}
+use Rattle.maps.specs.Pairs.{noPairs, countedPairs}
+use Rattle.maps.specs.Inner.{entries, entriesOver, FourOf, withPair}
+use Rattle.maps.proofs.OverSquare.{entries-only, entries-stay}
+
+-- four entries of a table that all lie over a square are those over it
+pub four-stay : (t : Table) (f : Four) → FourOf t f → (x y : ℕ) → all (overSquare x y) (map (λ (e : Entry). e .blend) (entries f)) ≡ true →
+    length (only (overSquare x y) (blendsOf t)) ≡ 4 → entries f ≡ entriesOver (overSquare x y) (blendsOf t) 0
+four-stay t f o x y over four =
+    let old = overSquare (o .x) (o .y) in
+    let same : map (λ (e : Entry). e .blend) (entries f) ≡ only old (blendsOf t) = ap (map (λ (e : Entry). e .blend)) (o .are) ∙ entries-only old (blendsOf t) 0 in
+    o .are ∙
+    entries-stay old (overSquare x y) (blendsOf t) 0 (subst (λ (bs : List Blend). all (overSquare x y) bs ≡ true) same over) (omega (arith, four, ap length same))
+
+-- the points of a row or a column lie in the domain
+pub in-walk : (row : Bool) (w h k at : ℕ) → k ≤ cond row w h → at ≤ cond row h w → (cond row k at ≤ w) × (cond row at k ≤ h)
+in-walk true w h k at a b = (a, b)
+in-walk false w h k at a b = (b, a)
+
+pub side-most : (row : Bool) (w h : ℕ) → w ≤ 128 → h ≤ 128 → cond row w h ≤ 128
+side-most true w h a b = a
+side-most false w h a b = b
+
+-- pairs noted one after the other
+abbrev pub noting : Pairs → List ℕ → Pairs
+noting p [] = p
+noting p (k ∷ ks) = noting (withPair p k) ks
+
+pub noting-all : (ks : List ℕ) → noting (noPairs 13) ks ≡ countedPairs ks
+noting-all [] = refl
+noting-all (k ∷ ks) = more ks 1 k (omega arith) ∙ ap (λ (n : ℕ). record { number = 0; count = n; first = k }) (omega arith)
+  where
+    more : (ks : List ℕ) (n k : ℕ) → 0 < n → noting (record { number = 0; count = n; first = k }) ks ≡ record { number = 0; count = n + length ks; first = k }
+    more [] n k lt = ap (λ (m : ℕ). record { number = 0; count = m; first = k }) (omega arith)
+    more (j ∷ ks) n k lt =
+        rw (ne-eqb n 0 (λ e. omega arith)) (more ks (n + 1) k (omega arith) ∙ ap (λ (m : ℕ). record { number = 0; count = m; first = k }) (omega arith))
+
+pub noted-few : (b : Bool) (p : Pairs) (k : ℕ) → p .count ≤ k → cond b (withPair p k) p .count ≤ k + 1
+noted-few true p k le = omega arith
+noted-few false p k le = omega arith
+
+-- the next point, and the last one
+module _ (p : Pairs) (test : ℕ → Bool) (k n : ℕ) where
+  pub noting-turn : 0 < n → noting p (turnsFrom k n test) ≡ noting (cond (turns test k) (withPair p k) p) (turnsFrom (k + 1) (n - 1) test)
+  noting-turn lt =
+      ap (noting p) (each-turn k n (λ i. cond (turns test i) (i ∷ []) []) lt) ∙
+      ⊎-elim (λ (e : turns test k ≡ true). rw e) (λ (e : turns test k ≡ false). rw e) (either (turns test k))
+
+  pub noting-done : n ≤ 0 → noting p (turnsFrom k n test) ≡ p
+  noting-done le = ap (noting p) (each-none k n (λ i. cond (turns test i) (i ∷ []) []) le)

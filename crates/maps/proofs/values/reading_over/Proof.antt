@@ -1,0 +1,67 @@
+-- `maps::values::reading_over` meets its contract: the four parts are added one after the other.
+use borrow.Author.Needs.{needs}
+use native.Mathlib.Omega.{arith}
+use native.Mathlib.Nat.{div-le-of-le-mul, mul-add-div-right}
+use Prim.Native.Nat.{_*_, _≤_}
+use mathlib.Core.Path.{sym, ap, _∙_}
+use lib.ListN.{getD}
+use Rattle.axis.specs.Fraction.{Fraction, plus}
+use Rattle.maps.specs.declared.values.Entry.{Entry}
+use Rattle.maps.specs.Values.{rounded}
+use Rattle.maps.specs.Inner.{SumOf, portion}
+use Rattle.maps.proofs.values.reading_over.Statement.{statement}
+use Rattle.maps.proofs.values.reading_over.Tie as tie
+
+-- each sum is one of as many parts as are added
+one : (c : tie.After-added) → SumOf 1 (c .added .result)
+one c = c .added .ensures .1 0 (search needs)
+
+two : (c : tie.After-added2) → SumOf 2 (c .added2 .result)
+two c = c .added2 .ensures .1 1 (one (c .before))
+
+three : (c : tie.After-added3) → SumOf 3 (c .added3 .result)
+three c = c .added3 .ensures .1 2 (two (c .before))
+
+four : (c : tie.After-added4) → SumOf 4 (c .added4 .result)
+four c = c .added4 .ensures .1 3 (three (c .before))
+
+add-result : tie.Need-add-result
+add-result c =
+    let k = c .before .before in
+    let s = four k in
+    let rest : k .added4 .result .top ≤ k .added4 .result .bottom * 4 = omega arith in
+    omega (arith, div-le-of-le-mul _ rest)
+
+returns : tie.Need-returns
+returns c =
+    let k4 = c .before .before in
+    let k3 = k4 .before in
+    let k2 = k3 .before in
+    let k1 = k2 .before in
+    let a = k1 .before .args in
+    let r = a .four in
+    let s = k4 .added4 .result in
+    let part : Entry → Fraction = λ e. portion (a .x) (a .y) (a .u) (a .v) (e .blend) (getD (a .t2) (e .place) 0) in
+    sym (mul-add-div-right (four k4 .positive) (s .whole) (s .top)) ∙
+    ap rounded
+    (k4 .added4 .ensures .0 ∙ ap (plus (part (r .first))) (k3 .added3 .ensures .0 ∙ ap (plus (part (r .second))) (k2 .added2 .ensures .0 ∙ ap (plus (part (r .third))) (k1 .added .ensures .0))))
+
+pub reading-over-spec : {M : Type 1} → statement M
+reading-over-spec =
+    tie.close
+    (tie.spec
+    (λ c. search needs)
+    (λ c. search needs)
+    (λ c κs. search needs)
+    (λ c. search needs)
+    (λ c. search needs)
+    (λ c κs. let s = one c in search needs)
+    (λ c. search needs)
+    (λ c. search needs)
+    (λ c κs. let s = two c in search needs)
+    (λ c. search needs)
+    (λ c. search needs)
+    (λ c κs. let s = three c in search needs)
+    (λ c. four (c .before) .positive)
+    add-result
+    returns)
