@@ -6,15 +6,16 @@ part=$(mktemp -d)
 trap 'rm -rf "$part"' EXIT
 failed=0
 
-# Lists of calls, without their answers, all at once.
-want=tests/vectors/histories.txt
-sed 's/ =.*//' "$want" | target/bin/calls >"$part/got"
-if ! cmp -s "$part/got" "$want"; then
-  echo "vectors: an answer differs:"
-  diff "$want" "$part/got" | head -6
-  failed=1
-fi
-echo "vectors: $(wc -l <"$want") lines of calls compared"
+# Lists of calls, without their answers, a whole file at once: document 01's, and those with rows and columns.
+for want in tests/vectors/histories.txt tests/vectors/L2.txt; do
+  sed 's/ =.*//' "$want" | target/bin/calls >"$part/got"
+  if ! cmp -s "$part/got" "$want"; then
+    echo "vectors: an answer differs from $want:"
+    diff "$want" "$part/got" | head -6
+    failed=1
+  fi
+  echo "vectors: $(wc -l <"$want") lines of calls compared with $want"
+done
 
 # Map files for the table program.
 if [ -x target/bin/table ]; then

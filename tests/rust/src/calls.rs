@@ -12,6 +12,10 @@ pub enum Call {
     Place(usize),
     Reading(usize, usize),
     Weights(usize, usize),
+    /// The row, and the wanted flow.
+    Row(usize, usize),
+    /// The column, and the wanted flow.
+    Column(usize, usize),
     /// The other map's file, and whether it is handed in first.
     Same(Vec<u8>, bool),
     Check,
@@ -29,6 +33,8 @@ impl Call {
             Call::Place(..) => "place",
             Call::Reading(..) => "reading",
             Call::Weights(..) => "weights",
+            Call::Row(..) => "row",
+            Call::Column(..) => "column",
             Call::Same(..) => "same",
             Call::Check => "check",
             Call::Payload(..) => "payload",
@@ -135,6 +141,8 @@ pub fn perform(pump: &dyn Pump, call: &Call, lent: &Lent) -> Outcome {
             Call::Place(place) => pump.place(file, *place, out),
             Call::Reading(u, v) => pump.reading(file, *u, *v, first),
             Call::Weights(u, v) => pump.weights(file, *u, *v, out),
+            Call::Row(v, wanted) => pump.row(file, *v, *wanted, first, second),
+            Call::Column(u, wanted) => pump.column(file, *u, *wanted, first, second),
             Call::Same(other, true) => pump.same(other, file, first),
             Call::Same(other, false) => pump.same(file, other, first),
             Call::Check => pump.check(file),

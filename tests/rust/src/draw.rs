@@ -1,7 +1,7 @@
 //! Random calls, drawn so that most kinds of answers come up.
 
 use crate::calls::Call;
-use crate::model::{Lines, Map, LEVEL, UPRIGHT};
+use crate::model::{reading, Lines, Map, LEVEL, UPRIGHT};
 
 /// Splitmix64.
 pub struct Random(pub u64);
@@ -147,20 +147,40 @@ fn any_split(random: &mut Random, map: &Map, lines: &Lines) -> [usize; 4] {
     [direction, position, from, to]
 }
 
-/// A point: in the domain, often on a far side, sometimes outside.
-fn point(random: &mut Random, map: &Map) -> (usize, usize) {
-    let mut along = |side: usize| match random.below(20) {
+/// A coordinate: in the domain, often on the far side, sometimes outside.
+fn coordinate(random: &mut Random, side: usize) -> usize {
+    match random.below(20) {
         0..=3 => side,
         4 => extreme(random, side),
         _ => random.below(side + 1),
+    }
+}
+
+/// A point: in the domain, often on a far side, sometimes outside.
+fn point(random: &mut Random, map: &Map) -> (usize, usize) {
+    (coordinate(random, map.w as usize), coordinate(random, map.h as usize))
+}
+
+/// A wanted flow: mostly the reading at a point of the row or column asked about, or a value of the map, or one above or
+/// below these; sometimes at an end of the range, or out of it.
+fn wanted(random: &mut Random, map: &Map, (u, v): (usize, usize)) -> usize {
+    let inside = u <= map.w as usize && v <= map.h as usize;
+    let near = match inside && random.chance(75) {
+        true => reading(&map.table(), &map.values, u as i64, v as i64) as usize,
+        false => random.pick(&map.values) as usize,
     };
-    (along(map.w as usize), along(map.h as usize))
+    match random.below(20) {
+        0 => random.pick(&[0, 1, 65_535, 65_536]),
+        1 => extreme(random, near),
+        2 => random.draw() as u16 as usize,
+        _ => random.pick(&[near.saturating_sub(1), near, near, near + 1]),
+    }
 }
 
 /// Any call on a map. `others` are files that it may be compared with.
 pub fn call(random: &mut Random, map: &Map, others: &[Vec<u8>]) -> Call {
     let lines = map.lines();
-    match random.below(100) {
+    match random.below(112) {
         0..=24 => Call::Exact(split(random, map, &lines)),
         25..=49 => Call::Lengthened(split(random, map, &lines)),
         50..=67 => {
@@ -196,7 +216,15 @@ pub fn call(random: &mut Random, map: &Map, others: &[Vec<u8>]) -> Call {
             let place = random.below(12 + 12 * map.splits.len() + 10 * map.values.len() + 2);
             Call::Payload(if random.chance(10) { extreme(random, place) } else { place })
         }
-        _ => Call::Table,
+        98..=99 => Call::Table,
+        100..=105 => {
+            let (u, v) = (random.below(map.w as usize + 1), coordinate(random, map.h as usize));
+            Call::Row(v, wanted(random, map, (u, v)))
+        }
+        _ => {
+            let (u, v) = (coordinate(random, map.w as usize), random.below(map.h as usize + 1));
+            Call::Column(u, wanted(random, map, (u, v)))
+        }
     }
 }
 

@@ -27,6 +27,22 @@ mod c {
         pub fn pump_place(file: *const u8, length: usize, place: usize, out: *mut u8, size: usize) -> usize;
         pub fn pump_reading(file: *const u8, length: usize, u: usize, v: usize, litres: *mut usize) -> usize;
         pub fn pump_weights(file: *const u8, length: usize, u: usize, v: usize, out: *mut u8, size: usize) -> usize;
+        pub fn pump_row(
+            file: *const u8,
+            length: usize,
+            v: usize,
+            wanted: usize,
+            count: *mut usize,
+            first: *mut usize,
+        ) -> usize;
+        pub fn pump_column(
+            file: *const u8,
+            length: usize,
+            u: usize,
+            wanted: usize,
+            count: *mut usize,
+            first: *mut usize,
+        ) -> usize;
         pub fn pump_same(
             first: *const u8,
             first_length: usize,
@@ -83,6 +99,14 @@ impl Pump for Library {
 
     fn weights(&self, file: &[u8], u: usize, v: usize, out: &mut [u8]) -> usize {
         unsafe { c::pump_weights(file.as_ptr(), file.len(), u, v, out.as_mut_ptr(), out.len()) }
+    }
+
+    fn row(&self, file: &[u8], v: usize, wanted: usize, count: &mut usize, first: &mut usize) -> usize {
+        unsafe { c::pump_row(file.as_ptr(), file.len(), v, wanted, count, first) }
+    }
+
+    fn column(&self, file: &[u8], u: usize, wanted: usize, count: &mut usize, first: &mut usize) -> usize {
+        unsafe { c::pump_column(file.as_ptr(), file.len(), u, wanted, count, first) }
     }
 
     fn same(&self, first: &[u8], second: &[u8], yes: &mut usize) -> usize {

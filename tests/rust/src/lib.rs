@@ -1,5 +1,5 @@
-//! Tests of the pump map library: the calls of pump.h, answered by an independent model of document 01, by a plain fast
-//! implementation, and by the library itself.
+//! Tests of the pump map library: the calls of pump.h, answered by an independent model of documents 01 and 02, by a plain
+//! fast implementation, and by the library itself.
 
 pub mod calls;
 pub mod draw;
@@ -20,6 +20,8 @@ pub trait Pump: Sync {
     fn place(&self, file: &[u8], place: usize, out: &mut [u8]) -> usize;
     fn reading(&self, file: &[u8], u: usize, v: usize, litres: &mut usize) -> usize;
     fn weights(&self, file: &[u8], u: usize, v: usize, out: &mut [u8]) -> usize;
+    fn row(&self, file: &[u8], v: usize, wanted: usize, count: &mut usize, first: &mut usize) -> usize;
+    fn column(&self, file: &[u8], u: usize, wanted: usize, count: &mut usize, first: &mut usize) -> usize;
     fn same(&self, first: &[u8], second: &[u8], yes: &mut usize) -> usize;
     fn check(&self, file: &[u8]) -> usize;
     fn payload(&self, bytes: &[u8], place: usize, from: &mut usize, count: &mut usize) -> usize;

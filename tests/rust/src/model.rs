@@ -1,11 +1,12 @@
-//! The plain machine of document 01: nothing is kept but the record of a map, and its live blends are cut anew from the
-//! first four for every call. It is written to be compared with the paper, not to be fast.
+//! The plain machine of document 01, with the calls that document 02 adds: nothing is kept but the record of a map, and
+//! its live blends are cut anew from the first four for every call. It is written to be compared with the papers, not to
+//! be fast.
 
 use crate::Pump;
 use std::collections::BTreeSet;
 use std::ops::Range;
 
-/// A refusal, by its number in "When a call says no".
+/// A refusal, one of thirteen: by its number in "When a call says no", or 13 of document 02, L2.
 pub type No = usize;
 
 pub const LARGEST_SIDE: usize = 128;
@@ -324,6 +325,20 @@ impl Map {
         Ok(entries.collect::<Vec<_>>().try_into().unwrap())
     }
 
+    /// How many pairs of neighbouring points of a row the wanted flow parts, and the u of the first (document 02, L2).
+    pub fn row(&self, v: usize, wanted: usize) -> Result<(usize, usize), No> {
+        let (_, v) = self.point(0, v)?;
+        let table = self.table();
+        pairs(self.w, wanted, |u| reading(&table, &self.values, u, v))
+    }
+
+    /// The same along a column, with v (document 02, L2).
+    pub fn column(&self, u: usize, wanted: usize) -> Result<(usize, usize), No> {
+        let (u, _) = self.point(u, 0)?;
+        let table = self.table();
+        pairs(self.h, wanted, |v| reading(&table, &self.values, u, v))
+    }
+
     /// Refusals 3 to 7, which look at the split as given ("When a call says no").
     fn look(&self, direction: usize, position: usize, from: usize, to: usize) -> Result<Split, No> {
         let (across, along) = match direction {
@@ -426,6 +441,18 @@ pub fn reading(table: &[Blend], values: &[u16], u: i64, v: i64) -> i64 {
         (*value as i128 * numerator, denominator)
     }));
     (numerator / denominator) as i64
+}
+
+/// Each pair of neighbouring points x and x + 1 where one reading is below the wanted flow and the other isn't: how many
+/// pairs there are and the x of the first; 13 where there is none or the flow is out of range (document 02, L2).
+fn pairs(side: i64, wanted: usize, reading: impl Fn(i64) -> i64) -> Result<(usize, usize), No> {
+    if !(1..=65_535).contains(&wanted) {
+        return Err(13);
+    }
+    let below = |x: i64| reading(x) < wanted as i64;
+    let pairs: Vec<i64> = (0..side).filter(|x| below(*x) != below(x + 1)).collect();
+    let first = pairs.first().ok_or(13usize)?;
+    Ok((pairs.len(), *first as usize))
 }
 
 /// The table lists blends by m, then n ("Blends").
@@ -621,6 +648,22 @@ impl Pump for Model {
             let entries = Map::read(file)?.weights(u, v)?;
             let entry = |entry: &Weight| [&entry.blend.numbers()[..], &[entry.numerator, entry.denominator]].concat();
             put(&fields(&entries.iter().flat_map(entry).collect::<Vec<_>>()), out)
+        })())
+    }
+
+    fn row(&self, file: &[u8], v: usize, wanted: usize, count: &mut usize, first: &mut usize) -> usize {
+        (*count, *first) = (0, 0);
+        number((|| {
+            (*count, *first) = Map::read(file)?.row(v, wanted)?;
+            Ok(())
+        })())
+    }
+
+    fn column(&self, file: &[u8], u: usize, wanted: usize, count: &mut usize, first: &mut usize) -> usize {
+        (*count, *first) = (0, 0);
+        number((|| {
+            (*count, *first) = Map::read(file)?.column(u, wanted)?;
+            Ok(())
         })())
     }
 

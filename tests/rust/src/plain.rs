@@ -1,5 +1,5 @@
 //! A plain implementation of the same calls, written for speed: what the library is measured against. It does all the
-//! checks that document 01 asks for, with the table kept from split to split instead of cut anew.
+//! checks that documents 01 and 02 ask for, with the table kept from split to split instead of cut anew.
 
 use crate::Pump;
 
@@ -10,6 +10,41 @@ const MOST_SPLITS: usize = 60;
 const ENTRY: usize = 14;
 const WEIGHTS: usize = 64;
 const FOURS: [u8; LARGEST_SIDE * LARGEST_SIDE] = [4; LARGEST_SIDE * LARGEST_SIDE];
+
+type Triple = (i16, i16, i16);
+
+/// The hat of a triple at x, strictly between its ends: numerator and gap.
+fn hat((low, mid, high): Triple, x: i16) -> (i16, i16) {
+    if x <= mid {
+        (x - low, mid - low)
+    } else {
+        (high - x, high - mid)
+    }
+}
+
+/// A sum of value times weight, over the product of all their gaps: four blends at most weigh more than 0 at a point, so
+/// it fits with room.
+#[derive(Clone, Copy)]
+struct Sum {
+    numerator: u128,
+    denominator: u128,
+}
+
+impl Sum {
+    const NOTHING: Sum = Sum { numerator: 0, denominator: 1 };
+
+    /// Adds a value times the two hats of its blend, in either order.
+    fn add(&mut self, value: u16, (one, one_gap): (i16, i16), (other, other_gap): (i16, i16)) {
+        let gaps = one_gap as u128 * other_gap as u128;
+        let weighed = value as u128 * one as u128 * other as u128;
+        self.numerator = self.numerator * gaps + weighed * self.denominator;
+        self.denominator *= gaps;
+    }
+
+    fn rounded_down(&self) -> u16 {
+        (self.numerator / self.denominator) as u16
+    }
+}
 
 /// The anchor stands first, so that blends compare in table order.
 #[derive(Clone, Copy, PartialEq, Eq, PartialOrd, Ord)]
@@ -23,12 +58,12 @@ struct Blend {
 }
 
 impl Blend {
-    fn new((l, m, r): (i16, i16, i16), (b, n, t): (i16, i16, i16)) -> Blend {
+    fn new((l, m, r): Triple, (b, n, t): Triple) -> Blend {
         Blend { m, n, l, r, b, t }
     }
 
     /// The triple that lines of this direction cut.
-    fn crossed(&self, direction: usize) -> (i16, i16, i16) {
+    fn crossed(&self, direction: usize) -> Triple {
         if direction == 0 {
             (self.l, self.m, self.r)
         } else {
@@ -287,20 +322,50 @@ impl Map {
         Ok((u as i16, v as i16))
     }
 
-    /// The sum of value times weight, rounded down: over the product of the four gaps, which fits with room.
+    /// The sum of value times weight at a point, rounded down.
     fn sum(&self, u: i16, v: i16) -> u16 {
-        let (mut numerator, mut denominator) = (0u128, 1u128);
+        let mut sum = Sum::NOTHING;
         for (blend, value) in self.table.iter().zip(&self.values) {
             let Blend { m, n, l, r, b, t } = *blend;
             if l < u && u < r && b < v && v < t {
-                let (across, across_gap) = if u <= m { (u - l, m - l) } else { (r - u, r - m) };
-                let (up, up_gap) = if v <= n { (v - b, n - b) } else { (t - v, t - n) };
-                let gaps = across_gap as u128 * up_gap as u128;
-                numerator = numerator * gaps + *value as u128 * across as u128 * up as u128 * denominator;
-                denominator *= gaps;
+                sum.add(*value, hat((l, m, r), u), hat((b, n, t), v));
             }
         }
-        (numerator / denominator) as u16
+        sum.rounded_down()
+    }
+
+    /// The readings at all points of the row `at` (direction 1) or of the column `at` (direction 0), in one walk over the
+    /// table: each blend over it is added at the points that it reaches, which all lie in the domain.
+    fn readings(&self, direction: usize, at: i16) -> Vec<u16> {
+        let mut sums = vec![Sum::NOTHING; self.sides[1 - direction] + 1];
+        for (blend, value) in self.table.iter().zip(&self.values) {
+            let (low, mid, high) = blend.crossed(direction);
+            if low < at && at < high {
+                let here = hat((low, mid, high), at);
+                let along = blend.crossed(1 - direction);
+                for x in along.0 + 1..along.2 {
+                    sums[x as usize].add(*value, here, hat(along, x));
+                }
+            }
+        }
+        sums.iter().map(Sum::rounded_down).collect()
+    }
+
+    /// How many pairs of neighbouring points the wanted flow parts along a row (direction 1) or a column (direction 0),
+    /// and the first of them.
+    fn pairs(&self, direction: usize, at: usize, wanted: usize) -> Result<(usize, usize), No> {
+        if at > self.sides[direction] {
+            return Err(10);
+        }
+        let wanted = match u16::try_from(wanted) {
+            Ok(wanted) if wanted > 0 => wanted,
+            _ => return Err(13),
+        };
+        let readings = self.readings(direction, at as i16);
+        let parted = |x: &usize| (readings[*x] < wanted) != (readings[x + 1] < wanted);
+        let mut pairs = (0..readings.len() - 1).filter(parted);
+        let first = pairs.next().ok_or(13usize)?;
+        Ok((1 + pairs.count(), first))
     }
 
     /// Four times l m r b n t numerator denominator.
@@ -487,6 +552,22 @@ impl Pump for Plain {
         number(Map::read(file).and_then(|map| {
             let (u, v) = map.point(u, v)?;
             put(map.weights(u, v).into_iter().flatten(), WEIGHTS, out)
+        }))
+    }
+
+    fn row(&self, file: &[u8], v: usize, wanted: usize, count: &mut usize, first: &mut usize) -> usize {
+        (*count, *first) = (0, 0);
+        number(Map::read(file).and_then(|map| {
+            (*count, *first) = map.pairs(1, v, wanted)?;
+            Ok(())
+        }))
+    }
+
+    fn column(&self, file: &[u8], u: usize, wanted: usize, count: &mut usize, first: &mut usize) -> usize {
+        (*count, *first) = (0, 0);
+        number(Map::read(file).and_then(|map| {
+            (*count, *first) = map.pairs(0, u, wanted)?;
+            Ok(())
         }))
     }
 

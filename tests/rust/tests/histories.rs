@@ -30,21 +30,23 @@ impl Seen {
     /// Every call must have given every number that it can give, and no other. 1 and 4 have tests of their own. Nobody has
     /// seen a lengthened split say 8, so that one may be missing.
     fn assert_all(&self) {
-        let can: [(&'static str, &[usize]); 10] = [
+        let can: [(&'static str, &[usize]); 12] = [
             ("set", &[0, 9, 11]),
             ("exact", &[0, 3, 5, 6, 7, 8, 11, 12]),
             ("lengthened", &[0, 3, 5, 6, 7, 11, 12]),
             ("place", &[0, 9, 11, 12]),
             ("reading", &[0, 10, 11]),
             ("weights", &[0, 10, 11, 12]),
+            ("row", &[0, 10, 11, 13]),
+            ("column", &[0, 10, 11, 13]),
             ("same", &[0, 11]),
             ("check", &[0, 11]),
             ("payload", &[0, 11]),
             ("table", &[0, 11, 12]),
         ];
         for (call, numbers) in can {
-            let counts: Vec<usize> = (0..=12).map(|number| self.count(call, number)).collect();
-            println!("{call:>10} gave 0 to 12: {counts:?}");
+            let counts: Vec<usize> = (0..=13).map(|number| self.count(call, number)).collect();
+            println!("{call:>10} gave 0 to 13: {counts:?}");
             for (number, count) in counts.into_iter().enumerate() {
                 let may = number == 4 || (call, number) == ("lengthened", 8);
                 assert!(may || numbers.contains(&number) == (count > 0), "{call} gave {number} {count} times");
@@ -162,13 +164,7 @@ fn largest(splits: &[maps::Split]) -> Vec<u8> {
         assert_eq!(Plain.exact_split(&mut buffer, &mut used, *split), 0);
     }
     buffer.truncate(used);
-    // The value stands at the end of each record of kind 3, and those are the last but one.
-    let values = (8 + 12 * splits.len()..used - 4).step_by(10);
-    for (at, record) in values.enumerate() {
-        let value = (at * 40_503 % 65_536) as u16;
-        buffer[record + 8..record + 10].copy_from_slice(&value.to_le_bytes());
-    }
-    buffer
+    maps::with_values(buffer)
 }
 
 /// The largest file there is, and the split that makes it in a buffer that just holds it.
@@ -186,6 +182,8 @@ fn most_blends() {
         Call::Place(1024),
         Call::Reading(127, 126),
         Call::Weights(128, 77),
+        Call::Row(65, 32_768),
+        Call::Column(127, 32_768),
         Call::Same(whole.bytes().to_vec(), true),
         Call::Set(128, 120, 65_535),
         Call::Exact([0, 2, 0, 4]),

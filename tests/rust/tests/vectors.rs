@@ -1,4 +1,4 @@
-//! Replays the outside vectors: the lists of calls and the files of the table program.
+//! Replays the outside vectors: the lists of calls, with and without rows and columns, and the files of the table program.
 
 use pump_tests::model::{Blend, Map, No, Split};
 use pump_tests::{subjects, Pump};
@@ -39,6 +39,8 @@ fn answer(map: &mut Map, words: &[&str]) -> Result<String, No> {
             let entries = entries.map(|e| format!("{} {} {}", numbers(&e.blend), e.numerator, e.denominator));
             Ok(format!("0 {}", entries.join(" ; ")))
         }
+        "row" => map.row(n(1), n(2)).map(|(count, first)| format!("0 {count} {first}")),
+        "column" => map.column(n(1), n(2)).map(|(count, first)| format!("0 {count} {first}")),
         "exact" => {
             let taken = map.exact_split(n(1), n(2), n(3), n(4))?;
             Ok(split(map, taken))
@@ -60,7 +62,7 @@ fn answer(map: &mut Map, words: &[&str]) -> Result<String, No> {
 fn answer_over_bytes(pump: &dyn Pump, file: &mut Vec<u8>, words: &[&str]) -> Result<String, No> {
     let n = |at: usize| words[at].parse::<usize>().unwrap();
     let yes = |number: usize| if number == 0 { Ok(()) } else { Err(number) };
-    let (mut numbers, mut out) = ([0; 2], vec![0; 64]);
+    let ([mut first, mut second], mut out) = ([0; 2], vec![0; 64]);
     let fields = |out: &[u8]| -> Vec<String> {
         out.chunks(2).map(|pair| i16::from_ne_bytes([pair[0], pair[1]]).to_string()).collect()
     };
@@ -82,17 +84,25 @@ fn answer_over_bytes(pump: &dyn Pump, file: &mut Vec<u8>, words: &[&str]) -> Res
             Ok(format!("0 {} {value}", fields(&out[..12]).join(" ")))
         }
         "reading" => {
-            yes(pump.reading(file, n(1), n(2), &mut numbers[0]))?;
-            Ok(format!("0 {}", numbers[0]))
+            yes(pump.reading(file, n(1), n(2), &mut first))?;
+            Ok(format!("0 {first}"))
         }
         "weights" => {
             yes(pump.weights(file, n(1), n(2), &mut out))?;
             let entries: Vec<String> = out.chunks(16).map(|entry| fields(entry).join(" ")).collect();
             Ok(format!("0 {}", entries.join(" ; ")))
         }
+        "row" => {
+            yes(pump.row(file, n(1), n(2), &mut first, &mut second))?;
+            Ok(format!("0 {first} {second}"))
+        }
+        "column" => {
+            yes(pump.column(file, n(1), n(2), &mut first, &mut second))?;
+            Ok(format!("0 {first} {second}"))
+        }
         "same" => {
-            yes(pump.same(file, &from_hex(words[1]), &mut numbers[0]))?;
-            Ok(["0 no", "0 yes"][numbers[0]].into())
+            yes(pump.same(file, &from_hex(words[1]), &mut first))?;
+            Ok(["0 no", "0 yes"][first].into())
         }
         "file" => Ok(hex(file)),
         _ => {
@@ -104,13 +114,15 @@ fn answer_over_bytes(pump: &dyn Pump, file: &mut Vec<u8>, words: &[&str]) -> Res
     }
 }
 
-/// Goes through each `nth` list of calls; `fresh` starts one, `answer` gives an answer. Gives the number of calls.
+/// Goes through each `nth` list of calls of a file; `fresh` starts one, `answer` gives an answer. Gives the number of
+/// calls.
 fn lists_of_calls<M>(
+    file: &str,
     nth: usize,
     fresh: impl Fn(usize, usize) -> M,
     answer: impl Fn(&mut M, &[&str]) -> Result<String, No>,
 ) -> usize {
-    let text = std::fs::read_to_string(vectors().join("histories.txt")).unwrap();
+    let text = std::fs::read_to_string(vectors().join(file)).unwrap();
     let (mut calls, mut wrong) = (0, String::new());
     for list in text.split("history ").skip(1).step_by(nth) {
         let mut lines = list.lines();
@@ -147,7 +159,9 @@ fn tables(text: impl Fn(&[u8]) -> Result<String, No>) {
 
 #[test]
 fn model_answers_the_lists_of_calls() {
-    assert_eq!(lists_of_calls(1, |w, h| Map::fresh(w, h).unwrap(), answer), 9_710);
+    for (file, calls) in [("histories.txt", 9_710), ("L2.txt", 2_355)] {
+        assert_eq!(lists_of_calls(file, 1, |w, h| Map::fresh(w, h).unwrap(), answer), calls);
+    }
 }
 
 #[test]
@@ -163,8 +177,10 @@ fn subjects_answer_the_lists_of_calls() {
             assert_eq!(pump.fresh(w, h, &mut file, &mut used), 0);
             file
         };
-        // Not all of them, to be quick.
-        assert!(lists_of_calls(4, fresh, |file, words| answer_over_bytes(pump, file, words)) > 2_000);
+        // Not all of the first file's, to be quick.
+        for (file, nth, calls) in [("histories.txt", 4, 2_000), ("L2.txt", 1, 2_355)] {
+            assert!(lists_of_calls(file, nth, fresh, |file, words| answer_over_bytes(pump, file, words)) >= calls);
+        }
     }
 }
 

@@ -43,6 +43,8 @@ impl Desk {
             Call::Place(place) => pump.place(file, *place, out),
             Call::Reading(u, v) => pump.reading(file, *u, *v, first),
             Call::Weights(u, v) => pump.weights(file, *u, *v, out),
+            Call::Row(v, wanted) => pump.row(file, *v, *wanted, first, second),
+            Call::Column(u, wanted) => pump.column(file, *u, *wanted, first, second),
             Call::Same(other, _) => pump.same(file, other, first),
             Call::Check => pump.check(file),
             Call::Payload(place) => pump.payload(file, *place, first, second),
@@ -105,6 +107,18 @@ fn drawn(side: usize, count: usize, longest: usize) -> Vec<Split> {
     splits
 }
 
+/// A flow that the row or column meets: half way between its lowest and its highest reading.
+fn met(file: &[u8], side: usize, point: impl Fn(usize) -> (usize, usize)) -> usize {
+    let readings = (0..=side).map(|along| {
+        let ((u, v), mut litres) = (point(along), 0);
+        assert_eq!(Plain.reading(file, u, v, &mut litres), 0);
+        litres
+    });
+    let (lowest, highest) = readings.fold((usize::MAX, 0), |(low, high), litres| (low.min(litres), high.max(litres)));
+    assert!(lowest < highest);
+    (lowest + highest).div_ceil(2)
+}
+
 fn cases() -> Vec<Case> {
     let small = [[0, 4, 0, 8], [1, 4, 0, 8], [0, 2, 0, 4], [1, 2, 0, 8]];
 
@@ -114,16 +128,39 @@ fn cases() -> Vec<Case> {
         case("8 by 8, 4 splits", 8, 8, &small, [1, 2, 0, 2]),
         case("64 by 64, 20 splits", 64, 64, &middling, *middling.last().unwrap()),
         case("60 short splits", 128, 128, &short, *short.last().unwrap()),
-        case("30 + 30 full splits", 128, 128, &maps::grid(), [0, 120, 0, 8]),
+        case(LARGEST, 128, 128, &maps::grid(), [0, 120, 0, 8]),
         case("long lengthening", 128, 128, &maps::fan(), maps::FAN_GIVEN),
     ]
 }
+
+/// The map of the most blends.
+const LARGEST: &str = "30 + 30 full splits";
 
 fn micros(time: Duration) -> String {
     format!("{:.2}", time.as_secs_f64() * 1e6)
 }
 
-/// Measures a call in turns and prints a line of the table.
+/// The times of calls, sorted. They are made in turns, so that all of them have the machine alike.
+fn in_turns(turns: &[(&dyn Pump, &Call)], file: &[u8], rounds: usize, desk: &mut Desk) -> Vec<Vec<Duration>> {
+    // Enough calls in a round to be seen by the clock, and fewer rounds where one is long.
+    let one: Vec<Duration> = turns.iter().map(|(pump, call)| desk.time(*pump, call, file, 1)).collect();
+    let rounds = if one[0] > Duration::from_millis(300) { 3 } else { rounds };
+    let mut found = vec![vec![]; turns.len()];
+    for round in 0..=rounds {
+        for (at, (pump, call)) in turns.iter().enumerate() {
+            let times = (2_000_000 / one[at].as_nanos().max(1)).clamp(1, 20_000) as u32;
+            let time = desk.time(*pump, call, file, times);
+            // The first round warms up.
+            if round > 0 {
+                found[at].push(time);
+            }
+        }
+    }
+    found.iter_mut().for_each(|times| times.sort());
+    found
+}
+
+/// Measures a call and prints a line of the table.
 fn measure(name: &str, call: &Call, file: &[u8], desk: &mut Desk) {
     let pumps: [&dyn Pump; 2] = [&Library, &Plain];
     let mut left = vec![];
@@ -135,22 +172,8 @@ fn measure(name: &str, call: &Call, file: &[u8], desk: &mut Desk) {
     }
     assert_eq!(left[0], left[1], "{name}, {call:?}: the answers differ");
 
-    // Enough calls in a round to be seen by the clock, and fewer rounds where one is long.
-    let one = pumps.map(|pump| desk.time(pump, call, file, 1));
-    let times = one.map(|one| (2_000_000 / one.as_nanos().max(1)).clamp(1, 20_000) as u32);
-    let rounds = if one[0] > Duration::from_millis(300) { 3 } else { 9 };
-    let mut rows = [vec![], vec![]];
-    for round in 0..=rounds {
-        for (at, pump) in pumps.into_iter().enumerate() {
-            let time = desk.time(pump, call, file, times[at]);
-            // The first round warms up.
-            if round > 0 {
-                rows[at].push(time);
-            }
-        }
-    }
-    rows.iter_mut().for_each(|row| row.sort());
-    let [library, plain] = rows.map(|row| (row[0], row[row.len() / 2]));
+    let found = in_turns(&pumps.map(|pump| (pump, call)), file, 9, desk);
+    let [library, plain] = [&found[0], &found[1]].map(|times| (times[0], times[times.len() / 2]));
     println!(
         "| {name} | {} | {} | {} | {} | {} | {} | {:.1} |",
         call.name(),
@@ -163,6 +186,25 @@ fn measure(name: &str, call: &Call, file: &[u8], desk: &mut Desk) {
     );
 }
 
+/// Prints what the calls take beside a check, which does nothing but open the map. The difference is small, so there are
+/// many rounds.
+fn beside_a_check(calls: &[Call], file: &[u8], desk: &mut Desk) {
+    for pump in [&Library as &dyn Pump, &Plain] {
+        let turns: Vec<_> = [&Call::Check].into_iter().chain(calls).map(|call| (pump, call)).collect();
+        let best: Vec<f64> =
+            in_turns(&turns, file, 199, desk).iter().map(|times| times[0].as_secs_f64() * 1e6).collect();
+        for (call, time) in calls.iter().zip(&best[1..]) {
+            let (name, check) = (call.name(), best[0]);
+            println!(
+                "- {}: {name} {time:.2}, check {check:.2}, {:.2} more, ratio {:.3}",
+                pump.name(),
+                time - check,
+                time / check
+            );
+        }
+    }
+}
+
 fn main() {
     let start = Instant::now();
     let mut desk = Desk { buffer: vec![0; 10_972], out: vec![0; 65_536], used: 0, numbers: [0, 0] };
@@ -170,15 +212,25 @@ fn main() {
     println!("| map | call | number | library, best | library, median | plain, best | plain, median | ratio |");
     println!("|---|---|---|---|---|---|---|---|");
     measure("none", &Call::Fresh(128, 128), &[], &mut desk);
+    let mut largest = None;
     for case in cases() {
         let Case { name, before, given, last, file } = case;
         let side = file[4] as usize;
+        // No line of the largest map lies there, so the blends of two lines lie over each point.
+        let (valued, middle) = (maps::with_values(file.clone()), side / 2 + 1);
+        let row = Call::Row(middle, met(&valued, side, |u| (u, middle)));
+        let column = Call::Column(middle, met(&valued, side, |v| (middle, v)));
+        if name == LARGEST {
+            largest = Some(([row.clone(), column.clone()], valued.clone()));
+        }
         for (call, file) in [
             (Call::Check, &file),
             (Call::Set(0, side, 4000), &file),
             (Call::Place(3), &file),
             (Call::Reading(side / 2 + 1, side / 3), &file),
             (Call::Weights(side / 2 + 1, side / 3), &file),
+            (row, &valued),
+            (column, &valued),
             (Call::Same(file.clone(), false), &file),
             (Call::Payload(8), &file),
             (Call::Table, &file),
@@ -188,5 +240,8 @@ fn main() {
             measure(name, &call, file, &mut desk);
         }
     }
+    let (calls, file) = largest.unwrap();
+    println!("\nA row and a column of 129 points beside a check, on {LARGEST}; best times in microseconds:");
+    beside_a_check(&calls, &file, &mut desk);
     println!("\nThe whole took {:.1} s.", start.elapsed().as_secs_f64());
 }
