@@ -40,8 +40,8 @@
  * Answers
  * -------
  * Every call returns a number. 0 is yes; any other says why not, the first reason that applies: 11 before any other,
- * since the bytes are read first, then the rest in the order of the numbers. After a refusal all lent bytes and
- * *used are as they were, and every other number handed back is 0.
+ * since the bytes are read first, then the rest in the order in which each call tells its numbers. After a refusal
+ * all lent bytes and *used are as they were, and every other number handed back is 0.
  *
  * Calls allocate nothing. Give a thread that makes them 256 KB of stack: the deepest call was measured at 219 KB
  * (tests/stack.c). Calls on different bytes may run at the same time, and so may any number of calls that only read
@@ -72,9 +72,10 @@ enum {
     PUMP_CUTS_NOTHING = 7,  /* the split, joined with lines that it touches, cuts no blend */
     PUMP_UNSOUND = 8,       /* the exact split leaves a map that is not sound, or no lengthened line exists */
     PUMP_NO_ANCHOR = 9,     /* no blend has the anchor, or the table place, asked about */
-    PUMP_OUTSIDE = 10,      /* the point lies outside the domain, 0 to w by 0 to h */
+    PUMP_OUTSIDE = 10,      /* the point, row or column lies outside the domain, 0 to w by 0 to h */
     PUMP_NO_FILE = 11,      /* the bytes are not a map file, *used is above size, or no whole record is at the place */
-    PUMP_SHORT = 12         /* the bytes lent for the answer are too few */
+    PUMP_SHORT = 12,        /* the bytes lent for the answer are too few */
+    PUMP_NOT_REACHED = 13   /* no pair of neighbours has the wanted flow between them, or it is outside 1 to 65,535 */
 };
 
 enum {
@@ -137,6 +138,17 @@ size_t pump_place(const uint8_t *file, size_t length, size_t place, uint8_t *out
 /* The reading at the whole point (u, v): the sum of value times weight, exact, then rounded down.
    Refused with 11 or 10. */
 size_t pump_reading(const uint8_t *file, size_t length, size_t u, size_t v, size_t *litres);
+
+/* The level at which a flow is reached: along the row v, *count is how many pairs of neighbouring points (u, v) and
+   (u + 1, v) there are of which one reading is below `wanted` and the other is not, and *first is the u of the first
+   pair. Between two pairs all readings lie on one side of `wanted`, so walking on from the first misses none; where
+   the two ends of the row lie on different sides, the count is odd. `wanted` is 1 to 65,535.
+   Refused with 11, 10 or 13. */
+size_t pump_row(const uint8_t *file, size_t length, size_t v, size_t wanted, size_t *count, size_t *first);
+
+/* The speed at which it is reached: the same up the column u, with pairs (u, v) and (u, v + 1) and the v of the first.
+   Refused with 11, 10 or 13. */
+size_t pump_column(const uint8_t *file, size_t length, size_t u, size_t wanted, size_t *count, size_t *first);
 
 /* Puts the weights at the whole point (u, v) of the four blends over its unit square, in table order, into the
    4 * sizeof(pump_weight) bytes at out. The square is that from (u, v) to (u + 1, v + 1); at u = w the one from

@@ -11,6 +11,8 @@ pub enum Call {
     Place,
     Reading,
     Weights,
+    Row,
+    Column,
     Same,
     File,
     Unknown,
@@ -69,6 +71,12 @@ pub fn call_of(line: &[u8]) -> Call {
     }
     if begins(line, b"weights") {
         return Call::Weights;
+    }
+    if begins(line, b"row") {
+        return Call::Row;
+    }
+    if begins(line, b"column") {
+        return Call::Column;
     }
     if begins(line, b"same ") {
         return Call::Same;

@@ -126,7 +126,15 @@ pub(crate) fn pairs_along(
     let mut k = 0;
     while k < side {
         let next = k + 1;
-        let seen = see(table, values, w, h, four, along(row, next, at), along(row, at, next));
+        let seen = see(
+            table,
+            values,
+            w,
+            h,
+            four,
+            along(row, next, at),
+            along(row, at, next),
+        );
         let there = seen.litres < wanted;
         pairs = noted(pairs, k, here, there);
         four = seen.four;

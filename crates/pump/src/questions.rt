@@ -82,13 +82,13 @@ pub extern "C" fn pump_weights(file: &[u8], u: usize, v: usize, out: &mut [u8]) 
 }
 
 // Ends a call along a row or a column: what was refused before, the call's own refusal, or the pairs.
-fn tell_pairs(refused: usize, pairs: Pairs, count: &mut usize, first_pair: &mut usize) -> usize
+fn tell_pairs(refused: usize, pairs: Pairs, count: &mut usize, at: &mut usize) -> usize
     ensures { λ r. ⌜ (r ≡ firstOf refused (pairs .number) 0) × (now (count .exit) ≡ ifRefused (firstOf refused (pairs .number) 0) 0 (pairs .count)) ×
-        (now (first_pair .exit) ≡ ifRefused (firstOf refused (pairs .number) 0) 0 (pairs .first)) ⌝ }
+        (now (at .exit) ≡ ifRefused (firstOf refused (pairs .number) 0) 0 (pairs .first)) ⌝ }
 {
     let number = first(refused, pairs.number, 0);
     *count = if_refused(number, 0, pairs.count);
-    *first_pair = if_refused(number, 0, pairs.first);
+    *at = if_refused(number, 0, pairs.first);
     number
 }
 
@@ -98,14 +98,14 @@ pub extern "C" fn pump_row(
     v: usize,
     wanted: usize,
     count: &mut usize,
-    first_pair: &mut usize,
+    first: &mut usize,
 ) -> usize
     ensures { λ r. ⌜ (r ≡ pairsNumber (λ m. rowPairs m v wanted) (now (file .entry))) ×
         (now (count .exit) ≡ pairsCount (λ m. rowPairs m v wanted) (now (file .entry))) ×
-        (now (first_pair .exit) ≡ pairsFirst (λ m. rowPairs m v wanted) (now (file .entry))) ⌝ }
+        (now (first .exit) ≡ pairsFirst (λ m. rowPairs m v wanted) (now (file .entry))) ⌝ }
 {
     let known = read_opened(file);
-    tell_pairs(known.number, known.row(v, wanted), count, first_pair)
+    tell_pairs(known.number, known.row(v, wanted), count, first)
 }
 
 #[no_mangle]
@@ -114,14 +114,14 @@ pub extern "C" fn pump_column(
     u: usize,
     wanted: usize,
     count: &mut usize,
-    first_pair: &mut usize,
+    first: &mut usize,
 ) -> usize
     ensures { λ r. ⌜ (r ≡ pairsNumber (λ m. columnPairs m u wanted) (now (file .entry))) ×
         (now (count .exit) ≡ pairsCount (λ m. columnPairs m u wanted) (now (file .entry))) ×
-        (now (first_pair .exit) ≡ pairsFirst (λ m. columnPairs m u wanted) (now (file .entry))) ⌝ }
+        (now (first .exit) ≡ pairsFirst (λ m. columnPairs m u wanted) (now (file .entry))) ⌝ }
 {
     let known = read_opened(file);
-    tell_pairs(known.number, known.column(u, wanted), count, first_pair)
+    tell_pairs(known.number, known.column(u, wanted), count, first)
 }
 
 fn one_or_none(yes: bool) -> usize

@@ -9,7 +9,7 @@ column-requires c κs = read-opens _ (c .read-opened .ensures)
 
 returns : tie.Need-returns
 returns c =
-    let asked = c .before in
+    let asked = c .before .before .before in
     let known = asked .before in
     let is = rw (known .read-opened .ensures) at (asked .column .ensures) in
     rw (is, known .read-opened .ensures) at (c .tell-pairs .ensures)
