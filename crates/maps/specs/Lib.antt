@@ -10,5 +10,4 @@ pub mod Histories
 pub mod Straight
 pub mod Demand
 pub mod Inner
-pub mod Cases
 pub mod ByWeights
