@@ -5,7 +5,6 @@ use crate::text;
 use crate::text::Call;
 use files::LARGEST_FILE;
 use maps::Map;
-use maps::Pairs;
 use maps::opened::Opened;
 use maps::opened::fresh;
 use mesh::Lines;
@@ -103,35 +102,21 @@ fn weights(map: Opened, line: &[u8], out: &mut [u8], at: &mut usize)
     }
 }
 
-// A number, then how many pairs and the first.
-fn pairs(r: Pairs, out: &mut [u8], at: &mut usize) {
+// Along a row, or up a column: the number, then how many pairs and the first. `word` is the length of the call's word.
+fn along(map: Opened, row: bool, line: &[u8], word: usize, out: &mut [u8], at: &mut usize)
+    requires { ⌜ Opens map ⌝ }
+{
+    let n = text::numbers(line, word, 2);
+    if !n.whole {
+        no_call(out, at);
+        return;
+    }
+    let r = if row { map.row(n.c, n.d) } else { map.column(n.c, n.d) };
     told(r.number, out, at);
     if r.number == 0 {
         show::number(r.count, out, at);
         show::number(r.first, out, at);
     }
-}
-
-fn row(map: Opened, line: &[u8], out: &mut [u8], at: &mut usize)
-    requires { ⌜ Opens map ⌝ }
-{
-    let n = text::numbers(line, 3, 2);
-    if !n.whole {
-        no_call(out, at);
-        return;
-    }
-    pairs(map.row(n.c, n.d), out, at);
-}
-
-fn column(map: Opened, line: &[u8], out: &mut [u8], at: &mut usize)
-    requires { ⌜ Opens map ⌝ }
-{
-    let n = text::numbers(line, 6, 2);
-    if !n.whole {
-        no_call(out, at);
-        return;
-    }
-    pairs(map.column(n.c, n.d), out, at);
 }
 
 // The ends of the last split, as kept in the record.
@@ -243,8 +228,8 @@ fn question(call: Call, map: Opened, line: &[u8], out: &mut [u8], at: &mut usize
         Call::Place => place(map, line, out, at),
         Call::Reading => reading(map, line, out, at),
         Call::Weights => weights(map, line, out, at),
-        Call::Row => row(map, line, out, at),
-        Call::Column => column(map, line, out, at),
+        Call::Row => along(map, true, line, 3, out, at),
+        Call::Column => along(map, false, line, 6, out, at),
         Call::Same => same(map, line, out, at),
         Call::File => file(map, out, at),
         _ => no_call(out, at),

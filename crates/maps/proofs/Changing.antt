@@ -121,6 +121,10 @@ module _ (m : Map) (o : Opened) (e : o ≡ opened m) where
   unfolding opened
   refused-as ne = rw (number-is, same-map, not-good ne)
 
+  -- a question to it is refused with what the call gives for a record that is not good
+  pub refused-with : {A : Type 0} (r x y : A) → (o .number ≡ 0 → ⊥) → r ≡ x → r ≡ cond (not (good m)) x y
+  refused-with r x y ne is = is ∙ sym (cond-true _ _ _ (ap not (not-good ne)))
+
 module _ {m : Map} {t : Table} (g : GoodMap m t) where
   -- its table and values are those of what it holds
   pub live-table : t ≡ table (blends (plain m))
