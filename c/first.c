@@ -15,9 +15,10 @@ static const char *const why[] = {
     "it cuts no blend",
     "the blends would no longer add up: the map would not be sound",
     "no blend has that anchor",
-    "the point lies outside",
+    "the point lies outside the map",
     "these bytes are no map file",
     "the buffer is too short",
+    "no two neighbours have that flow between them",
 };
 
 static uint8_t map[PUMP_LARGEST_FILE];
@@ -83,6 +84,13 @@ int main(void) {
         n = pump_reading(map, used, u, 12, &litres);
         printf("reading at (%zu, 12): %zu, %zu litres a minute\n", u, n, litres);
     }
+
+    /* Where along full speed does it give 150 litres a minute? */
+    size_t count, first;
+    n = pump_row(map, used, 12, 150, &count, &first);
+    printf("150 litres a minute at speed 12: %zu, reached %zu time, between levels %zu and %zu\n", n, count, first, first + 1);
+    n = pump_row(map, used, 12, 301, &count, &first);
+    printf("301 litres a minute at speed 12: %zu, %s\n", n, why[n]);
 
     /* At every whole point the four weights add up to one. */
     pump_weight four[4];
