@@ -111,7 +111,11 @@ fn along(map: Opened, row: bool, line: &[u8], word: usize, out: &mut [u8], at: &
         no_call(out, at);
         return;
     }
-    let r = if row { map.row(n.c, n.d) } else { map.column(n.c, n.d) };
+    let r = if row {
+        map.row(n.c, n.d)
+    } else {
+        map.column(n.c, n.d)
+    };
     told(r.number, out, at);
     if r.number == 0 {
         show::number(r.count, out, at);

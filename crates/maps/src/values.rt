@@ -12,7 +12,7 @@ use mesh::Blend;
 use mesh::Table;
 ghost use mathlib.Core.Path.{_≡_};
 ghost use mathlib.Core.Bool.{true};
-ghost use mathlib.Core.List.{map};
+ghost use mathlib.Core.List.{[], _∷_, map};
 ghost use Prim.Native.Nat.{ℕ, _+_, _≤_, _<_};
 ghost use lib.ListN.{length, take};
 ghost use Rattle.axis.specs.Limits.{largestSide, mostBlends};
@@ -23,7 +23,7 @@ ghost use Rattle.mesh.specs.Sound.{proper, overSquare, blendsOf};
 ghost use Rattle.axis.specs.Gap.{corner};
 ghost use Rattle.maps.specs.Values.{rounded, placeOf, readingAt};
 ghost use Rattle.maps.specs.Calls.{shape, weightOver};
-ghost use Rattle.maps.specs.Inner.{AtPoint, entries, entriesOver, AllListed, weightOfBlend, Light, portion, parts, fractionOf, SumOf};
+ghost use Rattle.maps.specs.Inner.{AtPoint, entries, entriesOver, AllListed, weightOfBlend, Light, portion, fractionOf, SumOf};
 
 // A blend in document 01's coordinates.
 pub(crate) fn shape_of(x: Blend) -> Shape
@@ -177,32 +177,32 @@ pub(crate) fn four_over(table: Table, x: usize, y: usize) -> Four
     four
 }
 
-// The reading at knots (u, v), a corner of the unit square whose low corner is at knots (x, y), by the four blends over that square: their weights times
-// their values, rounded down. They are added from the last to the first, as the sum over a list is.
+// The reading at knots (u, v), a corner of the unit square whose low corner is at knots (x, y), by the four blends over that square and their values: the
+// weights times the values, rounded down. They are added from the last to the first, as the sum over a list is.
 pub(crate) fn reading_over(
     four: Four,
-    values: [u16; Table::MOST_BLENDS],
+    first: u16,
+    second: u16,
+    third: u16,
+    fourth: u16,
     x: usize,
     y: usize,
     u: usize,
     v: usize,
 ) -> usize
     requires { ⌜ AllListed four × (x ≤ u) × (u ≤ x + 1) × (y ≤ v) × (v ≤ y + 1) ⌝ }
-    ensures { λ r. ⌜ r ≡ rounded (total (parts x y u v values (entries four))) ⌝ }
+    ensures { λ r. ⌜ r ≡ rounded (total (portion x y u v (four .first .blend) first ∷ portion x y u v (four .second .blend) second ∷
+        portion x y u v (four .third .blend) third ∷ portion x y u v (four .fourth .blend) fourth ∷ [])) ⌝ }
 {
-    let i = four.first.place;
-    let j = four.second.place;
-    let k = four.third.place;
-    let l = four.fourth.place;
     let none = Sum {
         whole: 0,
         top: 0,
         bottom: 1,
     };
-    let one = added(none, four.fourth.blend, values[l], x, y, u, v);
-    let two = added(one, four.third.blend, values[k], x, y, u, v);
-    let three = added(two, four.second.blend, values[j], x, y, u, v);
-    let sum = added(three, four.first.blend, values[i], x, y, u, v);
+    let one = added(none, four.fourth.blend, fourth, x, y, u, v);
+    let two = added(one, four.third.blend, third, x, y, u, v);
+    let three = added(two, four.second.blend, second, x, y, u, v);
+    let sum = added(three, four.first.blend, first, x, y, u, v);
     sum.whole + sum.top / sum.bottom
 }
 
@@ -221,7 +221,21 @@ pub(crate) fn reading_of(
     let x = low_knot(w, u);
     let y = low_knot(h, v);
     let four = four_over(table, x, y);
-    reading_over(four, values, x, y, u + 1, v + 1)
+    let i = four.first.place;
+    let j = four.second.place;
+    let k = four.third.place;
+    let l = four.fourth.place;
+    reading_over(
+        four,
+        values[i],
+        values[j],
+        values[k],
+        values[l],
+        x,
+        y,
+        u + 1,
+        v + 1,
+    )
 }
 
 // The weights of the four blends over the unit square at a whole point, in table order.

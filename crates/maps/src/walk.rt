@@ -48,37 +48,6 @@ fn all_over(four: Four, x: usize, y: usize) -> bool
     is_over(four.fourth.blend, x, y)
 }
 
-// A point of the walk: the four blends over its unit square, and its reading.
-struct Seen {
-    four: Four,
-    litres: usize,
-}
-
-// The point (u, v), seen with the four blends over some other square in hand.
-fn see(
-    table: Table,
-    values: [u16; Table::MOST_BLENDS],
-    w: usize,
-    h: usize,
-    last: Four,
-    u: usize,
-    v: usize,
-) -> Seen
-    requires { ⌜ InTable w h table values × FourOf table last × (u ≤ w) × (v ≤ h) ⌝ }
-    ensures { λ r. ⌜ FourOf table (r .four) × (r .litres ≡ readingAt (blendsOf table) (take (table .count) values) u v) ⌝ }
-{
-    let x = low_knot(w, u);
-    let y = low_knot(h, v);
-    let mut four = last;
-    if !all_over(last, x, y) {
-        four = four_over(table, x, y);
-    }
-    Seen {
-        four: four,
-        litres: reading_over(four, values, x, y, u + 1, v + 1),
-    }
-}
-
 // The pairs with one more, from k to the next point, where one of the two lies below the wanted flow and the other does not.
 fn noted(pairs: Pairs, k: usize, here: bool, there: bool) -> Pairs
     requires { ⌜ pairs .count < largestSide ⌝ }
@@ -126,18 +95,30 @@ pub(crate) fn pairs_along(
     let mut k = 0;
     while k < side {
         let next = k + 1;
-        let seen = see(
-            table,
-            values,
-            w,
-            h,
+        let u = along(row, next, at);
+        let v = along(row, at, next);
+        let x = low_knot(w, u);
+        let y = low_knot(h, v);
+        if !all_over(four, x, y) {
+            four = four_over(table, x, y);
+        }
+        let i = four.first.place;
+        let j = four.second.place;
+        let l = four.third.place;
+        let m = four.fourth.place;
+        let litres = reading_over(
             four,
-            along(row, next, at),
-            along(row, at, next),
+            values[i],
+            values[j],
+            values[l],
+            values[m],
+            x,
+            y,
+            u + 1,
+            v + 1,
         );
-        let there = seen.litres < wanted;
+        let there = litres < wanted;
         pairs = noted(pairs, k, here, there);
-        four = seen.four;
         here = there;
         k = next;
     }

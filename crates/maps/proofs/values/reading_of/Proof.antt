@@ -5,6 +5,7 @@ use mathlib.Core.Path.{_≡_, _∙_}
 use lib.ListN.{length}
 use Rattle.mesh.proofs.BlendTables.{table-full}
 use Rattle.maps.specs.Values.{readingAt}
+use Rattle.maps.specs.Inner.{AllListed}
 use Rattle.maps.proofs.OverSquare.{all-listed}
 use Rattle.maps.proofs.Adding.{table-over}
 use Rattle.maps.proofs.values.reading_of.Statement.{statement}
@@ -15,13 +16,12 @@ four-over-requires c κs =
     let p = c .before .before .pre in
     (p .0, rw (c .before .low-knot .ensures .0, c .low-knot2 .ensures .0) (p .2))
 
-reading-over-requires : tie.Need-reading-over-requires
-reading-over-requires c κs =
-    let f = c in
-    let s = f .before .before .before in
+-- the four stand in the table
+listed : (c : tie.After-four-over) → AllListed (c .four-over .result)
+listed c =
+    let s = c .before .before .before in
     let p = s .pre in
-    let listed = all-listed (s .args .w) (s .args .h) (p .4) (p .6) (s .args .table) (p .0) (p .1) _ _ (f .four-over .result) (f .four-over .ensures) in
-    (listed, omega arith, omega arith, omega arith, omega arith)
+    all-listed (s .args .w) (s .args .h) (p .4) (p .6) (s .args .table) (p .0) (p .1) _ _ (c .four-over .result) (c .four-over .ensures)
 
 returns : tie.Need-returns
 unfolding readingAt
@@ -31,9 +31,9 @@ returns c =
     let a = s .args in
     let p = s .pre in
     let long = table-full (a .table) (s .good .0) in
-    let full : length (a .values) ≡ 1024 = s .good .1 .0 .1 .0 .1 in
+    let full : length (a .t2) ≡ 1024 = s .good .1 .0 .1 .0 .1 in
     c .reading-over .ensures ∙
-    table-over _ _ _ _ (omega arith) (omega arith) (a .values) (a .w) (a .h) (p .4) (p .6) (a .table) (omega arith) (omega arith) (p .1)
+    table-over _ _ _ _ (omega arith) (omega arith) (a .t2) (a .w) (a .h) (p .4) (p .6) (a .table) (omega arith) (omega arith) (p .1)
     (f .four-over .result) (f .four-over .ensures)
 
 pub reading-of-spec : {M : Type 1} → statement M
@@ -43,7 +43,15 @@ reading-of-spec =
     (λ c κs. search needs)
     (λ c κs. search needs)
     four-over-requires
+    (λ c. let l = listed c in omega arith)
+    (λ c. let l = listed c in omega arith)
+    (λ c. let l = listed c in omega arith)
+    (λ c. let l = listed c in omega arith)
+    (λ c. let l = listed c in omega arith)
+    (λ c. let l = listed c in omega arith)
+    (λ c. let l = listed c in omega arith)
+    (λ c. let l = listed c in omega arith)
     (λ c. search needs)
     (λ c. search needs)
-    reading-over-requires
+    (λ c κs. (listed c, omega arith, omega arith, omega arith, omega arith))
     returns)

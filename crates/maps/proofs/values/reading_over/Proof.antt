@@ -2,11 +2,10 @@
 use borrow.Author.Needs.{needs}
 use native.Mathlib.Omega.{arith}
 use native.Mathlib.Nat.{div-le-of-le-mul, mul-add-div-right}
-use Prim.Native.Nat.{_*_, _≤_}
+use Prim.Native.Nat.{ℕ, _*_, _≤_}
 use mathlib.Core.Path.{sym, ap, _∙_}
-use lib.ListN.{getD}
 use Rattle.axis.specs.Fraction.{Fraction, plus}
-use Rattle.maps.specs.declared.values.Entry.{Entry}
+use Rattle.mesh.specs.declared.Blend.{Blend}
 use Rattle.maps.specs.Values.{rounded}
 use Rattle.maps.specs.Inner.{SumOf, portion}
 use Rattle.maps.proofs.values.reading_over.Statement.{statement}
@@ -41,26 +40,19 @@ returns c =
     let a = k1 .before .args in
     let r = a .four in
     let s = k4 .added4 .result in
-    let part : Entry → Fraction = λ e. portion (a .x) (a .y) (a .u) (a .v) (e .blend) (getD (a .t2) (e .place) 0) in
+    let part : Blend → ℕ → Fraction = λ B c. portion (a .x) (a .y) (a .u) (a .v) B c in
     sym (mul-add-div-right (four k4 .positive) (s .whole) (s .top)) ∙
     ap rounded
-    (k4 .added4 .ensures .0 ∙ ap (plus (part (r .first))) (k3 .added3 .ensures .0 ∙ ap (plus (part (r .second))) (k2 .added2 .ensures .0 ∙ ap (plus (part (r .third))) (k1 .added .ensures .0))))
+    (k4 .added4 .ensures .0 ∙ ap (plus (part (r .first .blend) (a .first)))
+    (k3 .added3 .ensures .0 ∙ ap (plus (part (r .second .blend) (a .second))) (k2 .added2 .ensures .0 ∙ ap (plus (part (r .third .blend) (a .third))) (k1 .added .ensures .0))))
 
 pub reading-over-spec : {M : Type 1} → statement M
 reading-over-spec =
     tie.close
     (tie.spec
-    (λ c. search needs)
-    (λ c. search needs)
     (λ c κs. search needs)
-    (λ c. search needs)
-    (λ c. search needs)
     (λ c κs. let s = one c in search needs)
-    (λ c. search needs)
-    (λ c. search needs)
     (λ c κs. let s = two c in search needs)
-    (λ c. search needs)
-    (λ c. search needs)
     (λ c κs. let s = three c in search needs)
     (λ c. four (c .before) .positive)
     add-result
