@@ -39,9 +39,9 @@
  *
  * Answers
  * -------
- * Every call returns a number. 0 is yes; any other says why not, the first reason that applies: 11 before any other,
- * since the bytes are read first, then the rest in the order in which each call tells its numbers. After a refusal
- * all lent bytes and *used are as they were, and every other number handed back is 0.
+ * Every call returns a number. 0 is yes; one of 1 to 13 says why not, the first reason that applies: 11 before any
+ * other, since the bytes are read first, then the rest in the order in which each call tells its numbers. After a
+ * refusal all lent bytes and *used are as they were, and every other number handed back is 0.
  *
  * Calls allocate nothing. Give a thread that makes them 256 KB of stack: the deepest call was measured at 219 KB
  * (tests/stack.c). Calls on different bytes may run at the same time, and so may any number of calls that only read
