@@ -7,7 +7,7 @@ use mathlib.Core.Logic.{⊎-elim}
 use mathlib.Core.Bool.{Bool, true, false}
 use borrow.Author.Tests.{eqb-true}
 use lib.Dec.{eqb}
-use lib.ListN.{length, getD, drop, length-map, length-append, length-drop, length-take}
+use lib.ListN.{length, getD, take, drop, length-map, length-append, length-drop, length-take}
 use mathlib.Core.List.{List, [], _∷_, _++_, map, List·Memᴰ, List·Memᴰ·cases-cons, List·Memᴰ·not-nil}
 use mathlib.Core.List.List·Memᴰ.{List·Memᴰ·head, List·Memᴰ·tail}
 use Rattle.axis.specs.Triple.{hat, spans}
@@ -97,18 +97,31 @@ module _ (test : Blend → Bool) where
       (λ t. later (rw t at m))
       (either (test B))
 
--- The last n entries of four, with those that are left, are a whole list of four.
+-- the entries before a place, and those from it on
+module _ (test : Blend → Bool) where
+  entries-apart : (bs : List Blend) (i k : ℕ) → entriesOver test bs i ≡ entriesOver test (take k bs) i ++ entriesOver test (drop k bs) (i + k)
+  entries-apart bs i zero = ap (entriesOver test bs) (omega arith)
+  entries-apart [] i (suc k) = refl
+  entries-apart (B ∷ bs) i (suc k) =
+      let e : i + 1 + k ≡ i + suc k = omega arith in
+      let rest = rw e at (entries-apart bs (i + 1) k) in
+      ⊎-elim (λ (t : test B ≡ true). rw t (ap (λ (es : List Entry). record { blend = B; place = i } ∷ es) rest)) (λ (t : test B ≡ false). rw t rest) (either (test B))
+
+  entries-behind : (bs : List Blend) (k : ℕ) → entriesOver test bs 0 ≡ entriesOver test (take k bs) 0 ++ entriesOver test (drop k bs) k
+  entries-behind bs k = let z : 0 + k ≡ k = omega arith in rw z at (entries-apart bs 0 k)
+
+-- The last n of four entries, with those that are left, are a whole list.
 pub record Window (whole left : List Entry) (n : ℕ) (f : Four) : Type 0 where
   pub most : n ≤ 4
   pub joins : drop (4 - n) (entries f) ++ left ≡ whole
 
-module _ {whole : List Entry} (four : length whole ≡ 4) where
-  pub window-left : {left : List Entry} {n : ℕ} {f : Four} → Window whole left n f → n + length left ≡ 4
+module _ {whole : List Entry} where
+  pub window-left : {left : List Entry} {n : ℕ} {f : Four} → Window whole left n f → n + length left ≡ length whole
   window-left {left} {n} {f} w = omega (arith, w .most, simp (length-append, length-drop) at (ap length (w .joins)))
 
-  pub window-more : {left : List Entry} {n : ℕ} {f : Four} {e : Entry} → Window whole (e ∷ left) n f →
+  pub window-more : {left : List Entry} {n : ℕ} {f : Four} {e : Entry} → n < 4 → Window whole (e ∷ left) n f →
       Window whole left (n + 1) (record { first = f .second; second = f .third; third = f .fourth; fourth = e })
-  window-more {left} {n} {f} {e} w = record { most = omega (arith, window-left w); joins = shifted n (omega (arith, window-left w)) ∙ w .joins }
+  window-more {left} {n} {f} {e} lt w = record { most = omega arith; joins = shifted n lt ∙ w .joins }
     where
       shifted : (n : ℕ) → n < 4 → drop (4 - (n + 1)) (f .second ∷ f .third ∷ f .fourth ∷ e ∷ []) ++ left ≡ drop (4 - n) (entries f) ++ e ∷ left
       shifted zero lt = refl
@@ -117,9 +130,16 @@ module _ {whole : List Entry} (four : length whole ≡ 4) where
       shifted (suc (suc (suc zero))) lt = refl
       shifted (suc (suc (suc (suc n)))) lt = absurd (omega arith)
 
-  pub window-all : {left : List Entry} {n : ℕ} {f : Four} → Window whole left n f → 4 ≤ n → entries f ≡ whole
-  window-all {left = []} {n = n} w le = let e : n ≡ 4 = omega (arith, w .most) in rw e at (w .joins)
-  window-all {left = e ∷ left} w le = absurd (omega (arith, window-left w))
+-- Four found from a place on are all, where there are four.
+pub window-all : (test : Blend → Bool) (bs : List Blend) (k : ℕ) (left : List Entry) (f : Four) → length (entriesOver test bs 0) ≡ 4 →
+    Window (entriesOver test (drop k bs) k) left 4 f → entries f ≡ entriesOver test bs 0
+window-all test bs k left f four w = alone (entriesOver test (take k bs) 0) left (w .joins) (entries-behind test bs k)
+  where
+    alone : (before left : List Entry) → entries f ++ left ≡ entriesOver test (drop k bs) k →
+        entriesOver test bs 0 ≡ before ++ entriesOver test (drop k bs) k → entries f ≡ entriesOver test bs 0
+    alone [] [] e d = e ∙ sym d
+    alone (x ∷ before) left e d = absurd (omega (arith, four, simp length-append at (ap length e), simp length-append at (ap length d)))
+    alone [] (x ∷ left) e d = absurd (omega (arith, four, simp length-append at (ap length e), ap length d))
 
 -- Entries that pass a test: where all of them pass another one too, by which no more entries pass, those that pass the other are the same.
 module _ (test other : Blend → Bool) where

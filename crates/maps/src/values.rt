@@ -140,11 +140,17 @@ pub(crate) struct Four {
     pub fourth: Entry,
 }
 
-// The four blends over the unit square whose low corner is at knots (x, y), in table order. The last four found are kept, so that callers
-// name each and index none.
-pub(crate) fn four_over(table: Table, x: usize, y: usize) -> Four
+// The four blends over a square, or fewer.
+struct Near {
+    all: bool,
+    four: Four,
+}
+
+// The four blends over the unit square whose low corner is at knots (x, y), in table order, looked for from a place on; not `all` where fewer stand there.
+// The last four found are kept, so that callers name each and index none.
+fn four_from(table: Table, from: usize, x: usize, y: usize) -> Near
     requires { ⌜ (table .count ≤ mostBlends) × (length (only (overSquare x y) (blendsOf table)) ≡ 4) ⌝ }
-    ensures { λ r. ⌜ entries r ≡ entriesOver (overSquare x y) (blendsOf table) 0 ⌝ }
+    ensures { λ r. ⌜ (r .all ≡ true → entries (r .four) ≡ entriesOver (overSquare x y) (blendsOf table) 0) × (from ≡ 0 → r .all ≡ true) ⌝ }
 {
     let none = Entry {
         blend: table.blends[0],
@@ -157,8 +163,8 @@ pub(crate) fn four_over(table: Table, x: usize, y: usize) -> Four
         fourth: none,
     };
     let mut found: usize = 0;
-    let mut i = 0;
-    while found < 4 {
+    let mut i = from;
+    while i < table.count {
         let b = table.blends[i];
         if is_over(b, x, y) {
             let second = four.second;
@@ -172,9 +178,31 @@ pub(crate) fn four_over(table: Table, x: usize, y: usize) -> Four
             };
             found += 1;
         }
+        if found == 4 {
+            return Near {
+                all: true,
+                four: four,
+            };
+        }
         i += 1;
     }
-    four
+    Near {
+        all: false,
+        four: four,
+    }
+}
+
+// Those four, looked for from a place near them, and from the start where they do not all stand behind it.
+pub(crate) fn four_over(table: Table, from: usize, x: usize, y: usize) -> Four
+    requires { ⌜ (table .count ≤ mostBlends) × (length (only (overSquare x y) (blendsOf table)) ≡ 4) ⌝ }
+    ensures { λ r. ⌜ entries r ≡ entriesOver (overSquare x y) (blendsOf table) 0 ⌝ }
+{
+    let near = four_from(table, from, x, y);
+    if near.all {
+        return near.four;
+    }
+    let far = four_from(table, 0, x, y);
+    far.four
 }
 
 // The reading at knots (u, v), a corner of the unit square whose low corner is at knots (x, y), by the four blends over that square and their values: the
@@ -220,7 +248,7 @@ pub(crate) fn reading_of(
 {
     let x = low_knot(w, u);
     let y = low_knot(h, v);
-    let four = four_over(table, x, y);
+    let four = four_over(table, 0, x, y);
     let i = four.first.place;
     let j = four.second.place;
     let k = four.third.place;
@@ -247,7 +275,7 @@ pub(crate) fn weights_of(table: Table, w: usize, h: usize, u: usize, v: usize) -
     let y = low_knot(h, v);
     let m = u + 1;
     let n = v + 1;
-    let four = four_over(table, x, y);
+    let four = four_over(table, 0, x, y);
     let first = weight_at(four.first.blend, x, y, m, n);
     let second = weight_at(four.second.blend, x, y, m, n);
     let third = weight_at(four.third.blend, x, y, m, n);

@@ -1,5 +1,5 @@
 // A walk along a row or up a column, from reading to reading. The four blends over one unit square mostly lie over the next one too, so the table is
-// searched only where they do not.
+// searched only where they do not, and from the first of them on.
 use crate::Pairs;
 use crate::values::Four;
 use crate::values::four_over;
@@ -85,7 +85,7 @@ pub(crate) fn pairs_along(
         (λ (k : ℕ). ltb (readingAt (blendsOf table) (take (table .count) values) (cond row k at) (cond row at k)) wanted)) ⌝ }
 {
     let side = along(row, w, h);
-    let mut four = four_over(table, 1, 1);
+    let mut four = four_over(table, 0, 1, 1);
     let mut here = reading_of(table, values, w, h, along(row, 0, at), along(row, at, 0)) < wanted;
     let mut pairs = Pairs {
         number: 13,
@@ -100,7 +100,7 @@ pub(crate) fn pairs_along(
         let x = low_knot(w, u);
         let y = low_knot(h, v);
         if !all_over(four, x, y) {
-            four = four_over(table, x, y);
+            four = four_over(table, four.first.place, x, y);
         }
         let i = four.first.place;
         let j = four.second.place;
