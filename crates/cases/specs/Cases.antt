@@ -18,7 +18,7 @@ use Rattle.maps.specs.Values.{readingAt, carried, drawn}
 use Rattle.mesh.specs.Splits.{liveOf, withLine, given, exactNumber, containing, candidate, chosen}
 use Rattle.maps.specs.Calls.{freshMap, setPlain}
 use Rattle.maps.specs.Straight.{flow}
-use Rattle.maps.specs.Histories.{Call, set, exact, lengthened, reads, alongRow, alongColumn, Answer, number, placed, read, weighed, paired, told, numberOf, byMachine}
+use Rattle.maps.specs.Histories.{Call, set, exact, lengthened, reads, alongRow, alongColumn, Answer, number, placed, read, weighed, walked, told, numberOf, byMachine}
 
 -- a row, on the map that the rows before it left
 data Row : Type 0 where
@@ -36,7 +36,7 @@ shownBy (number n) P = length (blends P)
 shownBy (placed p) P = length (blends P)
 shownBy (read r) P = r .litres
 shownBy (weighed w) P = length (blends P)
-shownBy (paired p) P = p .count
+shownBy (walked p) P = p .count
 shownBy (told s) P = length (blends P)
 
 upright : ℕ → ℕ → ℕ → Split
@@ -56,7 +56,7 @@ Right P [] = Unit
 Right P (row c n s ∷ rs) =
     let o = byMachine P c in
     (numberOf (o .answer) ≡ n) × (shownBy (o .answer) (o .next) ≡ s) × Right (o .next) rs
-Right P (reached c n k ∷ rs) = (byMachine P c .answer ≡ paired (record { number = 0; count = n; first = k })) × Right P rs
+Right P (reached c n k ∷ rs) = (byMachine P c .answer ≡ walked (record { number = 0; count = n; first = k })) × Right P rs
 Right P (drawnFrom f t ∷ rs) = (last (P .lines .splits) .from ≡ f) × (last (P .lines .splits) .to ≡ t) × Right P rs
 Right P (supports s x y n ∷ rs) = (length (only (overSquare (x + 1) (y + 1)) (liveOf (withLine (P .lines) s))) ≡ n) × Right P rs
 

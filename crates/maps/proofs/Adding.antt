@@ -1,15 +1,15 @@
 -- A reading as it is added up: a sum with one fraction more, and the sum over all blends by those over a square.
 use Prim.Native.Nat.{ℕ, suc, _+_, _*_, _/_, _%_, _<_, _≤_}
 use native.Mathlib.Omega.{arith}
-use native.Mathlib.Nat.{mul-pos, mul-le-mul, mul-le-mul-right, div-le-self, mod-lt, le-of-lt, div-add-mod', pow-suc, mul-add-div-right}
+use native.Mathlib.Nat.{mul-pos, mul-le-mul, mul-le-mul-right, div-le-self, mod-lt, le-of-lt, div-add-mod', pow-suc}
 use native.Mathlib.Numerals.{add-one}
 use mathlib.Core.Path.{_≡_, refl, sym, ap, subst, _∙_}
 use mathlib.Core.Logic.{⊎-elim}
 use mathlib.Core.Bool.{true}
-use mathlib.Core.List.{List, [], _∷_, map}
+use mathlib.Core.List.{List, [], _∷_}
 use lib.ListN.{length, getD, take}
 use lib.Seq.{length-take-le, getD-take}
-use Rattle.axis.specs.Fraction.{Fraction, Equal, plus, times, whole, total}
+use Rattle.axis.specs.Fraction.{Equal, plus, times, whole, total}
 use Rattle.axis.specs.Range.{all}
 use Rattle.axis.proofs.Tests.{either, and-both, all-at, cond-true, cond-false}
 use Rattle.axis.proofs.Scale.{total-positive}

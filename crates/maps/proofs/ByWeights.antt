@@ -25,7 +25,7 @@ use Rattle.maps.specs.declared.values.Entry.{Entry}
 use Rattle.maps.specs.Plain.{Plain, blends}
 use Rattle.maps.specs.Values.{rounded, readingAt, weightAt}
 use Rattle.maps.specs.Record.{recordOf, plain, good}
-use Rattle.maps.specs.Calls.{shape, tablePlace, reading, weights, weightOver}
+use Rattle.maps.specs.Calls.{shape, tablePlace, weights, weightOver}
 use Rattle.maps.specs.ByWeights.{products, ByWeights}
 use Rattle.maps.specs.Inner.{entriesOver, parts}
 use Rattle.maps.proofs.OverSquare.{entries-only, entry-in}

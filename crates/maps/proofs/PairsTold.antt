@@ -4,13 +4,13 @@ use native.Mathlib.Omega.{arith}
 use mathlib.Core.Path.{_≡_, refl, sym, ap, subst, _∙_}
 use mathlib.Core.Logic.{⊎-elim}
 use mathlib.Core.Bool.{Bool, true, false, cond, _&&_, not}
-use mathlib.Core.List.{List, [], _∷_, List·Memᴰ, List·Memᴰ·not-nil, List·Memᴰ·eq-of-singleton}
+use mathlib.Core.List.{List, [], _∷_, List·Memᴰ, List·Memᴰ·not-nil}
 use mathlib.Core.List.List·Memᴰ.{List·Memᴰ·head}
 use borrow.Author.Tests.{le-leb}
 use lib.Dec.{ltb, leb}
 use lib.ListN.{length}
-use Rattle.axis.specs.Range.{Ordered, differ, turns, turnsFrom}
-use Rattle.axis.proofs.Tests.{either, false-of, true-not-false}
+use Rattle.axis.specs.Range.{Ordered, differ, turns}
+use Rattle.axis.proofs.Tests.{false-of, true-not-false}
 use Rattle.axis.proofs.Counts.{ones}
 use Rattle.axis.proofs.Distinct.{first-before}
 use Rattle.axis.proofs.Turns.{turn-mem, mem-turn, turns-ordered, stays, turns-parity, turns-same}

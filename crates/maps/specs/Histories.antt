@@ -19,7 +19,8 @@ use Rattle.maps.specs.Calls.{setPlain, setValue, placeOn, tablePlace, re
 use Rattle.maps.specs.Pairs.{rowOn, rowPairs, columnOn, columnPairs}
 use Rattle.maps.specs.Sameness.{samePlain, sameness}
 
--- A call on a map. A value is a 16-bit number: what is left of the given one by 65,536.
+-- A call on a map. A value is a 16-bit number: what is left of the given one by 65,536. `alongRow` and `alongColumn` are document 02's, L2: a row or a
+-- column, and a wanted flow.
 pub data Call : Type 0 where
   set : ℕ → ℕ → ℕ → Call
   exact lengthened : Split → Call
@@ -34,7 +35,7 @@ pub data Answer : Type 0 where
   placed : Placed → Answer
   read : Reading → Answer
   weighed : Weights → Answer
-  paired : Pairs → Answer
+  walked : Pairs → Answer
   told : Same → Answer
 
 -- the number of an answer
@@ -43,7 +44,7 @@ numberOf (number n) = n
 numberOf (placed p) = p .number
 numberOf (read r) = r .number
 numberOf (weighed w) = w .number
-numberOf (paired p) = p .number
+numberOf (walked p) = p .number
 numberOf (told s) = s .number
 
 -- a call's answer, and the map, or what it holds, for the next call
@@ -62,8 +63,8 @@ byLibrary m (lengthened s) = let r = lengthenedSplit m s in outcome (number (r .
 byLibrary m (place i) = outcome (placed (tablePlace m i)) m
 byLibrary m (reads u v) = outcome (read (reading m u v)) m
 byLibrary m (weighs u v) = outcome (weighed (weights m u v)) m
-byLibrary m (alongRow v wanted) = outcome (paired (rowPairs m v wanted)) m
-byLibrary m (alongColumn u wanted) = outcome (paired (columnPairs m u wanted)) m
+byLibrary m (alongRow v wanted) = outcome (walked (rowPairs m v wanted)) m
+byLibrary m (alongColumn u wanted) = outcome (walked (columnPairs m u wanted)) m
 byLibrary m (sameAs other) = outcome (told (sameness m other)) m
 
 -- The plain machine: it holds what the record of a map holds, and refuses or answers by the rules, its live blends always cut anew.
@@ -82,8 +83,8 @@ byMachine P (lengthened s) =
 byMachine P (place i) = outcome (placed (placeOn P i)) P
 byMachine P (reads u v) = outcome (read (readingOn P u v)) P
 byMachine P (weighs u v) = outcome (weighed (weightsOn P u v)) P
-byMachine P (alongRow v wanted) = outcome (paired (rowOn P v wanted)) P
-byMachine P (alongColumn u wanted) = outcome (paired (columnOn P u wanted)) P
+byMachine P (alongRow v wanted) = outcome (walked (rowOn P v wanted)) P
+byMachine P (alongColumn u wanted) = outcome (walked (columnOn P u wanted)) P
 byMachine P (sameAs other) =
     cond (good other) (outcome (told (record { number = 0; yes = samePlain P (plain other) })) P)
     (outcome (told (record { number = 2; yes = false })) P)

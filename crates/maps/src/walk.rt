@@ -9,7 +9,7 @@ use crate::values::reading_of;
 use crate::values::reading_over;
 use mesh::Table;
 ghost use mathlib.Core.Path.{_≡_};
-ghost use mathlib.Core.Bool.{true, cond};
+ghost use mathlib.Core.Bool.{cond};
 ghost use mathlib.Core.List.{map};
 ghost use Prim.Native.Nat.{ℕ, _≤_, _<_};
 ghost use lib.Dec.{ltb};
@@ -20,7 +20,7 @@ ghost use Rattle.mesh.specs.Sound.{overSquare, blendsOf};
 ghost use Rattle.maps.specs.declared.values.Entry.{Entry};
 ghost use Rattle.maps.specs.Values.{readingAt};
 ghost use Rattle.maps.specs.Pairs.{countedPairs};
-ghost use Rattle.maps.specs.Inner.{entries, InTable, FourOf, withPair};
+ghost use Rattle.maps.specs.Inner.{entries, InTable, withPair};
 
 // Of two numbers, the one that goes along a row and the one that goes up a column.
 pub(crate) fn along(row: bool, one: usize, other: usize) -> usize

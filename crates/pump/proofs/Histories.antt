@@ -16,7 +16,7 @@ use Rattle.maps.specs.declared.Changed.{Changed}
 use Rattle.maps.specs.declared.Pairs.{Pairs}
 use Rattle.maps.specs.Plain.{Plain, freshPlain}
 use Rattle.maps.specs.Values.{inDomain}
-use Rattle.maps.specs.Record.{recordOf, plain}
+use Rattle.maps.specs.Record.{recordOf}
 use Rattle.maps.specs.Calls.{changed, freshMap, tablePlace, reading, weights, setValue, exactSplit, lengthenedSplit}
 use Rattle.maps.specs.Pairs.{rowOn, rowPairs, columnOn, columnPairs}
 use Rattle.maps.specs.Sameness.{sameness}

@@ -1,7 +1,6 @@
 -- `maps::walk::noted` meets its contract: nothing where both tests agree, else the first pair or one more.
 use borrow.Author.Needs.{needs}
-use borrow.Author.Tests.{eq-eqb, ne-eqb}
-use native.Mathlib.Omega.{arith}
+use borrow.Author.Tests.{ne-eqb}
 use mathlib.Core.Path.{_≡_, refl, sym}
 use mathlib.Core.Bool.{Bool, true, false, Bool·beq}
 use Rattle.axis.specs.Range.{differ}

@@ -1,7 +1,6 @@
 -- `maps::opened::Opened::along` meets its contract: the refusals in their order, then the walk.
 use borrow.Author.Needs.{needs}
-use borrow.Author.Tests.{le-leb, lt-leb}
-use native.Mathlib.Omega.{arith}
+use borrow.Author.Tests.{lt-leb}
 use Prim.Native.Nat.{_≤_}
 use lib.Dec.{leb}
 use mathlib.Core.Path.{_∙_}
