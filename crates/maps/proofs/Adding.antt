@@ -6,10 +6,10 @@ use native.Mathlib.Numerals.{add-one}
 use mathlib.Core.Path.{_≡_, refl, sym, ap, subst, _∙_}
 use mathlib.Core.Logic.{⊎-elim}
 use mathlib.Core.Bool.{true}
-use mathlib.Core.List.{List, [], _∷_}
+use mathlib.Core.List.{List, [], _∷_, map}
 use lib.ListN.{length, getD, take}
 use lib.Seq.{length-take-le, getD-take}
-use Rattle.axis.specs.Fraction.{Equal, plus, times, whole, total}
+use Rattle.axis.specs.Fraction.{Fraction, Equal, plus, times, whole, total}
 use Rattle.axis.specs.Range.{all}
 use Rattle.axis.proofs.Tests.{either, and-both, all-at, cond-true, cond-false}
 use Rattle.axis.proofs.Scale.{total-positive}
@@ -25,7 +25,7 @@ use Rattle.maps.specs.declared.values.Entry.{Entry}
 use Rattle.maps.specs.declared.values.Four.{Four}
 use Rattle.maps.specs.declared.values.Sum.{Sum}
 use Rattle.maps.specs.Values.{paired, rounded, weightAt}
-use Rattle.maps.specs.Inner.{entriesOver, entries, portion, parts, fractionOf, SumOf}
+use Rattle.maps.specs.Inner.{entriesOver, entries, portion, fractionOf, SumOf}
 use Rattle.maps.proofs.ExactSums.{value-positive}
 use Rattle.maps.proofs.OverSquare.{weight-shares, weight-outside, denominator-positive, entry-in}
 
@@ -49,6 +49,10 @@ module _ (s : Sum) (p d : ℕ) where
         rest = omega (arith, mul-le-mul-right d (sum .rest), mul-le-mul-right (s .bottom) (le-of-lt (mod-lt p positive)));
         most = omega (arith, sum .most, div-le-self p d);
       }
+
+-- the values of some entries times their weights
+abbrev pub parts : ℕ → ℕ → ℕ → ℕ → List ℕ → List Entry → List Fraction
+parts x y u v values = map (λ (a : Entry). portion x y u v (a .blend) (getD values (a .place) 0))
 
 -- At a corner (u, v) of the square from (x, y) the sum over all blends is that over the blends over the square, since the others weigh 0 there.
 module _ (x y u v : ℕ) (e : End x u) (f : End y v) (values : List ℕ) where

@@ -27,9 +27,9 @@ use Rattle.maps.specs.Values.{rounded, readingAt, weightAt}
 use Rattle.maps.specs.Record.{recordOf, plain, good}
 use Rattle.maps.specs.Calls.{shape, tablePlace, weights, weightOver}
 use Rattle.maps.specs.ByWeights.{products, ByWeights}
-use Rattle.maps.specs.Inner.{entriesOver, parts}
+use Rattle.maps.specs.Inner.{entriesOver}
 use Rattle.maps.proofs.OverSquare.{entries-only, entry-in}
-use Rattle.maps.proofs.Adding.{sum-over}
+use Rattle.maps.proofs.Adding.{parts, sum-over}
 use Rattle.maps.proofs.GoodRecords.{Holds, record-good, replays-sides, good-facts}
 use Rattle.maps.proofs.Answers.{place-listed, point-answers}
 

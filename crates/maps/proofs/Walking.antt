@@ -16,10 +16,16 @@ use Rattle.maps.specs.declared.Pairs.{Pairs}
 use Rattle.maps.specs.declared.values.Entry.{Entry}
 use Rattle.maps.specs.declared.values.Four.{Four}
 use Rattle.maps.specs.Pairs.{noPairs, countedPairs}
-use Rattle.maps.specs.Inner.{entries, entriesOver, FourOf, withPair}
+use Rattle.maps.specs.Inner.{entries, entriesOver, withPair}
 use Rattle.maps.proofs.OverSquare.{entries-only, entries-stay}
 
--- four entries of a table that all lie over a square are those over it
+-- four entries of a table that are those over some square
+pub record FourOf (t : Table) (f : Four) : Type 0 where
+  pub x : ℕ
+  pub y : ℕ
+  pub are : entries f ≡ entriesOver (overSquare x y) (blendsOf t) 0
+
+-- where they all lie over another square, they are those over that one
 pub four-stay : (t : Table) (f : Four) → FourOf t f → (x y : ℕ) → all (overSquare x y) (map (λ (e : Entry). e .blend) (entries f)) ≡ true →
     length (only (overSquare x y) (blendsOf t)) ≡ 4 → entries f ≡ entriesOver (overSquare x y) (blendsOf t) 0
 four-stay t f o x y over four =

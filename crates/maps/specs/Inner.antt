@@ -4,7 +4,7 @@ use mathlib.Core.Path.{_≡_}
 use mathlib.Core.Bool.{Bool, true, cond}
 use mathlib.Core.List.{List, [], _∷_, _++_, map}
 use lib.Dec.{eqb}
-use lib.ListN.{length, getD, take, set, replicate}
+use lib.ListN.{length, take, set, replicate}
 use Rattle.axis.specs.Limits.{largestSide, mostSplits, mostBlends}
 use Rattle.axis.specs.Fraction.{Fraction}
 use Rattle.axis.specs.Gap.{corner}
@@ -119,12 +119,6 @@ pub record Listed (e : Entry) : Type 0 where
 abbrev pub AllListed : Four → Type 0
 AllListed f = Listed (f .first) × Listed (f .second) × Listed (f .third) × Listed (f .fourth)
 
--- four entries of a table that are those over some square
-pub record FourOf (t : Table) (f : Four) : Type 0 where
-  pub x : ℕ
-  pub y : ℕ
-  pub are : entries f ≡ entriesOver (overSquare x y) (blendsOf t) 0
-
 -- a blend with its weight at a corner of a square, as `weightOver` has it at a point
 abbrev pub weightOfBlend : ℕ → ℕ → ℕ → ℕ → Blend → Weight
 weightOfBlend x y u v B =
@@ -140,10 +134,6 @@ pub record Light (w : Weight) : Type 0 where
 -- a value times that weight
 abbrev pub portion : ℕ → ℕ → ℕ → ℕ → Blend → ℕ → Fraction
 portion x y u v B c = let f = weightAt x y u v B in record { num = f .num * c; den = f .den }
-
--- the values of some entries times their weights
-abbrev pub parts : ℕ → ℕ → ℕ → ℕ → List ℕ → List Entry → List Fraction
-parts x y u v values = map (λ (a : Entry). portion x y u v (a .blend) (getD values (a .place) 0))
 
 -- a sum of n such numbers, with the bounds that keep its parts below 2 to the 64
 abbrev pub fractionOf : Sum → Fraction

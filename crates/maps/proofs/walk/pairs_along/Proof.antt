@@ -17,11 +17,11 @@ use Rattle.maps.specs.declared.Pairs.{Pairs}
 use Rattle.maps.specs.declared.values.Four.{Four}
 use Rattle.maps.specs.Values.{readingAt}
 use Rattle.maps.specs.Pairs.{countedPairs}
-use Rattle.maps.specs.Inner.{AtPoint, entries, entriesOver, AllListed, FourOf, withPair}
+use Rattle.maps.specs.Inner.{AtPoint, entries, entriesOver, AllListed, withPair}
 use Rattle.maps.proofs.AnchorIndex.{count-most, old-table, old-point}
 use Rattle.maps.proofs.OverSquare.{four-over, all-listed}
 use Rattle.maps.proofs.Adding.{table-over}
-use Rattle.maps.proofs.Walking.{four-stay, in-walk, side-most, noted-few, noting, noting-all, noting-turn, noting-done}
+use Rattle.maps.proofs.Walking.{FourOf, four-stay, in-walk, side-most, noted-few, noting, noting-all, noting-turn, noting-done}
 use Rattle.maps.proofs.walk.pairs_along.Statement.{statement}
 use Rattle.maps.proofs.walk.pairs_along.Tie as tie
 
