@@ -23,3 +23,7 @@ pub mod SingleSteps
 pub mod Recutting
 pub mod Replaying
 pub mod Containing
+pub mod View
+pub mod Neighbours
+pub mod AnchorsCross
+pub mod Spreading

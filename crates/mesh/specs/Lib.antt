@@ -7,3 +7,5 @@ pub mod Splits
 pub mod Replay
 pub mod Bytes
 pub mod Examples
+pub mod Crossings
+pub mod Ends

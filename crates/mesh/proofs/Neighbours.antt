@@ -1,0 +1,195 @@
+-- Blends over one column of a sound map, in one part of their triples: one that lies below the next starts where that one's neighbour has its
+-- anchor. And how an upright ends: on two blends abreast of it.
+use Prim.Native.Nat.{ℕ, _+_, _-_, _≤_, _<_}
+use native.Mathlib.Omega.{arith}
+use mathlib.Core.Path.{_≡_, refl, sym, ap, subst, _∙_}
+use mathlib.Core.Logic.{_⊎_, inl, inr, ⊎-elim}
+use mathlib.Core.Bool.{true, false}
+use lib.Dec.{leb, ltb, eqb}
+use borrow.Author.Tests.{leb-true, leb-false, ltb-true, ltb-false, eqb-true, eqb-false}
+use Rattle.axis.specs.Triple.{Side, lower, upper}
+use Rattle.axis.proofs.Tests.{either, true-not-false}
+use Rattle.axis.proofs.Parts.{OnSide}
+use Rattle.mesh.specs.declared.Blend.{Blend}
+use Rattle.mesh.proofs.View.{View, turn, flip, Live, In, Parts, Over, Knot, OneWay, SoundView, TightView, turn-sound, flip-sound, flipped, on-mirror}
+
+-- one number comes before another, is it, or comes after it
+pub data Compared (a b : ℕ) : Type 0 where
+  less : a < b → Compared a b
+  equal : a ≡ b → Compared a b
+  more : b < a → Compared a b
+
+pub compare : (a b : ℕ) → Compared a b
+compare a b =
+    ⊎-elim (λ e. less (ltb-true a b e))
+    (λ e. let le = ltb-false a b e in ⊎-elim (λ f. equal (eqb-true a b f)) (λ f. let ne = eqb-false a b f in more (omega arith)) (either (eqb a b)))
+    (either (ltb a b))
+
+-- Over one square, in one part across: A with its anchor below the square, and C with its anchor above it.
+module _ (Q : View) (s : SoundView Q) (x : Side) (j k : ℕ) (hj : OnSide (Q .w) j) (hk : OnSide (Q .h) k) (A C : Blend)
+    (a : Over Q x upper j k A) (c : Over Q x lower j k C) where
+
+  start-is-anchor : Q .up C .l ≡ Q .up A .m
+  start-is-anchor = by (compare (Q .up C .l) (Q .up A .m))
+    where
+      at : (y : Side) (i : ℕ) (B : Blend) → Live Q B → In x j (Q .across B) → In y i (Q .up B) → Over Q x y j i B
+      at y i B m p q = record { live = m; column = p; row = q }
+
+      by : Compared (Q .up C .l) (Q .up A .m) → Q .up C .l ≡ Q .up A .m
+      by (equal e) = e
+      by (less lt) =
+          let ra = s .y .rises A (a .live) in
+          let rc = s .y .rises C (c .live) in
+          let pa = a .row in
+          let pc = c .row in
+          let low : 2 ≤ Q .up A .m =
+          ⊎-elim (λ e. leb-true 2 (Q .up A .m) e)
+          (λ e. let one = leb-false 2 (Q .up A .m) e in let n = s .y .near C (c .live) (omega arith) in absurd (omega arith))
+          (either (leb 2 (Q .up A .m))) in
+          let i = Q .up A .m - 1 in
+          let is = s .one x lower j i A C hj (omega arith, omega arith)
+          (at lower i A (a .live) (a .column) (omega arith, omega arith))
+          (at lower i C (c .live) (c .column) (omega arith, omega arith)) in
+          let q = ap (λ (B : Blend). Q .up B .m) is in
+          absurd (omega arith)
+      by (more gt) =
+          let ra = s .y .rises A (a .live) in
+          let rc = s .y .rises C (c .live) in
+          let pa = a .row in
+          let pc = c .row in
+          let i = Q .up C .l - 1 in
+          let r = s .some x lower j i hj (omega arith, omega arith) in
+          let D : Blend = r .0 in
+          let o = r .1 in
+          let pd = o .row in
+          let rd = s .y .rises D (o .live) in
+          ⊎-elim
+          (λ e. let m = eqb-true (Q .up D .m) (i + 1) e in
+          let is = s .one x upper j (i + 1) D A hj (omega arith, omega arith)
+          (at upper (i + 1) D (o .live) (o .column) (omega arith, omega arith))
+          (at upper (i + 1) A (a .live) (a .column) (omega arith, omega arith)) in
+          let q = ap (λ (B : Blend). Q .up B .m) is in
+          absurd (omega arith))
+          (λ e. let m = eqb-false (Q .up D .m) (i + 1) e in
+          let is = s .one x lower j (i + 1) D C hj (omega arith, omega arith)
+          (at lower (i + 1) D (o .live) (o .column) (omega arith, omega arith))
+          (at lower (i + 1) C (c .live) (c .column) (omega arith, omega arith)) in
+          let q = ap (λ (B : Blend). Q .up B .l) is in
+          absurd (omega arith))
+          (either (eqb (Q .up D .m) (i + 1)))
+
+pub neighbours : (Q : View) (s : SoundView Q) {x : Side} {j k : ℕ} (hj : OnSide (Q .w) j) (hk : OnSide (Q .h) k) {A C : Blend} →
+    Over Q x upper j k A → Over Q x lower j k C → (Q .up C .l ≡ Q .up A .m) × (Q .up A .r ≡ Q .up C .m)
+neighbours Q s {x} {j} {k} hj hk {A} {C} a c =
+    let e = start-is-anchor (flip Q) (flip-sound Q s) x j (Q .h + 1 - k) hj (on-mirror Q s k hk) C A (flipped Q s hk c) (flipped Q s hk a) in
+    let ra = s .y .rises A (a .live) in
+    let rc = s .y .rises C (c .live) in
+    (start-is-anchor Q s x j k hj hk A C a c, omega arith)
+
+-- an anchor between a blend's start and end has the blend's grid on both sides of it
+pub grid-at : (Q : View) (s : SoundView Q) (B : Blend) → Live Q B → {z k : ℕ} → Q .across B .m ≡ z → Q .up B .l ≤ k → k < Q .up B .r → Q .uprights z k ≡ true
+grid-at Q s B m {z} {k} e lo hi = subst (λ (i : ℕ). Q .uprights i k ≡ true) e (s .x .grid B m k lo hi .m)
+
+pub level-at : (Q : View) (s : SoundView Q) (B : Blend) → Live Q B → {v j : ℕ} → Q .up B .m ≡ v → Q .across B .l ≤ j → j < Q .across B .r → Q .levels v j ≡ true
+level-at Q s B m {v} {j} e lo hi = subst (λ (i : ℕ). Q .levels i j ≡ true) e (s .y .grid B m j lo hi .m)
+
+-- The upright z ends at level a, from below: beside it stand two blends with their anchors at that level and one start, to which the line reaches.
+pub record Ended (Q : View) (z a : ℕ) : Type 0 where
+  pub start : ℕ
+  pub covered : (k : ℕ) → start ≤ k → k < a → Q .uprights z k ≡ true
+  pub at : Side → Blend
+  pub live : (x : Side) → Live Q (at x)
+  pub over : (x : Side) → Parts x z (Q .across (at x))
+  pub anchored : (x : Side) → Q .up (at x) .m ≡ a
+  pub begins : (x : Side) → Q .up (at x) .l ≡ start
+
+module _ (Q : View) (t : TightView Q) (z a : ℕ) (hz : (1 < z) × (z < Q .w + 1)) (ha : (1 < a) × (a < Q .h + 1))
+    (on : Q .uprights z (a - 1) ≡ true) (off : Q .uprights z a ≡ false) where
+  s : SoundView Q
+  s = t .is-sound
+
+  -- no upright of a blend's grid at z goes past the level
+  past : (B : Blend) → Live Q B → Q .across B .m ≡ z → Q .up B .l ≤ a → a < Q .up B .r → ⊥
+  past B m e lo hi = true-not-false _ (grid-at Q s B m e lo hi) off
+
+  record Last : Type 0 where
+    blend : Blend
+    live : Live Q blend
+    at : Q .across blend .m ≡ z
+    row : In upper (a - 1) (Q .up blend)
+    ends : Q .up blend .r ≡ a
+
+  last : Last
+  last = by (found .0) (found .1)
+    where
+      found : (y : Side) × Knot (turn Q) y (a - 1) z
+      found = t .y z (a - 1) (hz .0) (hz .1) (omega arith, omega arith) on
+
+      by : (y : Side) → Knot (turn Q) y (a - 1) z → Last
+      by lower k =
+          let r = s .y .rises (k .blend) (k .live) in
+          let c = k .column in
+          absurd (past (k .blend) (k .live) (k .at) (omega arith) (omega arith))
+      by upper k =
+          let r = s .y .rises (k .blend) (k .live) in
+          let c = k .column in
+          record {
+            blend = k .blend;
+            live = k .live;
+            at = k .at;
+            row = c;
+            ends = ⊎-elim (λ e. let lt = ltb-true a (Q .up (k .blend) .r) e in absurd (past (k .blend) (k .live) (k .at) (omega arith) lt))
+                (λ e. let le = ltb-false a (Q .up (k .blend) .r) e in omega arith)
+                (either (ltb a (Q .up (k .blend) .r)));
+          }
+
+  abbrev X : Blend
+  X = last .blend
+
+  record Beside (x : Side) : Type 0 where
+    blend : Blend
+    live : Live Q blend
+    over : Parts x z (Q .across blend)
+    anchored : Q .up blend .m ≡ a
+    begins : Q .up blend .l ≡ Q .up X .m
+
+  beside : (x : Side) → Beside x
+  beside upper =
+      let r = s .some upper lower z (a - 1) (omega arith, omega arith) (omega arith, omega arith) in
+      let C : Blend = r .0 in
+      let o = r .1 in
+      let rx = s .x .rises X (last .live) in
+      let at = last .at in
+      let n = neighbours Q s (omega arith, omega arith) (omega arith, omega arith)
+      (record { live = last .live; column = (omega arith, omega arith); row = last .row }) o in
+      let ends = last .ends in
+      let ry = s .y .rises C (o .live) in
+      let c = o .column in
+      let ne : Q .across C .m ≡ z → ⊥ = λ e. past C (o .live) e (omega arith) (omega arith) in
+      record { blend = C; live = o .live; over = (omega arith, omega arith); anchored = omega arith; begins = n .0 }
+  beside lower =
+      let r = s .some lower lower (z - 1) (a - 1) (omega arith, omega arith) (omega arith, omega arith) in
+      let C : Blend = r .0 in
+      let o = r .1 in
+      let rx = s .x .rises X (last .live) in
+      let at = last .at in
+      let n = neighbours Q s (omega arith, omega arith) (omega arith, omega arith)
+      (record { live = last .live; column = (omega arith, omega arith); row = last .row }) o in
+      let ends = last .ends in
+      let ry = s .y .rises C (o .live) in
+      let c = o .column in
+      let ne : Q .across C .m ≡ z → ⊥ = λ e. past C (o .live) e (omega arith) (omega arith) in
+      record { blend = C; live = o .live; over = (omega arith, omega arith); anchored = omega arith; begins = n .0 }
+
+  pub ended : Ended Q z a
+  ended =
+      let rx = s .y .rises X (last .live) in
+      record {
+        start = Q .up X .m;
+        covered = λ k lo hi. grid-at Q s X (last .live) (last .at) (omega arith) (let e = last .ends in omega arith);
+        at = λ x. beside x .blend;
+        live = λ x. beside x .live;
+        over = λ x. beside x .over;
+        anchored = λ x. beside x .anchored;
+        begins = λ x. beside x .begins;
+      }

@@ -1,0 +1,74 @@
+-- Which ends a split may have: what refusal 8 comes to (document 01, "When a call says no"), and which line a lengthened split takes.
+use Prim.Native.Nat.{ℕ, _+_, _-_}
+use mathlib.Core.Path.{_≡_}
+use mathlib.Core.Bool.{Bool, true, cond, _&&_, _||_}
+use mathlib.Core.List.{List, [], _∷_}
+use lib.Dec.{ltb, eqb}
+use Rattle.axis.specs.Range.{any}
+use Rattle.axis.specs.Triple.{Side, lower, upper}
+use Rattle.axis.specs.Nearest.{below, above}
+use Rattle.axis.specs.declared.Triple.{Triple}
+use Rattle.mesh.specs.Lines.{Direction, direction, other, side, Layout, meshOf}
+use Rattle.mesh.specs.Blends.{crossed, along}
+use Rattle.mesh.specs.Splits.{liveOf, soundWith, exactNumber, run, Contains, candidate, chosen}
+use Rattle.mesh.specs.declared.Split.{Split}
+use Rattle.mesh.specs.declared.Blend.{Blend}
+
+-- position z lies strictly between l and m, the lower part of a triple, or between m and r, its upper part
+abbrev pub parts : Side → ℕ → Triple → Bool
+parts lower z t = ltb (t .l) z && ltb z (t .m)
+parts upper z t = ltb (t .m) z && ltb z (t .r)
+
+-- An end of a gap at position z: at knot k a line of the direction goes on, or the domain ends. `lower` is a gap's first knot, `upper` its last.
+abbrev pub gapEnds : Layout → Direction → ℕ → Side → ℕ → Bool
+gapEnds P d z lower k = eqb k 1 || meshOf P d z (k - 1)
+gapEnds P d z upper k = eqb k (side (other d) (P .w) (P .h) + 1) || meshOf P d z k
+
+-- how far a blend reaches back from the end of a line, along the line: it starts, or at a lower end it ends, there
+abbrev pub back : Side → Triple → ℕ
+back lower t = t .r
+back upper t = t .l
+
+-- Two blends over the end of a line at z, one with its anchor before the line and one with its anchor after it: both anchors are at the
+-- level of the end, and both blends reach back along the line to the same level.
+abbrev pub abreast : Direction → ℕ → Side → ℕ → Blend → Blend → Bool
+abreast d z e k A B =
+    parts upper z (crossed d A) && parts lower z (crossed d B) && eqb (along d A .m) k && eqb (along d B .m) k &&
+    eqb (back e (along d A)) (back e (along d B))
+
+-- A good end: the gap's, or one at which two live blends of the present map are so.
+unfoldable pub goodEnd : Layout → Direction → ℕ → Side → ℕ → Bool
+goodEnd P d z e k = gapEnds P d z e k || any (λ A. any (abreast d z e k A) (liveOf P)) (liveOf P)
+
+unfoldable pub goodEnds : Layout → Split → Bool
+goodEnds P s =
+    let good = goodEnd P (direction (s .direction)) (s .position + 1) in good lower (s .from + 1) && good upper (s .to + 1)
+
+-- the line through a given one, between the nearest ends of a kind at or before its start and at or after its end
+abbrev pub between : (Side → ℕ → Bool) → Layout → Split → Split
+between ends P s =
+    record {
+      direction = s .direction;
+      position = s .position;
+      from = below (λ k. ends lower (k + 1)) 0 (s .from);
+      to = above (λ k. ends upper (k + 1)) (run P s + 1) (run P s + 1 - s .to);
+    }
+
+-- the whole gap at the position; and the line between the nearest good ends
+unfoldable pub gap : Layout → Split → Split
+gap P s = between (gapEnds P (direction (s .direction)) (s .position + 1)) P s
+
+unfoldable pub nearestGood : Layout → Split → Split
+nearestGood P s = between (goodEnd P (direction (s .direction)) (s .position + 1)) P s
+
+-- What `two-looks` shows of a split that passes 3 to 7, of every map that a history can reach:
+pub record TwoLooks (P : Layout) (s : Split) : Type 0 where
+  -- "The exact split leaves a map that is not sound": exactly where an end is not good.
+  pub exact : soundWith P s ≡ goodEnds P s
+  pub refused : exactNumber P s ≡ cond (goodEnds P s) 0 8
+  -- The whole gap is a candidate; so a lengthened split takes a line, and it is the one between the nearest good ends,
+  pub whole-gap : Contains P s (gap P s) × (candidate P (gap P s) ≡ true)
+  pub taken : chosen P s ≡ nearestGood P s ∷ []
+  -- which lies in every other candidate. The candidates are the lines between good ends of the gap.
+  pub in-all : (c : Split) → Contains P s c → candidate P c ≡ true → Contains P (nearestGood P s) c
+  pub candidates : (c : Split) → Contains P s c → Contains P c (gap P s) → candidate P c ≡ goodEnds P c
