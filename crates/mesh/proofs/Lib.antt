@@ -27,3 +27,4 @@ pub mod View
 pub mod Neighbours
 pub mod AnchorsCross
 pub mod Spreading
+pub mod Filling

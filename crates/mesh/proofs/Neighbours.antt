@@ -10,8 +10,9 @@ use borrow.Author.Tests.{leb-true, leb-false, ltb-true, ltb-false, eqb-true, eqb
 use Rattle.axis.specs.Triple.{Side, lower, upper}
 use Rattle.axis.proofs.Tests.{either, true-not-false}
 use Rattle.axis.proofs.Parts.{OnSide}
+use Rattle.mesh.specs.Ends.{back}
 use Rattle.mesh.specs.declared.Blend.{Blend}
-use Rattle.mesh.proofs.View.{View, turn, flip, Live, In, Parts, Over, Knot, OneWay, SoundView, TightView, turn-sound, flip-sound, flipped, on-mirror}
+use Rattle.mesh.proofs.View.{View, turn, flip, mirror, opposite, Live, In, Parts, Over, Knot, OneWay, SoundView, TightView, turn-sound, flip-sound, flip-tight, flipped, on-mirror}
 
 -- one number comes before another, is it, or comes after it
 pub data Compared (a b : ℕ) : Type 0 where
@@ -93,15 +94,34 @@ grid-at Q s B m {z} {k} e lo hi = subst (λ (i : ℕ). Q .uprights i k ≡ true)
 pub level-at : (Q : View) (s : SoundView Q) (B : Blend) → Live Q B → {v j : ℕ} → Q .up B .m ≡ v → Q .across B .l ≤ j → j < Q .across B .r → Q .levels v j ≡ true
 level-at Q s B m {v} {j} e lo hi = subst (λ (i : ℕ). Q .levels i j ≡ true) e (s .y .grid B m j lo hi .m)
 
--- The upright z ends at level a, from below: beside it stand two blends with their anchors at that level and one start, to which the line reaches.
-pub record Ended (Q : View) (z a : ℕ) : Type 0 where
-  pub start : ℕ
-  pub covered : (k : ℕ) → start ≤ k → k < a → Q .uprights z k ≡ true
+-- the row before an end of a line, and the row beyond it
+abbrev pub here : Side → ℕ → ℕ
+here lower a = a
+here upper a = a - 1
+
+abbrev pub beyond : Side → ℕ → ℕ
+beyond lower a = a - 1
+beyond upper a = a
+
+-- Two blends abreast of the upright z, one on either side: their anchors are at level a, and they reach back to one level: they begin there, or
+-- at a lower end of a line, they end there.
+pub record Abreast (Q : View) (e : Side) (z a : ℕ) : Type 0 where
+  pub reach : ℕ
   pub at : Side → Blend
   pub live : (x : Side) → Live Q (at x)
   pub over : (x : Side) → Parts x z (Q .across (at x))
   pub anchored : (x : Side) → Q .up (at x) .m ≡ a
-  pub begins : (x : Side) → Q .up (at x) .l ≡ start
+  pub reaches : (x : Side) → back e (Q .up (at x)) ≡ reach
+
+-- the rows from there to the level
+abbrev pub Back : Side → ℕ → ℕ → ℕ → Type 0
+Back lower reach a k = (a ≤ k) × (k < reach)
+Back upper reach a k = (reach ≤ k) × (k < a)
+
+-- The upright z ends at level a, from below or from above: two blends are abreast of it there, and it covers them up to that level.
+pub record Ended (Q : View) (e : Side) (z a : ℕ) : Type 0 where
+  pub abreast : Abreast Q e z a
+  pub covered : (k : ℕ) → Back e (abreast .reach) a k → Q .uprights z k ≡ true
 
 module _ (Q : View) (t : TightView Q) (z a : ℕ) (hz : (1 < z) × (z < Q .w + 1)) (ha : (1 < a) × (a < Q .h + 1))
     (on : Q .uprights z (a - 1) ≡ true) (off : Q .uprights z a ≡ false) where
@@ -181,15 +201,69 @@ module _ (Q : View) (t : TightView Q) (z a : ℕ) (hz : (1 < z) × (z < Q .w + 1
       let ne : Q .across C .m ≡ z → ⊥ = λ e. past C (o .live) e (omega arith) (omega arith) in
       record { blend = C; live = o .live; over = (omega arith, omega arith); anchored = omega arith; begins = n .0 }
 
-  pub ended : Ended Q z a
-  ended =
+  ended-above : Ended Q upper z a
+  ended-above =
       let rx = s .y .rises X (last .live) in
       record {
-        start = Q .up X .m;
-        covered = λ k lo hi. grid-at Q s X (last .live) (last .at) (omega arith) (let e = last .ends in omega arith);
-        at = λ x. beside x .blend;
-        live = λ x. beside x .live;
-        over = λ x. beside x .over;
-        anchored = λ x. beside x .anchored;
-        begins = λ x. beside x .begins;
+        abreast =
+            record {
+              reach = Q .up X .m;
+              at = λ x. beside x .blend;
+              live = λ x. beside x .live;
+              over = λ x. beside x .over;
+              anchored = λ x. beside x .anchored;
+              reaches = λ x. beside x .begins;
+            };
+        covered = λ k i. grid-at Q s X (last .live) (last .at) (omega arith) (let e = last .ends in omega arith);
       }
+
+-- Seen from the other end:
+unfoldable pub flip-abreast : (Q : View) (e : Side) (z a : ℕ) → Abreast Q e z a → Abreast (flip Q) (opposite e) z (Q .h + 2 - a)
+flip-abreast Q e z a b =
+    record {
+      reach = Q .h + 2 - b .reach;
+      at = b .at;
+      live = b .live;
+      over = b .over;
+      anchored = λ x. ap (λ (n : ℕ). Q .h + 2 - n) (b .anchored x);
+      reaches = by e (b .reaches);
+    }
+  where
+    by : (e : Side) → ((x : Side) → back e (Q .up (b .at x)) ≡ b .reach) → (x : Side) →
+        back (opposite e) (mirror (Q .h) (Q .up (b .at x))) ≡ Q .h + 2 - b .reach
+    by lower f x = ap (λ (n : ℕ). Q .h + 2 - n) (f x)
+    by upper f x = ap (λ (n : ℕ). Q .h + 2 - n) (f x)
+
+same-back : (s m a : ℕ) → m ≤ s → a ≤ s → s - m ≡ s - a → m ≡ a
+same-back s m a hm ha e = omega arith
+
+other-end : (s m a : ℕ) → m ≤ s → s - m ≡ a → m ≡ s - a
+other-end s m a hm e = omega arith
+
+back-flip : (h a n r : ℕ) → a ≤ n → n < h + 2 - r → (r ≤ h + 1 - n) × (h + 1 - n < h + 2 - a) × (h + 1 - (h + 1 - n) ≡ n)
+back-flip h a n r lo hi = (omega arith, omega arith, omega arith)
+
+pub ended : (Q : View) (t : TightView Q) (z a : ℕ) → (1 < z) × (z < Q .w + 1) → (1 < a) × (a < Q .h + 1) → (e : Side) →
+    Q .uprights z (here e a) ≡ true → Q .uprights z (beyond e a) ≡ false → Ended Q e z a
+ended Q t z a hz ha upper on off = ended-above Q t z a hz ha on off
+ended Q t z a hz ha lower on off =
+    let r = ended-above (flip Q) (flip-tight Q t) z (Q .h + 2 - a) hz (omega arith, omega arith)
+    (subst (λ (n : ℕ). Q .uprights z n ≡ true) (let k : a ≡ Q .h + 1 - (Q .h + 2 - a - 1) = omega arith in k) on)
+    (subst (λ (n : ℕ). Q .uprights z n ≡ false) (let k : a - 1 ≡ Q .h + 1 - (Q .h + 2 - a) = omega arith in k) off) in
+    let b = r .abreast in
+    let rise : (x : Side) → (Q .up (b .at x) .m ≤ Q .h + 2) × (Q .up (b .at x) .r ≤ Q .h + 2) =
+    λ x. let r = t .is-sound .y .rises (b .at x) (b .live x) in (omega arith, omega arith) in
+    record {
+      abreast =
+          record {
+            reach = Q .h + 2 - b .reach;
+            at = b .at;
+            live = b .live;
+            over = b .over;
+            anchored = λ x. same-back (Q .h + 2) _ a (rise x .0) (omega arith) (b .anchored x);
+            reaches = λ x. other-end (Q .h + 2) _ _ (rise x .1) (b .reaches x);
+          };
+      covered = λ n range.
+          let f = back-flip (Q .h) a n (b .reach) (range .0) (range .1) in
+          subst (λ (u : ℕ). Q .uprights z u ≡ true) (f .2) (r .covered (Q .h + 1 - n) (f .0, f .1));
+    }
