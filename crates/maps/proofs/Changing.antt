@@ -39,8 +39,9 @@ use Rattle.maps.proofs.opened.Opened as opened
 use Rattle.maps.proofs.Readings.{place-found}
 use Rattle.maps.proofs.Opening.{good-table}
 use Rattle.maps.proofs.GoodRecords.{Holds, record-good, GoodFacts, good-facts, set-holds, drawn-holds}
-use Rattle.maps.proofs.OneSplitMore.{splits-length, table-few, exact-says}
-use Rattle.maps.proofs.ChosenLine.{chosen-exact}
+use Rattle.mesh.proofs.Passing.{exact-says}
+use Rattle.maps.proofs.OneSplitMore.{splits-length, table-few}
+use Rattle.mesh.proofs.ChosenLine.{chosen-exact}
 
 -- a list padded to a length: with one entry more, and with one of its entries set
 module _ {A : Type 0} (xs : List A) (n : ℕ) (d x : A) where

@@ -20,7 +20,7 @@ use Rattle.maps.specs.Record.{recordOf}
 use Rattle.maps.specs.Calls.{reading}
 use Rattle.maps.specs.Demand.{Gentle}
 use Rattle.axis.proofs.Members.{entry}
-use Rattle.maps.proofs.OneSplitMore.{exact-says}
+use Rattle.mesh.proofs.Passing.{exact-says}
 use Rattle.maps.proofs.GoodRecords.{Holds}
 use Rattle.maps.proofs.Readings.{drawn-reading, drawn-anchor}
 use Rattle.maps.proofs.Reached.{Reached, drawn-leads}

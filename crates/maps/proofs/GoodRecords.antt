@@ -26,7 +26,8 @@ use Rattle.maps.specs.Values.{drawn}
 use Rattle.maps.specs.Record.{noSplit, isNoSplit, isZero, linesOf, recordOf, plain, good}
 use Rattle.maps.specs.Calls.{setPlain}
 use Rattle.maps.specs.Inner.{HasTable}
-use Rattle.maps.proofs.OneSplitMore.{table-sides, fresh-table, exact-says}
+use Rattle.mesh.proofs.Passing.{exact-says}
+use Rattle.maps.proofs.OneSplitMore.{table-sides, fresh-table}
 use Rattle.maps.proofs.Opening.{good-passes, passes-good}
 
 -- the test of a split that is zero

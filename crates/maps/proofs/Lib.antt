@@ -11,7 +11,6 @@ pub mod GoodRecords
 pub mod OneSplitMore
 pub mod AnchorIndex
 pub mod Searching
-pub mod ChosenLine
 pub mod OverSquare
 pub mod Reached
 pub mod Readings

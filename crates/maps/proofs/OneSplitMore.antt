@@ -29,7 +29,7 @@ use Rattle.mesh.proofs.SoundMaps.{live-proper}
 use Rattle.mesh.specs.Splits.{liveOf, withLine, soundWith, given, exactNumber}
 use Rattle.maps.specs.Record.{linesOf}
 use Rattle.maps.specs.Inner.{withSplit, HasTable}
-use Rattle.maps.proofs.Readings.{drawn-finer}
+use Rattle.mesh.proofs.OneLineMore.{more-finer}
 
 -- the lines with one split more hold it after the others
 module _ (L : Lines) (room : L .count < 60) (places : length (L .splits) ≡ 60) (s : Split) where
@@ -72,44 +72,6 @@ module _ {L : Lines} {t : Table} (hand : HasTable L t) where
       let a = table-sides in
       rw table-lives (all-of _ (liveOf (layoutOf L)) (live-proper (L .w) (L .h) (a .across .0) (a .up .0) (meshOf (layoutOf L))))
 
--- what it says that no refusal of 3 to 7 applies, and that an exact split is accepted
-pub record Given (P : Layout) (s : Split) : Type 0 where
-  pub fits : inRange (P .w) (P .h) s ≡ true
-  pub room : length (P .splits) < 60
-  pub apart : shares (meshOf P) s ≡ false
-  pub ends : ended (meshOf P) s ≡ true
-  pub cut : any (isCut (meshOf (withLine P s))) (liveOf P) ≡ true
-
--- the first test of a chain that ends in 0
-chain : (b : Bool) (n rest : ℕ) → 0 < n → cond b n rest ≡ 0 → (b ≡ false) × (rest ≡ 0)
-chain true n rest lt e = absurd (omega arith)
-chain false n rest lt e = (refl, e)
-
-pub given-says : (P : Layout) (s : Split) → given P s ≡ 0 → Given P s
-unfolding given
-given-says P s e =
-    let a = chain (not (inRange (P .w) (P .h) s)) 3 _ (omega arith) e in
-    let b = chain (leb 60 (length (P .splits))) 4 _ (omega arith) (a .1) in
-    let c = chain (shares (meshOf P) s) 5 _ (omega arith) (b .1) in
-    let d = chain (not (ended (meshOf P) s)) 6 _ (omega arith) (c .1) in
-    let f = chain (not (any (isCut (meshOf (withLine P s))) (liveOf P))) 7 0 (omega arith) (d .1) in
-    record {
-      fits = not-false _ (a .0);
-      room = leb-false 60 (length (P .splits)) (b .0);
-      apart = c .0;
-      ends = not-false _ (d .0);
-      cut = not-false _ (f .0);
-    }
-
-pub exact-says : (P : Layout) (s : Split) → exactNumber P s ≡ 0 → Given P s × (soundWith P s ≡ true)
-unfolding exactNumber
-exact-says P s e = let r = both-pass (given P s) (soundWith P s) e in (given-says P s (r .0), r .1)
-  where
-    both-pass : (g : ℕ) (b : Bool) → cond (eqb g 0) (cond b 0 8) g ≡ 0 → (g ≡ 0) × (b ≡ true)
-    both-pass zero true e = (refl, refl)
-    both-pass zero false e = absurd (omega arith)
-    both-pass (suc g) b e = absurd (omega (arith, rw (ne-eqb (suc g) 0 (omega arith)) at e))
-
 -- One split more on lines whose live blends are in hand:
 module _ {L : Lines} {t : Table} (hand : HasTable L t) (s : Split) (fits : inRange (L .w) (L .h) s ≡ true) (room : L .count < 60) where
   ranged : Ranged (withSplit L s) t
@@ -131,7 +93,7 @@ module _ {L : Lines} {t : Table} (hand : HasTable L t) (s : Split) (fits : inRan
       let a = table-sides hand in
       is-refined ranged ∙
       rw (more-mesh L room (hand .places) s, table-lives hand)
-      (finer-fitted (L .w) (L .h) (a .up .1) (meshOf (layoutOf L)) (meshOf (withLine (layoutOf L) s)) (drawn-finer (L .w) (L .h) (splitsOf L) s)
+      (finer-fitted (L .w) (L .h) (a .up .1) (meshOf (layoutOf L)) (meshOf (withLine (layoutOf L) s)) (more-finer (layoutOf L) s)
       (firstFour (L .w) (L .h)) (first-proper (L .w) (L .h) (a .across .0) (a .up .0)))
 
   -- and that it fits and is full says that the map is sound.

@@ -19,10 +19,10 @@ use Rattle.maps.specs.Record.{good}
 use Rattle.maps.specs.Calls.{setPlain}
 use Rattle.maps.specs.Histories.{Call, set, exact, lengthened, place, reads, weighs, alongRow, alongColumn, sameAs, Outcome, firstDrawn, byMachine, ending}
 use Rattle.maps.specs.Demand.{Start, fresh, lineBy, linesBy}
-use Rattle.maps.proofs.OneSplitMore.{exact-says}
+use Rattle.mesh.proofs.Passing.{exact-says}
 use Rattle.maps.proofs.GoodRecords.{Holds, replays-sides, replays-stands, fresh-holds, set-holds, drawn-holds}
 use Rattle.maps.proofs.Readings.{Valued, set-valued, drawn-valued}
-use Rattle.maps.proofs.ChosenLine.{chosen-exact}
+use Rattle.mesh.proofs.ChosenLine.{chosen-exact}
 
 -- The splits are accepted in order from the fresh map, the map is sound, and each live blend has a 16-bit value.
 pub record Reached (P : Plain) : Type 0 where

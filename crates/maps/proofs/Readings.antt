@@ -19,6 +19,7 @@ use Rattle.mesh.specs.Blends.{anchored}
 use Rattle.mesh.specs.Order.{Coarser}
 use Rattle.mesh.specs.Sound.{none, proper, sound}
 use Rattle.axis.proofs.Tests.{either, and-both, or-either, or-left, or-right, any-at, any-of, cond-true, cond-false}
+use Rattle.mesh.proofs.OneLineMore.{more-finer}
 use Rattle.mesh.proofs.Order.{finer-back, keeps-anchor}
 use Rattle.mesh.proofs.Cuts.{proper-facts, proper-rises}
 use Rattle.mesh.proofs.Live.{AllProper}
@@ -115,15 +116,6 @@ module _ (P : Plain) (valued : Valued P) where
       rw (reading-rounds w h (blends P) (P .values) blends-proper u v)
       (div-le-of-le-mul (scale w h) (omega (arith, most, ap (λ (n : ℕ). 65535 * n) one)))
 
--- drawing a split takes no unit step off the lines
-pub drawn-finer : (w h : ℕ) (splits : List Split) (s : Split) → Coarser (mesh w h splits) (mesh w h (splits ++ s ∷ []))
-unfolding mesh
-drawn-finer w h splits s d z k e =
-    ⊎-elim (λ f. or-left (freshMesh w h d z k) _ f)
-    (λ o. let r = any-at (draws w h d z k) splits o in
-    or-right (freshMesh w h d z k) _ (any-of (draws w h d z k) (splits ++ s ∷ []) (r .0) (Memᴰ·append-left (s ∷ []) (r .1)) (r .2)))
-    (or-either (freshMesh w h d z k) (any (draws w h d z k) splits) e)
-
 -- A split that leaves a sound map:
 module _ (P : Plain) (valued : Valued P) (s : Split) (still : sound (P .lines .w) (P .lines .h) (liveOf (withLine (P .lines) s)) ≡ true) where
   -- every live blend of the map just before comes before the new ones;
@@ -133,7 +125,7 @@ module _ (P : Plain) (valued : Valued P) (s : Split) (still : sound (P .lines .w
     blends-proper P valued B m,
     λ C l. let r = live-left (P .lines .w) (P .lines .h) (valued .wide .0) (valued .tall .0) (meshOf (P .lines)) B .0 m in
         live-left (P .lines .w) (P .lines .h) (valued .wide .0) (valued .tall .0) (meshOf (withLine (P .lines) s)) C .1
-        (r .0, r .1, finer-back (drawn-finer (P .lines .w) (P .lines .h) (P .lines .splits) s) (r .2) l),
+        (r .0, r .1, finer-back (more-finer (P .lines) s) (r .2) l),
   )
 
   new-proper : AllProper (P .lines .w) (P .lines .h) (liveOf (withLine (P .lines) s))

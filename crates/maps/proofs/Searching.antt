@@ -19,7 +19,8 @@ use Rattle.mesh.proofs.Containing.{line}
 use Rattle.maps.specs.declared.splits.Step.{Step}
 use Rattle.mesh.specs.Splits.{given, soundWith, reaching, run, containing, candidate, chosen}
 use Rattle.maps.specs.Inner.{HasTable, refusedStep, judged, found}
-use Rattle.maps.proofs.OneSplitMore.{Given, given-says, table-sides, splits-length}
+use Rattle.mesh.proofs.Passing.{Given, given-says, reaching-fits, ends-in}
+use Rattle.maps.proofs.OneSplitMore.{table-sides, splits-length}
 
 module _ (P : Layout) (s : Split) where
   -- the lines of a length from a start on; those of length n and more; and those before them that are left of a length from a start on
@@ -81,34 +82,6 @@ module _ (P : Layout) (s : Split) where
   line-taken n from more reaches le ok =
       ap (λ (xs : List Split). first (xs ++ more)) (cond-true _ _ _ (and-of _ _ (le-leb _ _ reaches) (le-leb _ _ le))) ∙
       ap (take 1) (cond-true _ _ _ ok)
-
--- a line in range keeps to its ranges with other ends within the side that it runs along
-pub reaching-fits : (P : Layout) (s : Split) (from n : ℕ) → inRange (P .w) (P .h) s ≡ true → 0 < n → from + n ≤ run P s →
-    inRange (P .w) (P .h) (reaching s from n) ≡ true
-unfolding inRange
-reaching-fits P s from n e lo hi =
-    ⊎-elim
-    (λ q. cond-true _ _ _ q ∙ ends-kept (P .w) (P .h) (rw q at e) (rw q at hi))
-    (λ q. let r = and-both (eqb (s .direction) 1) (fits (P .h) (P .w) s) (rw q at e) in
-    cond-false _ _ _ q ∙ and-of _ _ (r .0) (ends-kept (P .h) (P .w) (r .1) (rw q at hi)))
-    (either (eqb (s .direction) 0))
-  where
-    ends-kept : (crossed along : ℕ) → fits crossed along s ≡ true → from + n ≤ along → fits crossed along (reaching s from n) ≡ true
-    ends-kept crossed along f le =
-        let p = and-both (ltb 0 (s .position) && ltb (s .position) crossed && ltb (s .from) (s .to)) (leb (s .to) along) f in
-        let q = and-both (ltb 0 (s .position) && ltb (s .position) crossed) (ltb (s .from) (s .to)) (p .0) in
-        and-of _ _ (and-of _ _ (q .0) (lt-ltb from (from + n) (omega arith))) (le-leb (from + n) along le)
-
--- the ends of a split in range
-pub ends-in : (P : Layout) (s : Split) → inRange (P .w) (P .h) s ≡ true → (s .from < s .to) × (s .to ≤ run P s)
-unfolding inRange
-ends-in P s e =
-    ⊎-elim (λ q. let r = in-range-says (P .w) (P .h) upright s e (eqb-true _ _ q) in rw q (r .1, r .2))
-    (λ q. let r = in-range-says (P .w) (P .h) level s e (is-level q) in rw q (r .1, r .2))
-    (either (eqb (s .direction) 0))
-  where
-    is-level : eqb (s .direction) 0 ≡ false → s .direction ≡ 1
-    is-level q = eqb-true _ _ (and-both (eqb (s .direction) 1) (fits (P .h) (P .w) s) (rw q at e) .0)
 
 -- What holds throughout the search: nothing is found yet, and the first candidate of the lines that are left is the line that the split takes.
 pub record Search (L : Lines) (t : Table) (s : Split) (side : ℕ) (answer : Step) (n : ℕ) (left : List Split) : Type 0 where

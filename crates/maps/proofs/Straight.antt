@@ -28,7 +28,7 @@ use Rattle.maps.proofs.Integers.{Difference, as-whole, is-whole, apart}
 use Rattle.maps.proofs.Integers as Integers
 use Rattle.maps.proofs.Answers.{place-listed, answers-listed, anchor-shown, anchor-in, point-answers}
 use Rattle.maps.proofs.ExactSums.{value-positive}
-use Rattle.maps.proofs.OneSplitMore.{exact-says}
+use Rattle.mesh.proofs.Passing.{exact-says}
 use Rattle.maps.proofs.Readings.{blends-proper, drawn-value}
 use Rattle.maps.proofs.Reached.{Reached, drawn-leads}
 

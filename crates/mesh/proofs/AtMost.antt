@@ -4,7 +4,7 @@ use native.Mathlib.Omega.{arith}
 use native.Mathlib.Nat.{mul-le-mul-left, le-trans}
 use mathlib.Core.Path.{_≡_, refl, sym, ap, subst, _∙_}
 use mathlib.Core.Logic.{inl, inr, ⊎-elim}
-use mathlib.Core.Bool.{true, false, _&&_, _||_, or-true}
+use mathlib.Core.Bool.{true, false, _&&_}
 use mathlib.Core.List.{List, [], _∷_, map, List·Memᴰ}
 use mathlib.Core.List.List·Memᴰ.{List·Memᴰ·head, List·Memᴰ·tail}
 use lib.Dec.{leb, ltb, eqb}
@@ -26,7 +26,7 @@ use Rattle.mesh.proofs.Order.{OnLine, comes-on-lines}
 use Rattle.mesh.proofs.Cuts.{proper-facts}
 use Rattle.mesh.proofs.Places.{at-inj}
 use Rattle.mesh.proofs.Ascending.{OwnAnchors}
-use Rattle.mesh.proofs.Fresh.{first-four, firstFour-rises, first-crossed, fresh-positions}
+use Rattle.mesh.proofs.Fresh.{first-four, firstFour-rises, first-crossed, fresh-positions, fresh-line}
 use Rattle.mesh.proofs.SoundMaps.{live-left, live-proper, live-distinct, own-anchors}
 
 -- the places of all pairs of positions
@@ -71,24 +71,12 @@ square-of-sum a b s =
     subst (λ (n : ℕ). n ≤ 1024) (sym c) (most (30 - b) (2 + a) (2 + b) (omega arith) (omega arith)))
     (either (leb a 30))
 
--- the fresh map's lines are lines of every map of its sides
-on-fresh : (w h : ℕ) (splits : List Split) (d : Direction) (z : ℕ) → AtFresh (side d w h) z → OnLine (mesh w h splits) d z
-unfolding mesh freshMesh
-on-fresh w h splits d z e =
-    (0, or-left (freshMesh w h d z 0) _ (and-of _ _ (position (side d w h) e) (lt-ltb 0 (side (other d) w h + 2) (omega arith))))
-  where
-    position : (s : ℕ) → AtFresh s z → (eqb z 0 || eqb z 1 || eqb z (s + 1) || eqb z (s + 2)) ≡ true
-    position s (inl e) = rw (eq-eqb z 0 e)
-    position s (inr (inl e)) = simp (eq-eqb z 1 e, or-true)
-    position s (inr (inr (inl e))) = simp (eq-eqb z (s + 1) e, or-true)
-    position s (inr (inr (inr e))) = simp (eq-eqb z (s + 2) e, or-true)
-
 first-on-lines : (w h : ℕ) (splits : List Split) (d : Direction) (t : Triple) → First (side d w h) t → Knots (OnLine (mesh w h splits) d) t
 first-on-lines w h splits d t is-low =
-    let on = on-fresh w h splits d in
+    let on : (z : ℕ) → AtFresh (side d w h) z → OnLine (mesh w h splits) d z = λ z e. (0, fresh-line w h splits d z 0 e (omega arith)) in
     record { l = on _ (inl refl); m = on _ (inr (inl refl)); r = on _ (inr (inr (inl refl))) }
 first-on-lines w h splits d t is-high =
-    let on = on-fresh w h splits d in
+    let on : (z : ℕ) → AtFresh (side d w h) z → OnLine (mesh w h splits) d z = λ z e. (0, fresh-line w h splits d z 0 e (omega arith)) in
     record { l = on _ (inr (inl refl)); m = on _ (inr (inr (inl refl))); r = on _ (inr (inr (inr refl))) }
 
 -- the splits of a direction, and the line positions within the domain

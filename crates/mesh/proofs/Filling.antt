@@ -13,7 +13,7 @@ use Rattle.axis.proofs.Parts.{OnSide}
 use Rattle.axis.proofs.Triples.{Inside}
 use Rattle.mesh.specs.declared.Blend.{Blend}
 use Rattle.mesh.proofs.View.{View, turn, flip, swap, opposite, mirror, Live, In, Parts, Over, Knot, SoundView, TightView, turn-sound, flip-tight, swap-tight, flipped, on-mirror, in-mirror}
-use Rattle.mesh.proofs.Neighbours.{Compared, less, equal, more, compare, neighbours, level-at, Abreast, Ended, ended, beyond, flip-abreast}
+use Rattle.mesh.proofs.Neighbours.{Compared, less, equal, more, compare, neighbours, level-at, Abreast, Ended, line-ends, beyond, flip-abreast}
 
 -- the part of a blend's triple in which the upright lies: where it begins and where it ends
 abbrev pub from : Side → Triple → ℕ
@@ -343,7 +343,7 @@ module _ (Q : View) (t : TightView Q) (z a b : ℕ) (drawn : ℕ → Bool) (d : 
           ⊎-elim (λ q. q) (λ o. absurd (⊎-elim (λ q. omega arith) (λ o. ⊎-elim (λ q. omega arith) (λ q. omega arith) o) o))
           (d .only (a - 1) (omega arith) (c (a - 1) (omega arith) (omega arith))) in
           let i = d .inner in
-          let e = ended Q t z a (omega arith, omega arith) inner upper on-below (d .free a (omega arith) (omega arith)) in
+          let e = line-ends Q t z a (omega arith, omega arith) inner upper on-below (d .free a (omega arith) (omega arith)) in
           let is = met-at Q t z a column inner upper (e .abreast) x B m p (omega arith) up in
           let start = ap (λ (C : Blend). Q .up C .l) is in
           let reaches = e .abreast .reaches x in
@@ -417,7 +417,7 @@ module _ (Q : View) (t : TightView Q) (z a b : ℕ) (drawn : ℕ → Bool) (d : 
       by (line i on) =
           let range = d .range in
           let in-side = d .inner in
-          let e = ended Q t z a (omega arith, omega arith) i upper on (d .free a (omega arith) (omega arith)) in
+          let e = line-ends Q t z a (omega arith, omega arith) i upper on (d .free a (omega arith) (omega arith)) in
           let is = met-at Q t z a (omega arith, omega arith) i upper (e .abreast) x B m p lo hi in
           let start = ap (λ (C : Blend). Q .up C .l) is in
           let reach : Q .up (e .abreast .at x) .l ≡ e .abreast .reach = e .abreast .reaches x in
@@ -448,7 +448,7 @@ module _ (Q : View) (t : TightView Q) (z a b : ℕ) (drawn : ℕ → Bool) (d : 
       by (line i on) =
           let range = d .range in
           let in-side = d .inner in
-          absurd (no lower i (ended Q t z b (omega arith, omega arith) i lower on (d .free (b - 1) (omega arith) (omega arith)) .abreast))
+          absurd (no lower i (line-ends Q t z b (omega arith, omega arith) i lower on (d .free (b - 1) (omega arith) (omega arith)) .abreast))
       by (blends i off r) = absurd (no upper i r)
 
   -- X is cut, and w is a level strictly inside it that has a step beside the line. In the square above and right of that point, the blend with
@@ -510,7 +510,7 @@ module _ (Q : View) (t : TightView Q) (z a b : ℕ) (drawn : ℕ → Bool) (d : 
         let going : Q .uprights z b ≡ true =
         ⊎-elim (λ q. q) (λ o. absurd (⊎-elim (λ q. omega arith) (λ o. ⊎-elim (λ q. omega arith) (λ q. omega arith) o) o))
         (d .only b (omega arith) (c b (omega arith) (omega arith))) in
-        beside B o e inner (ended Q t z b (omega arith, omega arith) inner lower going (d .free (b - 1) (omega arith) (omega arith)))
+        beside B o e inner (line-ends Q t z b (omega arith, omega arith) inner lower going (d .free (b - 1) (omega arith) (omega arith)))
 
     -- where it lies along the line
     along-line : (B : Blend) → Over Q upper upper z w B → a ≤ w → w < b → Entered B

@@ -3,19 +3,20 @@ use Prim.Native.Nat.{ℕ, _+_, _≤_, _<_}
 use native.Mathlib.Omega.{arith}
 use mathlib.Core.Path.{_≡_, refl, sym, ap, subst}
 use mathlib.Core.Logic.{inl, inr, ⊎-elim}
-use mathlib.Core.Bool.{true, false, _||_, not}
+use mathlib.Core.Bool.{true, false, _||_, not, or-true}
 use mathlib.Core.List.{List, [], _∷_, List·Memᴰ, List·Memᴰ·cases-cons, List·Memᴰ·not-nil}
 use lib.Dec.{ltb, eqb}
 use lib.ListN.{length}
-use borrow.Author.Tests.{eqb-true}
+use borrow.Author.Tests.{eqb-true, eq-eqb, lt-ltb}
 use Rattle.axis.specs.Triple.{low, high}
 use Rattle.mesh.specs.Lines.{Direction, upright, level, mesh, freshMesh, side, other}
 use Rattle.mesh.specs.Blends.{blend, same, once, leavesOf, refine, live, firstFour, crossed, along, place}
 use Rattle.mesh.specs.Order.{Uncut}
 use Rattle.mesh.specs.Sound.{overSquare, fourEverywhere, noneNested, nested, sound}
 use Rattle.axis.specs.declared.Triple.{Triple}
+use Rattle.mesh.specs.declared.Split.{Split}
 use Rattle.mesh.specs.declared.Blend.{Blend}
-use Rattle.axis.proofs.Tests.{true-not-false, and-both, and-of, or-either, false-of, every-of, all-of, only-all}
+use Rattle.axis.proofs.Tests.{true-not-false, and-both, and-of, or-either, or-left, false-of, every-of, all-of, only-all}
 use Rattle.axis.proofs.Triples.{between-fact, First, is-low, is-high, AtFresh, first-rises, first-spans, first-uncut, first-apart}
 use Rattle.mesh.proofs.Cuts.{cut-fact, proper-of, proper-rises, blend-same, nested-facts}
 use Rattle.mesh.proofs.Order.{left-uncut, left-itself, Rising}
@@ -58,6 +59,18 @@ fresh-positions w h d z k e =
     ⊎-elim (λ b. ⊎-elim (λ c. inl (eqb-true _ _ c)) (λ c. inr (inl (eqb-true _ _ c))) (or-either (eqb z 0) (eqb z 1) b))
     (λ b. inr (inr (inl (eqb-true _ _ b)))) (or-either (eqb z 0 || eqb z 1) (eqb z (side d w h + 1)) a))
     (λ a. inr (inr (inr (eqb-true _ _ a)))) (or-either (eqb z 0 || eqb z 1 || eqb z (side d w h + 1)) (eqb z (side d w h + 2)) p)
+
+-- which are lines of every map of its sides, from end to end
+pub fresh-line : (w h : ℕ) (splits : List Split) (d : Direction) (z k : ℕ) → AtFresh (side d w h) z → k < side (other d) w h + 2 →
+    mesh w h splits d z k ≡ true
+unfolding mesh freshMesh
+fresh-line w h splits d z k at lt = or-left (freshMesh w h d z k) _ (and-of _ _ (position (side d w h) at) (lt-ltb k (side (other d) w h + 2) lt))
+  where
+    position : (s : ℕ) → AtFresh s z → (eqb z 0 || eqb z 1 || eqb z (s + 1) || eqb z (s + 2)) ≡ true
+    position s (inl e) = rw (eq-eqb z 0 e)
+    position s (inr (inl e)) = simp (eq-eqb z 1 e, or-true)
+    position s (inr (inr (inl e))) = simp (eq-eqb z (s + 1) e, or-true)
+    position s (inr (inr (inr e))) = simp (eq-eqb z (s + 2) e, or-true)
 
 pub first-crossed : (w h : ℕ) (d : Direction) (B : Blend) → FirstBlend w h B → First (side d w h) (crossed d B)
 first-crossed w h upright B f = f .across

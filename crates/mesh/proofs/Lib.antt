@@ -28,3 +28,9 @@ pub mod Neighbours
 pub mod AnchorsCross
 pub mod Spreading
 pub mod Filling
+pub mod MapView
+pub mod Grids
+pub mod OneLineMore
+pub mod Passing
+pub mod ChosenLine
+pub mod TightMaps

@@ -94,6 +94,25 @@ grid-at Q s B m {z} {k} e lo hi = subst (λ (i : ℕ). Q .uprights i k ≡ true)
 pub level-at : (Q : View) (s : SoundView Q) (B : Blend) → Live Q B → {v j : ℕ} → Q .up B .m ≡ v → Q .across B .l ≤ j → j < Q .across B .r → Q .levels v j ≡ true
 level-at Q s B m {v} {j} e lo hi = subst (λ (i : ℕ). Q .levels i j ≡ true) e (s .y .grid B m j lo hi .m)
 
+-- A level of the grid of a live blend over column j is that of a live blend's anchor there: the blend's own, or its neighbour's.
+pub grid-knot : (Q : View) (s : SoundView Q) (B : Blend) → Live Q B → (j v : ℕ) → OnSide (Q .w) j → (1 < v) × (v < Q .h + 1) →
+    Q .across B .l ≤ j → j < Q .across B .r → (v ≡ Q .up B .l) ⊎ ((v ≡ Q .up B .m) ⊎ (v ≡ Q .up B .r)) → (x : Side) × Knot Q x j v
+grid-knot Q s B m j v hj hv lo hi at =
+    ⊎-elim (λ e. (lower, by lower (lo, ltb-true j _ e) at)) (λ e. (upper, by upper (ltb-false j _ e, hi) at)) (either (ltb j (Q .across B .m)))
+  where
+    by : (x : Side) → In x j (Q .across B) → (v ≡ Q .up B .l) ⊎ ((v ≡ Q .up B .m) ⊎ (v ≡ Q .up B .r)) → Knot Q x j v
+    by x i (inl e) =
+        let rise = s .y .rises B m in
+        let r = s .some x upper j v hj (omega arith, omega arith) in
+        let n = neighbours Q s hj (omega arith, omega arith) (r .1) (record { live = m; column = i; row = (omega arith, omega arith) }) in
+        record { blend = r .0; live = r .1 .live; column = r .1 .column; at = omega arith }
+    by x i (inr (inl e)) = record { blend = B; live = m; column = i; at = sym e }
+    by x i (inr (inr e)) =
+        let rise = s .y .rises B m in
+        let r = s .some x lower j (v - 1) hj (omega arith, omega arith) in
+        let n = neighbours Q s hj (omega arith, omega arith) (record { live = m; column = i; row = (omega arith, omega arith) }) (r .1) in
+        record { blend = r .0; live = r .1 .live; column = r .1 .column; at = omega arith }
+
 -- the row before an end of a line, and the row beyond it
 abbrev pub here : Side → ℕ → ℕ
 here lower a = a
@@ -243,10 +262,10 @@ other-end s m a hm e = omega arith
 back-flip : (h a n r : ℕ) → a ≤ n → n < h + 2 - r → (r ≤ h + 1 - n) × (h + 1 - n < h + 2 - a) × (h + 1 - (h + 1 - n) ≡ n)
 back-flip h a n r lo hi = (omega arith, omega arith, omega arith)
 
-pub ended : (Q : View) (t : TightView Q) (z a : ℕ) → (1 < z) × (z < Q .w + 1) → (1 < a) × (a < Q .h + 1) → (e : Side) →
+pub line-ends : (Q : View) (t : TightView Q) (z a : ℕ) → (1 < z) × (z < Q .w + 1) → (1 < a) × (a < Q .h + 1) → (e : Side) →
     Q .uprights z (here e a) ≡ true → Q .uprights z (beyond e a) ≡ false → Ended Q e z a
-ended Q t z a hz ha upper on off = ended-above Q t z a hz ha on off
-ended Q t z a hz ha lower on off =
+line-ends Q t z a hz ha upper on off = ended-above Q t z a hz ha on off
+line-ends Q t z a hz ha lower on off =
     let r = ended-above (flip Q) (flip-tight Q t) z (Q .h + 2 - a) hz (omega arith, omega arith)
     (subst (λ (n : ℕ). Q .uprights z n ≡ true) (let k : a ≡ Q .h + 1 - (Q .h + 2 - a - 1) = omega arith in k) on)
     (subst (λ (n : ℕ). Q .uprights z n ≡ false) (let k : a - 1 ≡ Q .h + 1 - (Q .h + 2 - a) = omega arith in k) off) in

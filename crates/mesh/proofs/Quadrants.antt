@@ -3,35 +3,34 @@
 use Prim.Native.Nat.{ℕ, _+_, _≤_, _<_}
 use native.Mathlib.Omega.{arith}
 use mathlib.Core.Path.{_≡_, refl, ap, _∙_}
-use mathlib.Core.Logic.{_⊎_, inl, inr}
-use mathlib.Core.Bool.{Bool, true, _&&_, _||_, not, or-true}
+use mathlib.Core.Logic.{_⊎_, inl, inr, ⊎-elim}
+use mathlib.Core.Bool.{Bool, true, _&&_, not}
 use mathlib.Core.List.{List, [], _∷_, List·Memᴰ}
 use mathlib.Core.List.List·Memᴰ.{List·Memᴰ·head, List·Memᴰ·tail}
-use lib.Dec.{eqb}
 use lib.ListN.{length}
-use borrow.Author.Tests.{eqb-true, lt-ltb, eq-eqb}
+use borrow.Author.Tests.{eqb-true}
 use Rattle.axis.specs.Range.{only}
 use Rattle.axis.specs.Triple.{Side, lower, upper, spans, RisesIn}
-use Rattle.mesh.specs.Lines.{Direction, upright, level, other, side, Mesh, mesh, freshMesh}
+use Rattle.mesh.specs.Lines.{Direction, upright, level, other, side, Mesh, mesh}
 use Rattle.mesh.specs.Blends.{blend, same, cuts, halve, live, firstFour, crossed}
 use Rattle.mesh.specs.Order.{Left}
 use Rattle.mesh.specs.Sound.{overSquare, fourEverywhere, noneNested, nested, ProperIn}
 use Rattle.mesh.specs.declared.Split.{Split}
 use Rattle.mesh.specs.declared.Blend.{Blend}
-use Rattle.axis.proofs.Tests.{and-both, and-of, or-left, false-of, true-not-false, every-at, all-of}
+use Rattle.axis.proofs.Tests.{and-both, and-of, false-of, true-not-false, every-at, all-of}
 use Rattle.axis.proofs.Triples.{Inside, between-fact}
 use Rattle.mesh.proofs.Cuts.{RiseB, cut-test, proper-facts, proper-rises, blend-same, nested-facts}
 use Rattle.mesh.proofs.Order.{by-cutting, left-itself, left-front, Rising}
-use Rattle.mesh.proofs.Fresh.{firstFour-rises}
+use Rattle.mesh.proofs.Fresh.{firstFour-rises, fresh-line}
 use Rattle.mesh.proofs.SoundMaps.{live-left, live-proper}
 use Rattle.axis.proofs.Parts.{first, spans-lies, OnSide, beside, first-lies, half-lies, lies}
 use Rattle.axis.proofs.Counts.{ones, both-ones, some-pass, one-passes, only-first}
 
 -- the unit square whose low corner is at knots (x, y) lies in a quadrant of the blend
-abbrev quadrant : Side → Side → ℕ → ℕ → Blend → Bool
+abbrev pub quadrant : Side → Side → ℕ → ℕ → Blend → Bool
 quadrant p q x y B = lies p x (B .across) && lies q y (B .up)
 
-abbrev inQuadrant : Side → Side → ℕ → ℕ → List Blend → ℕ
+abbrev pub inQuadrant : Side → Side → ℕ → ℕ → List Blend → ℕ
 inQuadrant p q x y bs = length (only (quadrant p q x y) bs)
 
 -- a square of the support lies in one quadrant
@@ -77,14 +76,14 @@ halve-quadrant level p q x y z B e =
     let r = half-lies q y z (B .up) (b .1) in
     (r .0, and-of _ _ (b .0) (r .1))
 
-left-quadrant : (M : Mesh) (p q : Side) (x y : ℕ) (B : Blend) → RiseB B → quadrant p q x y B ≡ true →
+pub left-quadrant : (M : Mesh) (p q : Side) (x y : ℕ) (B : Blend) → RiseB B → quadrant p q x y B ≡ true →
     (C : Blend) × Left M B C × (quadrant p q x y C ≡ true)
 left-quadrant M p q x y =
     by-cutting M (λ X. quadrant p q x y X ≡ true → (C : Blend) × Left M X C × (quadrant p q x y C ≡ true)) (λ X r u e. (X, left-itself u, e))
     (λ X d z r c halves e. let s = halve-quadrant d p q x y z X e in
     let k = halves (s .0) (s .1) in (k .0, left-front d z (s .0) c (k .1), k .2))
 
-first-in-four : (p q : Side) (w h : ℕ) → List·Memᴰ (blend (first p w) (first q h)) (firstFour w h)
+pub first-in-four : (p q : Side) (w h : ℕ) → List·Memᴰ (blend (first p w) (first q h)) (firstFour w h)
 first-in-four upper upper w h = List·Memᴰ·head refl
 first-in-four upper lower w h = List·Memᴰ·tail (List·Memᴰ·head refl)
 first-in-four lower upper w h = List·Memᴰ·tail (List·Memᴰ·tail (List·Memᴰ·head refl))
@@ -99,40 +98,30 @@ module _ (w h : ℕ) (hw : 1 ≤ w) (hh : 1 ≤ h) (M : Mesh) (x y : ℕ) (onx :
       let k = left-quadrant M p q x y B (firstFour-rises w h hw hh B m) (and-of _ _ (first-lies p w x onx) (first-lies q h y ony)) in
       some-pass (quadrant p q x y) (k .0) (live w h M) (live-left w h hw hh M (k .0) .1 (B, m, k .1)) (k .2)
 
-  parts : length (only (overSquare x y) (live w h M)) ≡
+  pub four-parts : length (only (overSquare x y) (live w h M)) ≡
       inQuadrant lower lower x y (live w h M) + inQuadrant lower upper x y (live w h M) +
       inQuadrant upper lower x y (live w h M) + inQuadrant upper upper x y (live w h M)
-  parts = four-quadrants x y (live w h M) (λ B m. proper-rises w h B (live-proper w h hw hh M B m))
+  four-parts = four-quadrants x y (live w h M) (λ B m. proper-rises w h B (live-proper w h hw hh M B m))
 
   shares : (1 ≤ inQuadrant lower lower x y (live w h M)) × (1 ≤ inQuadrant lower upper x y (live w h M)) ×
       (1 ≤ inQuadrant upper lower x y (live w h M)) × (1 ≤ inQuadrant upper upper x y (live w h M))
   shares = (in-each lower lower, in-each lower upper, in-each upper lower, in-each upper upper)
 
   pub four-or-more : 4 ≤ length (only (overSquare x y) (live w h M))
-  four-or-more = omega (arith, parts, shares)
+  four-or-more = omega (arith, four-parts, shares)
 
   module _ (four : length (only (overSquare x y) (live w h M)) ≡ 4) where
     one-in-each : (p q : Side) → inQuadrant p q x y (live w h M) ≡ 1
-    one-in-each lower lower = omega (arith, parts, shares)
-    one-in-each lower upper = omega (arith, parts, shares)
-    one-in-each upper lower = omega (arith, parts, shares)
-    one-in-each upper upper = omega (arith, parts, shares)
+    one-in-each lower lower = omega (arith, four-parts, shares)
+    one-in-each lower upper = omega (arith, four-parts, shares)
+    one-in-each upper lower = omega (arith, four-parts, shares)
+    one-in-each upper upper = omega (arith, four-parts, shares)
 
-    one-quadrant : (p q : Side) (B C : Blend) → List·Memᴰ B (live w h M) → List·Memᴰ C (live w h M) →
+    pub one-quadrant : (p q : Side) (B C : Blend) → List·Memᴰ B (live w h M) → List·Memᴰ C (live w h M) →
         quadrant p q x y B ≡ true → quadrant p q x y C ≡ true → B ≡ C
     one-quadrant p q B C mB mC e f = one-passes (quadrant p q x y) B C (live w h M) mB mC e f (one-in-each p q)
 
--- The fresh lines at 0 and at the far end of a side run across the whole map, so they cut every blend that they can.
-fresh-line : (w h : ℕ) (splits : List Split) (d : Direction) (z k : ℕ) → (z ≡ 1) ⊎ (z ≡ side d w h + 1) → k < side (other d) w h + 2 →
-    mesh w h splits d z k ≡ true
-unfolding mesh freshMesh
-fresh-line w h splits d z k at lt = or-left (freshMesh w h d z k) _ (and-of _ _ (position at) (lt-ltb k (side (other d) w h + 2) lt))
-  where
-    position : (z ≡ 1) ⊎ (z ≡ side d w h + 1) → (eqb z 0 || eqb z 1 || eqb z (side d w h + 1) || eqb z (side d w h + 2)) ≡ true
-    position (inl e) = simp (eq-eqb z 1 e, or-true)
-    position (inr e) = simp (eq-eqb z (side d w h + 1) e, or-true)
-
-crossed-in : {w h : ℕ} {B : Blend} (d : Direction) → ProperIn w h B → RisesIn (side d w h) (crossed d B)
+pub crossed-in : {w h : ℕ} {B : Blend} (d : Direction) → ProperIn w h B → RisesIn (side d w h) (crossed d B)
 crossed-in upright p = p .across
 crossed-in level p = p .up
 
@@ -141,15 +130,16 @@ module _ (w h : ℕ) (hw : 1 ≤ w) (hh : 1 ≤ h) (splits : List Split) where
   abbrev M : Mesh
   M = mesh w h splits
 
-  facts : (B : Blend) → List·Memᴰ B (live w h M) → ProperIn w h B
+  pub facts : (B : Blend) → List·Memᴰ B (live w h M) → ProperIn w h B
   facts B m = proper-facts w h B (live-proper w h hw hh M B m)
 
-  fresh-clear : (C : Blend) → List·Memᴰ C (live w h M) → (d : Direction) (z : ℕ) → (z ≡ 1) ⊎ (z ≡ side d w h + 1) → Inside z (crossed d C) → ⊥
+  -- The fresh lines at 0 and at the far end of a side run across the whole map, so they cut every blend that they can.
+  pub fresh-clear : (C : Blend) → List·Memᴰ C (live w h M) → (d : Direction) (z : ℕ) → (z ≡ 1) ⊎ (z ≡ side d w h + 1) → Inside z (crossed d C) → ⊥
   fresh-clear C m d z at i =
       let l = live-left w h hw hh M C .0 m in
       let c = crossed-in (other d) (facts C m) in
       true-not-false (cuts M d z C)
-      (cut-test M d z C (record { inside = i; covered = λ k lo hi. fresh-line w h splits d z k at (omega arith) })) (l .2 .uncut d z)
+      (cut-test M d z C (record { inside = i; covered = λ k lo hi. fresh-line w h splits d z k (inr (⊎-elim inl (λ e. inr (inl e)) at)) (omega arith) })) (l .2 .uncut d z)
 
   pub four-unnested : fourEverywhere w h (live w h M) ≡ true → noneNested (live w h M) ≡ true
   unfolding fourEverywhere noneNested

@@ -47,16 +47,16 @@ allowed-says L e =
     range s e = let p = and-both (leb 1 s) (leb s 128) e in (leb-true 1 s (p .0), leb-true s 128 (p .1))
 
 fits-says : (crossed run : ℕ) (s : Split) → fits crossed run s ≡ true →
-    (s .position < crossed) × (s .from < s .to) × (s .to ≤ run)
+    (s .position < crossed) × (s .from < s .to) × (s .to ≤ run) × (0 < s .position)
 fits-says crossed run s e =
     let place = ltb 0 (s .position) && ltb (s .position) crossed in
     let p = and-both (place && ltb (s .from) (s .to)) (leb (s .to) run) e in
     let q = and-both place (ltb (s .from) (s .to)) (p .0) in
     let r = and-both (ltb 0 (s .position)) (ltb (s .position) crossed) (q .0) in
-    (ltb-true (s .position) crossed (r .1), ltb-true (s .from) (s .to) (q .1), leb-true (s .to) run (p .1))
+    (ltb-true (s .position) crossed (r .1), ltb-true (s .from) (s .to) (q .1), leb-true (s .to) run (p .1), ltb-true 0 (s .position) (r .0))
 
 pub in-range-says : (w h : ℕ) (d : Direction) (s : Split) → inRange w h s ≡ true → s .direction ≡ number d →
-    (s .position < side d w h) × (s .from < s .to) × (s .to ≤ side (other d) w h)
+    (s .position < side d w h) × (s .from < s .to) × (s .to ≤ side (other d) w h) × (0 < s .position)
 unfolding inRange
 in-range-says w h upright s e q = fits-says w h s (rw q at e)
 in-range-says w h level s e q = fits-says h w s (rw q at e)

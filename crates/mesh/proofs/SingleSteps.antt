@@ -43,7 +43,7 @@ pub record Small (s : Split) : Type 0 where
   pub to : s .to ≤ 128
 
 small : (s : Split) (crossed run : ℕ) → s .direction < 2 → crossed ≤ 128 → run ≤ 128 →
-    (s .position < crossed) × (s .from < s .to) × (s .to ≤ run) → Small s
+    (s .position < crossed) × (s .from < s .to) × (s .to ≤ run) × (0 < s .position) → Small s
 small s crossed run d hc hr r = record { direction = d; position = omega arith; rises = r .1; to = omega arith }
 
 pub in-range-small : (w h : ℕ) (s : Split) → inRange w h s ≡ true → w ≤ 128 → h ≤ 128 → Small s

@@ -32,11 +32,11 @@ abbrev pub RestsAbove : View → ℕ → Type 0
 RestsAbove Q z = (a : ℕ) → 1 < a → a < Q .h + 1 → Q .uprights z (a - 1) ≡ true → Q .uprights z a ≡ false → Rests Q z a
 
 -- Down a run of numbers from its last: a test holds of all, or there is a first one at which it fails.
-data Downward (test : ℕ → Bool) (lo hi : ℕ) : Type 0 where
+pub data Downward (test : ℕ → Bool) (lo hi : ℕ) : Type 0 where
   throughout : ((k : ℕ) → lo ≤ k → k < hi → test k ≡ true) → Downward test lo hi
   until : (e : ℕ) → lo ≤ e → e < hi → test e ≡ false → ((k : ℕ) → e < k → k < hi → test k ≡ true) → Downward test lo hi
 
-downward : (test : ℕ → Bool) (lo hi : ℕ) → Downward test lo hi
+pub downward : (test : ℕ → Bool) (lo hi : ℕ) → Downward test lo hi
 downward test lo zero = throughout (λ k a b. absurd (omega arith))
 downward test lo (suc n) =
     ⊎-elim

@@ -12,7 +12,8 @@ use Rattle.mesh.specs.declared.Split.{Split}
 use Rattle.axis.proofs.Tests.{either, cond-true, cond-false}
 use Rattle.mesh.specs.Splits.{given, exactNumber, soundWith}
 use Rattle.maps.specs.Inner.{refusedStep, judged, exactStep}
-use Rattle.maps.proofs.OneSplitMore.{given-says, splits-length}
+use Rattle.mesh.proofs.Passing.{given-says}
+use Rattle.maps.proofs.OneSplitMore.{splits-length}
 use Rattle.maps.proofs.splits.exact_step.Statement.{statement}
 use Rattle.maps.proofs.splits.exact_step.Tie as tie
 

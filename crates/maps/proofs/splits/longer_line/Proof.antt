@@ -7,8 +7,8 @@ use mathlib.Core.Logic.{⊎-elim}
 use mathlib.Core.Bool.{false}
 use Rattle.mesh.specs.Lines.{layoutOf}
 use Rattle.mesh.specs.Splits.{run, reaching, candidate}
-use Rattle.maps.proofs.OneSplitMore.{given-says}
-use Rattle.maps.proofs.Searching.{rows, ahead, Search, ends-in, search-starts, bounds, room, search-enters, search-passes, search-leaves, search-fails, tried-falls, in-range, tried-unsound, tried-found}
+use Rattle.mesh.proofs.Passing.{given-says, ends-in}
+use Rattle.maps.proofs.Searching.{rows, ahead, Search, search-starts, bounds, room, search-enters, search-passes, search-leaves, search-fails, tried-falls, in-range, tried-unsound, tried-found}
 use Rattle.maps.proofs.splits.longer_line.Statement.{statement}
 use Rattle.maps.proofs.splits.longer_line.Tie as tie
 

@@ -8,20 +8,19 @@ use mathlib.Core.List.{List, [], _∷_, _++_, List·Memᴰ, List·Memᴰ·eq-of-
 use borrow.Author.Tests.{eqb-true, eqb-false, ltb-true, leb-true, le-leb, lt-leb, lt-ltb, eq-eqb, ne-eqb, not-true}
 use lib.Dec.{leb, ltb, eqb}
 use lib.ListN.{length}
 use Rattle.mesh.specs.declared.Split.{Split}
 use Rattle.mesh.specs.declared.Blend.{Blend}
 use Rattle.axis.specs.Range.{any}
 use Rattle.mesh.specs.Lines.{Layout, Mesh, Direction, upright, level, number, side, other, mesh, freshMesh, draws, inRange, start, end, shares, ended, meshOf}
 use Rattle.mesh.specs.Blends.{isCut}
 use Rattle.mesh.specs.Order.{Coarser}
 use Rattle.axis.proofs.Tests.{either, and-both, and-of, or-either, or-left, or-right, any-at, any-of}
 use Rattle.mesh.proofs.Cuts.{RiseB, cut-exactly, proper-rises}
 use Rattle.mesh.proofs.Order.{finer-cuts}
 use Rattle.mesh.proofs.SoundMaps.{live-proper}
 use Rattle.mesh.proofs.Containing.{contains-reaching, chosen-least}
 use Rattle.mesh.specs.Splits.{liveOf, withLine, soundWith, given, exactNumber, run, Contains, stepsOf, candidate, chosen}
-use Rattle.maps.proofs.OneSplitMore.{given-says}
-use Rattle.maps.proofs.Searching.{reaching-fits, ends-in}
+use Rattle.mesh.proofs.Passing.{given-says, reaching-fits, ends-in}
 
 -- A finer mesh cuts what a coarser one cuts.
 pub finer-cut : (M N : Mesh) → Coarser M N → (B : Blend) → RiseB B → isCut M B ≡ true → isCut N B ≡ true

@@ -1,0 +1,115 @@
+-- The mesh of a layout with one split more: which unit steps the split adds.
+use Prim.Native.Nat.{ℕ, _+_, _-_, _≤_, _<_}
+use native.Mathlib.Omega.{arith}
+use mathlib.Core.Path.{_≡_, refl, sym, ap, _∙_}
+use mathlib.Core.Logic.{_⊎_, inl, inr, ⊎-elim}
+use mathlib.Core.Bool.{Bool, true, false, _&&_, _||_, or-assoc, or-false}
+use mathlib.Core.List.{List, [], _∷_, _++_}
+use lib.Dec.{leb, ltb, eqb}
+use borrow.Author.Tests.{eqb-true, eqb-false, eq-eqb, leb-true, le-leb, ltb-true, lt-ltb}
+use Rattle.axis.specs.Range.{any}
+use Rattle.axis.proofs.Tests.{either, true-not-false, and-both, and-of, or-either, or-left, or-right, any-append}
+use Rattle.mesh.specs.Lines.{Direction, upright, level, number, other, side, direction, Mesh, mesh, freshMesh, draws, start, end, fits, inRange, Layout, meshOf}
+use Rattle.mesh.specs.Splits.{withLine}
+use Rattle.mesh.specs.Order.{Coarser}
+use Rattle.mesh.specs.declared.Split.{Split}
+use Rattle.mesh.proofs.Ranges.{in-range-says}
+
+-- the direction of a split in range has its number
+pub direction-named : (w h : ℕ) (s : Split) → inRange w h s ≡ true → s .direction ≡ number (direction (s .direction))
+unfolding inRange
+direction-named w h s e =
+    ⊎-elim (λ q. rw q (eqb-true _ _ q)) (λ q. rw q (eqb-true _ _ (and-both (eqb (s .direction) 1) (fits h w s) (rw q at e) .0))) (either (eqb (s .direction) 0))
+
+number-one : (d e : Direction) → number d ≡ number e → d ≡ e
+number-one upright upright q = refl
+number-one upright level q = absurd (omega arith)
+number-one level upright q = absurd (omega arith)
+number-one level level q = refl
+
+-- A split in range draws the unit steps from its first knot, and run out where it ends at a side.
+pub record Ranged (w h : ℕ) (d : Direction) (s : Split) : Type 0 where
+  pub way : s .direction ≡ number d
+  pub inner : (1 < s .position + 1) × (s .position + 1 ≤ side d w h)
+  pub range : (1 ≤ s .from + 1) × (s .from + 1 < s .to + 1) × (s .to + 1 ≤ side (other d) w h + 1)
+
+pub ranged : (w h : ℕ) (s : Split) → inRange w h s ≡ true → Ranged w h (direction (s .direction)) s
+ranged w h s e =
+    let way = direction-named w h s e in
+    let r = in-range-says w h (direction (s .direction)) s e way in
+    record { way = way; inner = (omega arith, omega arith); range = (omega arith, omega arith, omega arith) }
+
+-- which of the rows a split draws
+abbrev pub Row : ℕ → Split → ℕ → Type 0
+Row run s k = ((s .from + 1 ≤ k) × (k < s .to + 1)) ⊎ (((k ≡ 0) × (s .from + 1 ≡ 1)) ⊎ ((k ≡ run + 1) × (s .to + 1 ≡ run + 1)))
+
+module _ (w h : ℕ) (d : Direction) (s : Split) (r : Ranged w h d s) where
+  abbrev run : ℕ
+  run = side (other d) w h
+
+  pub draws-says : (e : Direction) (z k : ℕ) → draws w h e z k s ≡ true → (e ≡ d) × (z ≡ s .position + 1) × Row run s k
+  unfolding draws
+  draws-says e z k t =
+      let a = and-both (eqb (s .direction) (number e) && eqb z (s .position + 1) && leb (start s) k) (ltb k (end (side (other e) w h) s)) t in
+      let b = and-both (eqb (s .direction) (number e) && eqb z (s .position + 1)) (leb (start s) k) (a .0) in
+      let c = and-both (eqb (s .direction) (number e)) (eqb z (s .position + 1)) (b .0) in
+      let same : e ≡ d = number-one e d (sym (eqb-true _ _ (c .0)) ∙ r .way) in
+      (same, eqb-true _ _ (c .1), row k (leb-true _ _ (b .1)) (ap (λ (f : Direction). ltb k (end (side (other f) w h) s)) (sym same) ∙ a .1))
+    where
+      row : (k : ℕ) → start s ≤ k → ltb k (end run s) ≡ true → Row run s k
+      row k lo t =
+          let range = r .range in
+          let hi = ltb-true k (end run s) t in
+          ⊎-elim
+          (λ p. let zero = eqb-true (s .from) 0 p in
+          ⊎-elim (λ q. inr (inl (eqb-true k 0 q, omega arith))) (λ q. let pos = eqb-false k 0 q in upwards k hi (omega arith)) (either (eqb k 0)))
+          (λ p. upwards k hi (rw p at lo))
+          (either (eqb (s .from) 0))
+        where
+          upwards : (k : ℕ) → k < end run s → s .from + 1 ≤ k → Row run s k
+          upwards k hi le =
+              let range = r .range in
+              ⊎-elim
+              (λ p. let last = eqb-true (s .to) run p in
+              let lt : k < run + 2 = rw p at hi in
+              ⊎-elim (λ q. inr (inr (eqb-true k (run + 1) q, omega arith))) (λ q. let ne = eqb-false k (run + 1) q in inl (le, omega arith)) (either (eqb k (run + 1))))
+              (λ p. inl (le, rw p at hi))
+              (either (eqb (s .to) run))
+
+  pub draws-of : (k : ℕ) → Row run s k → draws w h d (s .position + 1) k s ≡ true
+  unfolding draws
+  draws-of k o =
+      and-of _ _ (and-of _ _ (and-of _ _ (eq-eqb _ _ (r .way)) (eq-eqb (s .position + 1) (s .position + 1) refl)) (le-leb _ _ (first k o))) (lt-ltb _ _ (last k o))
+    where
+      first : (k : ℕ) → Row run s k → start s ≤ k
+      first k (inl i) = ⊎-elim (λ p. rw p (omega arith)) (λ p. rw p (i .0)) (either (eqb (s .from) 0))
+      first k (inr (inl i)) = let e : s .from ≡ 0 = omega arith in rw (eq-eqb _ _ e) (omega arith)
+      first k (inr (inr i)) =
+          let range = r .range in
+          ⊎-elim (λ p. rw p (omega arith)) (λ p. rw p (omega arith)) (either (eqb (s .from) 0))
+
+      last : (k : ℕ) → Row run s k → k < end run s
+      last k (inl i) = let range = r .range in ⊎-elim (λ p. rw p (omega arith)) (λ p. rw p (i .1)) (either (eqb (s .to) run))
+      last k (inr (inl i)) = let range = r .range in ⊎-elim (λ p. rw p (omega arith)) (λ p. rw p (omega arith)) (either (eqb (s .to) run))
+      last k (inr (inr i)) = let e : s .to ≡ run = omega arith in rw (eq-eqb _ _ e) (omega arith)
+
+-- The steps of a layout with the split are its own and those that the split draws.
+pub more-steps : (P : Layout) (s : Split) (e : Direction) (z k : ℕ) → meshOf (withLine P s) e z k ≡ (meshOf P e z k || draws (P .w) (P .h) e z k s)
+unfolding mesh
+more-steps P s e z k =
+    let test = draws (P .w) (P .h) e z k in
+    ap (λ (b : Bool). freshMesh (P .w) (P .h) e z k || b) (any-append test (P .splits) (s ∷ []) ∙ ap (λ (b : Bool). any test (P .splits) || b) (or-false (test s))) ∙
+    sym (or-assoc (freshMesh (P .w) (P .h) e z k) (any test (P .splits)) (test s))
+
+module _ (P : Layout) (s : Split) where
+  pub more-finer : Coarser (meshOf P) (meshOf (withLine P s))
+  more-finer d z k e = more-steps P s d z k ∙ or-left _ _ e
+
+  module _ (d : Direction) (r : Ranged (P .w) (P .h) d s) where
+    pub step-drawn : (k : ℕ) → Row (side (other d) (P .w) (P .h)) s k → meshOf (withLine P s) d (s .position + 1) k ≡ true
+    step-drawn k o = more-steps P s d (s .position + 1) k ∙ or-right (meshOf P d (s .position + 1) k) _ (draws-of (P .w) (P .h) d s r k o)
+
+    pub step-either : (e : Direction) (z k : ℕ) → meshOf (withLine P s) e z k ≡ true →
+        (meshOf P e z k ≡ true) ⊎ ((e ≡ d) × (z ≡ s .position + 1) × Row (side (other d) (P .w) (P .h)) s k)
+    step-either e z k on =
+        ⊎-elim inl (λ t. inr (draws-says (P .w) (P .h) d s r e z k t)) (or-either (meshOf P e z k) (draws (P .w) (P .h) e z k s) (sym (more-steps P s e z k) ∙ on))

@@ -1,0 +1,82 @@
+-- What it says that a split passes the refusals, and that a line in range keeps to its ranges with other ends.
+use Prim.Native.Nat.{ℕ, zero, suc, _+_, _≤_, _<_}
+use native.Mathlib.Omega.{arith}
+use mathlib.Core.Path.{_≡_, refl, _∙_}
+use mathlib.Core.Logic.{⊎-elim}
+use mathlib.Core.Bool.{Bool, true, false, cond, _&&_, not}
+use lib.Dec.{leb, ltb, eqb}
+use lib.ListN.{length}
+use borrow.Author.Tests.{leb-false, le-leb, lt-ltb, ne-eqb, eqb-true, not-false}
+use Rattle.axis.specs.Range.{any}
+use Rattle.mesh.specs.Lines.{Layout, meshOf, upright, level, fits, inRange, shares, ended}
+use Rattle.mesh.specs.Blends.{isCut}
+use Rattle.mesh.specs.Splits.{liveOf, withLine, soundWith, given, exactNumber, run, reaching}
+use Rattle.mesh.specs.declared.Split.{Split}
+use Rattle.axis.proofs.Tests.{either, and-both, and-of, cond-true, cond-false}
+use Rattle.mesh.proofs.Ranges.{in-range-says}
+
+-- what it says that no refusal of 3 to 7 applies, and that an exact split is accepted
+pub record Given (P : Layout) (s : Split) : Type 0 where
+  pub fits : inRange (P .w) (P .h) s ≡ true
+  pub room : length (P .splits) < 60
+  pub apart : shares (meshOf P) s ≡ false
+  pub ends : ended (meshOf P) s ≡ true
+  pub cut : any (isCut (meshOf (withLine P s))) (liveOf P) ≡ true
+
+-- the first test of a chain that ends in 0
+chain : (b : Bool) (n rest : ℕ) → 0 < n → cond b n rest ≡ 0 → (b ≡ false) × (rest ≡ 0)
+chain true n rest lt e = absurd (omega arith)
+chain false n rest lt e = (refl, e)
+
+pub given-says : (P : Layout) (s : Split) → given P s ≡ 0 → Given P s
+unfolding given
+given-says P s e =
+    let a = chain (not (inRange (P .w) (P .h) s)) 3 _ (omega arith) e in
+    let b = chain (leb 60 (length (P .splits))) 4 _ (omega arith) (a .1) in
+    let c = chain (shares (meshOf P) s) 5 _ (omega arith) (b .1) in
+    let d = chain (not (ended (meshOf P) s)) 6 _ (omega arith) (c .1) in
+    let f = chain (not (any (isCut (meshOf (withLine P s))) (liveOf P))) 7 0 (omega arith) (d .1) in
+    record {
+      fits = not-false _ (a .0);
+      room = leb-false 60 (length (P .splits)) (b .0);
+      apart = c .0;
+      ends = not-false _ (d .0);
+      cut = not-false _ (f .0);
+    }
+
+pub exact-says : (P : Layout) (s : Split) → exactNumber P s ≡ 0 → Given P s × (soundWith P s ≡ true)
+unfolding exactNumber
+exact-says P s e = let r = both-pass (given P s) (soundWith P s) e in (given-says P s (r .0), r .1)
+  where
+    both-pass : (g : ℕ) (b : Bool) → cond (eqb g 0) (cond b 0 8) g ≡ 0 → (g ≡ 0) × (b ≡ true)
+    both-pass zero true e = (refl, refl)
+    both-pass zero false e = absurd (omega arith)
+    both-pass (suc g) b e = absurd (omega (arith, rw (ne-eqb (suc g) 0 (omega arith)) at e))
+
+-- a line in range keeps to its ranges with other ends within the side that it runs along
+pub reaching-fits : (P : Layout) (s : Split) (from n : ℕ) → inRange (P .w) (P .h) s ≡ true → 0 < n → from + n ≤ run P s →
+    inRange (P .w) (P .h) (reaching s from n) ≡ true
+unfolding inRange
+reaching-fits P s from n e lo hi =
+    ⊎-elim
+    (λ q. cond-true _ _ _ q ∙ ends-kept (P .w) (P .h) (rw q at e) (rw q at hi))
+    (λ q. let r = and-both (eqb (s .direction) 1) (fits (P .h) (P .w) s) (rw q at e) in
+    cond-false _ _ _ q ∙ and-of _ _ (r .0) (ends-kept (P .h) (P .w) (r .1) (rw q at hi)))
+    (either (eqb (s .direction) 0))
+  where
+    ends-kept : (crossed along : ℕ) → fits crossed along s ≡ true → from + n ≤ along → fits crossed along (reaching s from n) ≡ true
+    ends-kept crossed along f le =
+        let p = and-both (ltb 0 (s .position) && ltb (s .position) crossed && ltb (s .from) (s .to)) (leb (s .to) along) f in
+        let q = and-both (ltb 0 (s .position) && ltb (s .position) crossed) (ltb (s .from) (s .to)) (p .0) in
+        and-of _ _ (and-of _ _ (q .0) (lt-ltb from (from + n) (omega arith))) (le-leb (from + n) along le)
+
+-- the ends of a split in range
+pub ends-in : (P : Layout) (s : Split) → inRange (P .w) (P .h) s ≡ true → (s .from < s .to) × (s .to ≤ run P s)
+unfolding inRange
+ends-in P s e =
+    ⊎-elim (λ q. let r = in-range-says (P .w) (P .h) upright s e (eqb-true _ _ q) in rw q (r .1, r .2))
+    (λ q. let r = in-range-says (P .w) (P .h) level s e (is-level q) in rw q (r .1, r .2))
+    (either (eqb (s .direction) 0))
+  where
+    is-level : eqb (s .direction) 0 ≡ false → s .direction ≡ 1
+    is-level q = eqb-true _ _ (and-both (eqb (s .direction) 1) (fits (P .h) (P .w) s) (rw q at e) .0)
