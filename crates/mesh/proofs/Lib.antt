@@ -34,3 +34,4 @@ pub mod OneLineMore
 pub mod Passing
 pub mod ChosenLine
 pub mod TightMaps
+pub mod SoundLines
