@@ -98,7 +98,7 @@ module _ (w h : ℕ) (hw : 1 ≤ w) (hh : 1 ≤ h) (M : Mesh) (x y : ℕ) (onx :
       let k = left-quadrant M p q x y B (firstFour-rises w h hw hh B m) (and-of _ _ (first-lies p w x onx) (first-lies q h y ony)) in
       some-pass (quadrant p q x y) (k .0) (live w h M) (live-left w h hw hh M (k .0) .1 (B, m, k .1)) (k .2)
 
-  pub four-parts : length (only (overSquare x y) (live w h M)) ≡
+  four-parts : length (only (overSquare x y) (live w h M)) ≡
       inQuadrant lower lower x y (live w h M) + inQuadrant lower upper x y (live w h M) +
       inQuadrant upper lower x y (live w h M) + inQuadrant upper upper x y (live w h M)
   four-parts = four-quadrants x y (live w h M) (λ B m. proper-rises w h B (live-proper w h hw hh M B m))
@@ -109,6 +109,9 @@ module _ (w h : ℕ) (hw : 1 ≤ w) (hh : 1 ≤ h) (M : Mesh) (x y : ℕ) (onx :
 
   pub four-or-more : 4 ≤ length (only (overSquare x y) (live w h M))
   four-or-more = omega (arith, four-parts, shares)
+
+  pub four-of : ((p q : Side) → inQuadrant p q x y (live w h M) ≤ 1) → length (only (overSquare x y) (live w h M)) ≡ 4
+  four-of few = omega (arith, four-parts, shares, few lower lower, few lower upper, few upper lower, few upper upper)
 
   module _ (four : length (only (overSquare x y) (live w h M)) ≡ 4) where
     one-in-each : (p q : Side) → inQuadrant p q x y (live w h M) ≡ 1

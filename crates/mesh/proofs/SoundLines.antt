@@ -6,22 +6,25 @@ use mathlib.Core.Logic.{_⊎_, inl, inr, ⊎-elim}
 use mathlib.Core.Bool.{Bool, true, false}
 use mathlib.Core.List.{List, List·Memᴰ}
 use lib.Dec.{leb, ltb, eqb}
-use borrow.Author.Tests.{eqb-true, eqb-false, ltb-true, ltb-false}
+use borrow.Author.Tests.{eqb-true, eqb-false, eq-eqb, ltb-true, ltb-false}
 use Rattle.axis.specs.Triple.{triple, Side, lower, upper, half, RisesIn}
 use Rattle.axis.specs.declared.Triple.{Triple}
-use Rattle.axis.proofs.Tests.{either, true-not-false, false-of}
+use Rattle.axis.proofs.Tests.{either, true-not-false, false-of, and-both, every-of}
 use Rattle.axis.proofs.Triples.{Rise, Inside, Knots, half-rises, half-within, half-knots, half-below, half-above, triple-eq}
-use Rattle.axis.proofs.Parts.{OnSide, beside}
+use Rattle.axis.proofs.Parts.{OnSide, lies, beside}
+use Rattle.axis.proofs.Counts.{one-at-most}
 use Rattle.mesh.specs.Lines.{Direction, upright, level, other, side, Mesh, Layout, meshOf}
 use Rattle.mesh.specs.Blends.{crossed, along, cuts, halve, live}
 use Rattle.mesh.specs.Order.{Uncut, Comes, here, cut, Left}
+use Rattle.mesh.specs.Sound.{fourEverywhere}
 use Rattle.mesh.specs.Splits.{liveOf, withLine}
 use Rattle.mesh.specs.declared.Split.{Split}
 use Rattle.mesh.specs.declared.Blend.{Blend}
 use Rattle.mesh.proofs.Cuts.{RiseB, Cut, cut-fact, cut-test, proper-rises}
 use Rattle.mesh.proofs.Order.{some-half, left-uncut, finer}
 use Rattle.mesh.proofs.Fresh.{firstFour-rises}
-use Rattle.mesh.proofs.SoundMaps.{live-left, live-proper}
+use Rattle.mesh.proofs.SoundMaps.{live-left, live-proper, live-distinct}
+use Rattle.mesh.proofs.Quadrants.{quadrant, four-of}
 use Rattle.mesh.proofs.View.{View, opposite, Live, In, Parts, Over, SoundView, TightView}
 use Rattle.mesh.proofs.AnchorsCross.{Crossing, Anchor, crossing-anchored}
 use Rattle.mesh.proofs.Filling.{from, to, parts-in, Holding, agree, level-covers, Drawn, CutBy, Piece, taken-too}
@@ -114,6 +117,26 @@ part-of z t i =
 inside-of : (x : Side) (z : ℕ) (t : Triple) → Rise t → Parts x z t → Inside z t
 inside-of lower z t r p = record { lo = omega arith; hi = omega arith; off = omega arith }
 inside-of upper z t r p = record { lo = omega arith; hi = omega arith; off = omega arith }
+
+-- a square's quadrant, in the words of a view
+abbrev pick : Direction → Side → Side → Side
+pick upright p q = p
+pick level p q = q
+
+in-view : (d : Direction) (p q : Side) (x y : ℕ) (B : Blend) → quadrant p q x y B ≡ true →
+    In (pick d p q) (side d x y) (crossed d B) × In (pick (other d) p q) (side (other d) x y) (along d B)
+in-view d p q x y B e = by d (lies-at p x (B .across) (b .0)) (lies-at q y (B .up) (b .1))
+  where
+    b : (lies p x (B .across) ≡ true) × (lies q y (B .up) ≡ true)
+    b = and-both (lies p x (B .across)) (lies q y (B .up)) e
+
+    by : (d : Direction) → In p x (B .across) → In q y (B .up) → In (pick d p q) (side d x y) (crossed d B) × In (pick (other d) p q) (side (other d) x y) (along d B)
+    by upright i k = (i, k)
+    by level i k = (k, i)
+
+on-side : (d : Direction) (w h x y : ℕ) → OnSide w x → OnSide h y → OnSide (side d w h) (side d x y) × OnSide (side (other d) w h) (side (other d) x y)
+on-side upright w h x y i k = (i, k)
+on-side level w h x y i k = (k, i)
 
 -- A line that adds steps at one position only, in a gap between good ends.
 module _ (P : Layout) (b : Built P) (s : Split) (d : Direction) (r : Ranged (P .w) (P .h) d s) where
@@ -544,3 +567,22 @@ module _ (P : Layout) (b : Built P) (s : Split) (d : Direction) (r : Ranged (P .
     kinds B C (piece x X p e n) (whole mC h) oB oC = absurd (whole-piece C B mC h x X p e oC oB)
     kinds B C (piece x X p e n) (kept-half y Y mY o a f) oB oC = absurd (half-piece C B y Y mY o a f x X p e oC oB)
     kinds B C (piece x X p e n) (piece y Y o f m) oB oC = pieces B C x y X Y p e n o f m oB oC
+
+  -- So exactly four lie over each square.
+  pub line-four : Drawn Q z (s .from + 1) (s .to + 1) (N d z) → fourEverywhere (P .w) (P .h) (liveOf (withLine P s)) ≡ true
+  unfolding fourEverywhere
+  line-four dr =
+      every-of 1 (P .w) _ (λ x lx hx. every-of 1 (P .h) _ (λ y ly hy.
+      eq-eqb _ _
+      (four-of (P .w) (P .h) (b .wide) (b .high) N x y (lx, hx) (ly, hy)
+      (λ p q. one-at-most (quadrant p q x y) (live (P .w) (P .h) N) (live-distinct (P .w) (P .h) (b .wide) (b .high) N)
+      (one p q x y (lx, hx) (ly, hy))))))
+    where
+      one : (p q : Side) (x y : ℕ) → OnSide (P .w) x → OnSide (P .h) y → (B C : Blend) → List·Memᴰ B (liveOf (withLine P s)) → List·Memᴰ C (liveOf (withLine P s)) →
+          quadrant p q x y B ≡ true → quadrant p q x y C ≡ true → B ≡ C
+      one p q x y hx hy B C mB mC e f =
+          let hs = on-side d (P .w) (P .h) x y hx hy in
+          let i = in-view d p q x y B e in
+          let k = in-view d p q x y C f in
+          kinds dr (pick d p q) (pick (other d) p q) (side d x y) (side (other d) x y) (hs .0) (hs .1) B C (kind-of B mB) (kind-of C mC)
+          (record { column = i .0; row = i .1 }) (record { column = k .0; row = k .1 })
