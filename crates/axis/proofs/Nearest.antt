@@ -2,14 +2,14 @@
 -- Nothing here knows how many axes there are.
 use Prim.Native.Nat.{ℕ, zero, suc, _+_, _-_, _≤_, _<_}
 use native.Mathlib.Omega.{arith}
-use mathlib.Core.Path.{_≡_, refl, ap, _∙_}
+use mathlib.Core.Path.{_≡_, refl, sym, ap, _∙_}
 use mathlib.Core.Logic.{⊎-elim}
 use mathlib.Core.Bool.{Bool, true, false, cond}
 use borrow.Author.Tests.{eqb-true, eqb-false, eq-eqb, ne-eqb, ltb-true, ltb-false}
 use lib.Dec.{eqb, ltb}
 use Rattle.axis.specs.Nearest.{below, above, nearest}
 use Rattle.axis.specs.declared.Triple.{Triple}
-use Rattle.axis.proofs.Tests.{either}
+use Rattle.axis.proofs.Tests.{either, true-not-false}
 use Rattle.axis.proofs.Triples.{Rise, Inside}
 
 -- What a search over the places 1 to n for a line answers: one of them that has a line, or 0 where none has.
@@ -124,3 +124,36 @@ module _ (line : ℕ → Bool) (t : Triple) where
   pub nearest-beyond : under ≡ 0 → nearest line t ≡ beyond
   unfolding nearest
   nearest-beyond e = rw (eq-eqb _ _ e)
+
+-- The searches as such: the last number at or below n that passes a test, where 0 does,
+pub below-last : (test : ℕ → Bool) (n : ℕ) → test 0 ≡ true →
+    (below test 0 n ≤ n) × (test (below test 0 n) ≡ true) × ((k : ℕ) → below test 0 n < k → k ≤ n → test k ≡ false)
+unfolding below
+below-last test zero first = (omega arith, first, λ k lo hi. absurd (omega arith))
+below-last test (suc n) first =
+    let e : 0 + suc n ≡ suc n = omega arith in
+    let rest = below-last test n first in
+    rw e
+    (⊎-elim (λ t. rw t (omega arith, t, λ k lo hi. absurd (omega arith)))
+    (λ t. rw t (omega (arith, rest .0), rest .1,
+    λ k lo hi. ⊎-elim (λ q. rw (eqb-true k (suc n) q) t) (λ q. let ne = eqb-false k (suc n) q in rest .2 k lo (omega arith)) (either (eqb k (suc n)))))
+    (either (test (suc n))))
+
+-- and the first of the n numbers before r that does, where the last of them does.
+pub above-first : (test : ℕ → Bool) (r n : ℕ) → 0 < n → n ≤ r → test (r - 1) ≡ true →
+    (r - n ≤ above test r n) × (above test r n < r) × (test (above test r n) ≡ true) × ((k : ℕ) → r - n ≤ k → k < above test r n → test k ≡ false)
+unfolding above
+above-first test r zero pos le last = absurd (omega arith)
+above-first test r (suc n) pos le last =
+    ⊎-elim (λ t. rw t (omega arith, omega arith, t, λ k lo hi. absurd (omega arith)))
+    (λ t. rw t
+    (⊎-elim
+    (λ z. let one = eqb-true n 0 z in
+    let e : r - suc n ≡ r - 1 = omega arith in
+    absurd (true-not-false (test (r - 1)) last (ap test (sym e) ∙ t)))
+    (λ z. let more = eqb-false n 0 z in
+    let rest = above-first test r n (omega arith) (omega arith) last in
+    (omega (arith, rest .0), rest .1, rest .2,
+    λ k lo hi. ⊎-elim (λ q. rw (eqb-true k (r - suc n) q) t) (λ q. let ne = eqb-false k (r - suc n) q in rest .3 k (omega arith) hi) (either (eqb k (r - suc n)))))
+    (either (eqb n 0))))
+    (either (test (r - suc n)))

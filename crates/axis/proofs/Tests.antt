@@ -124,6 +124,27 @@ pub some-none : (k n : ℕ) (test : ℕ → Bool) → n ≤ 0 → some k n test 
 some-none k zero test h = refl
 some-none k (suc n) test h = absurd (omega arith)
 
+-- `some`: the test fails of each number of the run, or holds of one
+pub some-fails : (from n : ℕ) (test : ℕ → Bool) → some from n test ≡ false → (k : ℕ) → from ≤ k → k < from + n → test k ≡ false
+some-fails from zero test e k lo hi = absurd (omega arith)
+some-fails from (suc n) test e k lo hi =
+    ⊎-elim (λ q. subst (λ (i : ℕ). test i ≡ false) (eqb-true from k q) (first (test from) _ e))
+    (λ q. let ne = eqb-false from k q in some-fails (from + 1) n test (rest (test from) _ e) k (omega arith) (omega arith))
+    (either (lib.Dec.eqb from k))
+  where
+    first : (a b : Bool) → (a || b) ≡ false → a ≡ false
+    first true b e = e
+    first false b e = refl
+
+    rest : (a b : Bool) → (a || b) ≡ false → b ≡ false
+    rest true b e = absurd (true-not-false true refl e)
+    rest false b e = e
+
+pub fails-some : (from n : ℕ) (test : ℕ → Bool) → ((k : ℕ) → from ≤ k → k < from + n → test k ≡ false) → some from n test ≡ false
+fails-some from zero test f = refl
+fails-some from (suc n) test f =
+    rw (f from (omega arith) (omega arith), fails-some (from + 1) n test (λ k lo hi. f k (omega arith) (omega arith)))
+
 pub each-turn {ℓ} : {A : Type ℓ} (k n : ℕ) (f : ℕ → List A) → 0 < n → each k n f ≡ f k ++ each (k + 1) (n - 1) f
 each-turn k zero f h = absurd (omega arith)
 each-turn k (suc n) f h = let e : suc n - 1 ≡ n = omega arith in rw e

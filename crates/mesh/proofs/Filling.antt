@@ -13,7 +13,7 @@ use Rattle.axis.proofs.Parts.{OnSide}
 use Rattle.axis.proofs.Triples.{Inside}
 use Rattle.mesh.specs.declared.Blend.{Blend}
 use Rattle.mesh.proofs.View.{View, turn, flip, swap, opposite, mirror, Live, In, Parts, Over, Knot, SoundView, TightView, turn-sound, flip-tight, swap-tight, flipped, on-mirror, in-mirror}
-use Rattle.mesh.proofs.Neighbours.{Compared, less, equal, more, compare, neighbours, level-at, Abreast, Ended, line-ends, beyond, flip-abreast}
+use Rattle.mesh.proofs.Neighbours.{Compared, less, equal, more, compare, neighbours, level-at, Abreast, Ended, line-ends, outward, flip-abreast}
 
 -- the part of a blend's triple in which the upright lies: where it begins and where it ends
 abbrev pub from : Side → Triple → ℕ
@@ -246,8 +246,8 @@ edgeOf Q upper = Q .h + 1
 -- A good end of a line at z: the edge of the domain, a line that goes on, or two blends abreast of it.
 pub data Good (Q : View) (e : Side) (z a : ℕ) : Type 0 where
   edge : a ≡ edgeOf Q e → Good Q e z a
-  line : (1 < a) × (a < Q .h + 1) → Q .uprights z (beyond e a) ≡ true → Good Q e z a
-  blends : (1 < a) × (a < Q .h + 1) → Q .uprights z (beyond e a) ≡ false → Abreast Q e z a → Good Q e z a
+  line : (1 < a) × (a < Q .h + 1) → Q .uprights z (outward e a) ≡ true → Good Q e z a
+  blends : (1 < a) × (a < Q .h + 1) → Q .uprights z (outward e a) ≡ false → Abreast Q e z a → Good Q e z a
 
 pub flip-good : (Q : View) (e : Side) (z a : ℕ) → (1 ≤ a) × (a ≤ Q .h + 1) → Good Q e z a → Good (flip Q) (opposite e) z (Q .h + 2 - a)
 flip-good Q lower z a ha (edge q) = edge (omega arith)
@@ -270,9 +270,9 @@ swap-good Q s e z a hz (edge q) = edge (by e q)
     by lower q = q
     by upper q = q
 swap-good Q s e z a hz (line i on) =
-    line i (subst (λ (n : ℕ). Q .uprights n (beyond e a) ≡ true) (let q : z ≡ Q .w + 2 - (Q .w + 2 - z) = omega arith in q) on)
+    line i (subst (λ (n : ℕ). Q .uprights n (outward e a) ≡ true) (let q : z ≡ Q .w + 2 - (Q .w + 2 - z) = omega arith in q) on)
 swap-good Q s e z a hz (blends i off b) =
-    blends i (subst (λ (n : ℕ). Q .uprights n (beyond e a) ≡ false) (let q : z ≡ Q .w + 2 - (Q .w + 2 - z) = omega arith in q) off)
+    blends i (subst (λ (n : ℕ). Q .uprights n (outward e a) ≡ false) (let q : z ≡ Q .w + 2 - (Q .w + 2 - z) = omega arith in q) off)
     (record {
       reach = b .reach;
       at = λ x. b .at (opposite x);

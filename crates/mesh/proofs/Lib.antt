@@ -35,3 +35,4 @@ pub mod Passing
 pub mod ChosenLine
 pub mod TightMaps
 pub mod SoundLines
+pub mod GoodEnds

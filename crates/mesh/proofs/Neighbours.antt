@@ -113,14 +113,14 @@ grid-knot Q s B m j v hj hv lo hi at =
         let n = neighbours Q s hj (omega arith, omega arith) (record { live = m; column = i; row = (omega arith, omega arith) }) (r .1) in
         record { blend = r .0; live = r .1 .live; column = r .1 .column; at = omega arith }
 
--- the row before an end of a line, and the row beyond it
-abbrev pub here : Side → ℕ → ℕ
-here lower a = a
-here upper a = a - 1
+-- the row of a line before its end, and the row past it
+abbrev pub inward : Side → ℕ → ℕ
+inward lower a = a
+inward upper a = a - 1
 
-abbrev pub beyond : Side → ℕ → ℕ
-beyond lower a = a - 1
-beyond upper a = a
+abbrev pub outward : Side → ℕ → ℕ
+outward lower a = a - 1
+outward upper a = a
 
 -- Two blends abreast of the upright z, one on either side: their anchors are at level a, and they reach back to one level: they begin there, or
 -- at a lower end of a line, they end there.
@@ -263,7 +263,7 @@ back-flip : (h a n r : ℕ) → a ≤ n → n < h + 2 - r → (r ≤ h + 1 - n) 
 back-flip h a n r lo hi = (omega arith, omega arith, omega arith)
 
 pub line-ends : (Q : View) (t : TightView Q) (z a : ℕ) → (1 < z) × (z < Q .w + 1) → (1 < a) × (a < Q .h + 1) → (e : Side) →
-    Q .uprights z (here e a) ≡ true → Q .uprights z (beyond e a) ≡ false → Ended Q e z a
+    Q .uprights z (inward e a) ≡ true → Q .uprights z (outward e a) ≡ false → Ended Q e z a
 line-ends Q t z a hz ha upper on off = ended-above Q t z a hz ha on off
 line-ends Q t z a hz ha lower on off =
     let r = ended-above (flip Q) (flip-tight Q t) z (Q .h + 2 - a) hz (omega arith, omega arith)

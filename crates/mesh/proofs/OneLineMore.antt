@@ -8,6 +8,7 @@ use mathlib.Core.List.{List, [], _∷_, _++_}
 use lib.Dec.{leb, ltb, eqb}
 use borrow.Author.Tests.{eqb-true, eqb-false, eq-eqb, leb-true, le-leb, ltb-true, lt-ltb}
 use Rattle.axis.specs.Range.{any}
+use Rattle.axis.specs.Triple.{Side, lower, upper}
 use Rattle.axis.proofs.Tests.{either, true-not-false, and-both, and-of, or-either, or-left, or-right, any-append}
 use Rattle.mesh.specs.Lines.{Direction, upright, level, number, other, side, direction, Mesh, mesh, freshMesh, draws, start, end, fits, inRange, Layout, meshOf}
 use Rattle.mesh.specs.Splits.{withLine}
@@ -38,6 +39,11 @@ ranged w h s e =
     let way = direction-named w h s e in
     let r = in-range-says w h (direction (s .direction)) s e way in
     record { way = way; inner = (omega arith, omega arith); range = (omega arith, omega arith, omega arith) }
+
+-- the ends of a split, in knots
+abbrev pub endOf : Side → Split → ℕ
+endOf lower s = s .from + 1
+endOf upper s = s .to + 1
 
 -- which of the rows a split draws
 abbrev pub Row : ℕ → Split → ℕ → Type 0

@@ -62,12 +62,12 @@ pub level-cuts : (M : Mesh) (d : Direction) (y : ℕ) (B : Blend) → Inside y (
 level-cuts M upright y B i c = cut-test M level y B (record { inside = i; covered = c })
 level-cuts M level y B i c = cut-test M upright y B (record { inside = i; covered = c })
 
-halve-same : (d : Direction) (s : Side) (y : ℕ) (B : Blend) → (crossed d (halve d s y B) ≡ half s y (crossed d B)) × (along d (halve d s y B) ≡ along d B)
+pub halve-same : (d : Direction) (s : Side) (y : ℕ) (B : Blend) → (crossed d (halve d s y B) ≡ half s y (crossed d B)) × (along d (halve d s y B) ≡ along d B)
 unfolding halve
 halve-same upright s y B = (refl, refl)
 halve-same level s y B = (refl, refl)
 
-halve-cross : (d : Direction) (s : Side) (y : ℕ) (B : Blend) →
+pub halve-cross : (d : Direction) (s : Side) (y : ℕ) (B : Blend) →
     (crossed d (halve (other d) s y B) ≡ crossed d B) × (along d (halve (other d) s y B) ≡ half s y (along d B))
 unfolding halve
 halve-cross upright s y B = (refl, refl)
@@ -155,7 +155,7 @@ module _ (P : Layout) (b : Built P) (s : Split) (d : Direction) (r : Ranged (P .
   known : SoundView Q
   known = t .is-sound
 
-  rise-of : (B : Blend) → Live Q B → RiseB B
+  pub rise-of : (B : Blend) → Live Q B → RiseB B
   rise-of B m = proper-rises (P .w) (P .h) B (live-proper (P .w) (P .h) (b .wide) (b .high) (meshOf P) B m)
 
   -- elsewhere the steps are those of before

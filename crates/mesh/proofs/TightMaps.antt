@@ -23,11 +23,11 @@ use Rattle.mesh.proofs.Cuts.{Cut, cut-exactly, cut-fact, cut-test, prop
 use Rattle.mesh.proofs.SoundMaps.{live-left, live-proper}
 use Rattle.mesh.proofs.Fresh.{fresh-positions, fresh-live, fresh-sound}
 use Rattle.mesh.proofs.View.{View, turn, Live, In, Knot, SoundView, TightView, TightLevels, turn-sound, turn-tight}
-use Rattle.mesh.proofs.Neighbours.{grid-knot, level-at, here, beyond, Ended, line-ends}
+use Rattle.mesh.proofs.Neighbours.{grid-knot, level-at, inward, outward, Ended, line-ends}
 use Rattle.mesh.proofs.Spreading.{Used, Rests, RestsBelow, RestsAbove, Downward, throughout, until, downward, used-along}
 use Rattle.mesh.proofs.MapView.{view, sound-view}
 use Rattle.mesh.proofs.Grids.{KnotOf, OnGrid, stays-on-grid, half-on-grid}
-use Rattle.mesh.proofs.OneLineMore.{Ranged, Row, more-finer, step-drawn, step-either}
+use Rattle.mesh.proofs.OneLineMore.{Ranged, Row, endOf, more-finer, step-drawn, step-either}
 
 -- some live blend has the unit step on its grid
 abbrev pub Gridded : Layout → Direction → ℕ → ℕ → Type 0
@@ -113,19 +113,15 @@ module _ (P : Layout) (b : Built P) (s : Split) (d : Direction) (r : Ranged (P .
       (or-either (meshOf P (other d) v z) (ltb 0 z && meshOf P (other d) v (z - 1)) on)
 
   -- Its ends, and those of the lines that it lengthens, rest on levels of live grids.
-  abbrev own : Side → ℕ
-  own lower = s .from + 1
-  own upper = s .to + 1
-
-  module _ (on-lines : (e : Side) → onLine (meshOf P) (other d) (own e) z ≡ true) where
-    rests : (e : Side) (v : ℕ) → (1 < v) × (v ≤ run) → meshOf N d z (beyond e v) ≡ false → meshOf N d z (here e v) ≡ true → Rests (viewOf d N) z v
+  module _ (on-lines : (e : Side) → onLine (meshOf P) (other d) (endOf e s) z ≡ true) where
+    rests : (e : Side) (v : ℕ) → (1 < v) × (v ≤ run) → meshOf N d z (outward e v) ≡ false → meshOf N d z (inward e v) ≡ true → Rests (viewOf d N) z v
     rests e v hv off on =
-        ⊎-elim old (λ q. subst (Rests (viewOf d N) z) (sym (own-end e off (q .2))) (rests-on (own e) (own-in e off (q .2)) (on-lines e)))
-        (step-either P s d r d z (here e v) on)
+        ⊎-elim old (λ q. subst (Rests (viewOf d N) z) (sym (own-end e off (q .2))) (rests-on (endOf e s) (own-in e off (q .2)) (on-lines e)))
+        (step-either P s d r d z (inward e v) on)
       where
-        old : meshOf P d z (here e v) ≡ true → Rests (viewOf d N) z v
+        old : meshOf P d z (inward e v) ≡ true → Rests (viewOf d N) z v
         old here-on =
-            let off-before = false-of (meshOf P d z (beyond e v)) (λ t. true-not-false _ (more-finer P s d z (beyond e v) t) off) in
+            let off-before = false-of (meshOf P d z (outward e v)) (λ t. true-not-false _ (more-finer P s d z (outward e v) t) off) in
             let i = r .inner in
             let q = tight-view P b d in
             let a = line-ends (viewOf d P) q z v (omega arith, omega arith) (omega arith, omega arith) e here-on off-before .abreast in
@@ -133,7 +129,7 @@ module _ (P : Layout) (b : Built P) (s : Split) (d : Direction) (r : Ranged (P .
             let rise = q .is-sound .x .rises (a .at upper) (a .live upper) in
             rests-beside v z hv (inl refl) (level-at (viewOf d P) (q .is-sound) (a .at upper) (a .live upper) (a .anchored upper) (omega arith) (omega arith))
 
-        own-end : (e : Side) → meshOf N d z (beyond e v) ≡ false → Row run s (here e v) → v ≡ own e
+        own-end : (e : Side) → meshOf N d z (outward e v) ≡ false → Row run s (inward e v) → v ≡ endOf e s
         own-end lower off row =
             let range = r .range in
             ⊎-elim
@@ -147,7 +143,7 @@ module _ (P : Layout) (b : Built P) (s : Split) (d : Direction) (r : Ranged (P .
             (λ q. let ne = eqb-false v (s .to + 1) q in absurd (true-not-false _ (step-drawn P s d r v (inl (omega arith, omega arith))) off)) (either (eqb v (s .to + 1))))
             (λ o. absurd (⊎-elim (λ i. omega arith) (λ i. omega arith) o)) row
 
-        own-in : (e : Side) → meshOf N d z (beyond e v) ≡ false → Row run s (here e v) → (1 < own e) × (own e ≤ run)
+        own-in : (e : Side) → meshOf N d z (outward e v) ≡ false → Row run s (inward e v) → (1 < endOf e s) × (endOf e s ≤ run)
         own-in e off row = let q = own-end e off row in (omega arith, omega arith)
 
     -- Its rows are used: one is, since it cuts a blend, and so they all are.
