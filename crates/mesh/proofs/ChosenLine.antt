@@ -75,7 +75,24 @@ module _ (P : Layout) (c s : Split) (i : Contains P s c) where
       (List·Memᴰ·append-cases (P .splits) (r .1))))
       (or-either fresh (any test (P .splits ++ s ∷ [])) e)
 
--- The line that a lengthened split takes passes every check of an exact one: it contains the given line, so it cuts what that cuts.
+-- A line that contains one that passes 3 to 7 is in range, and cuts what that cuts.
+pub contains-fits : (P : Layout) (s c : Split) → inRange (P .w) (P .h) s ≡ true → Contains P s c → inRange (P .w) (P .h) c ≡ true
+contains-fits P s c fits holds =
+    let ends = ends-in P s fits in
+    let begins = holds .begins in
+    let reaches = holds .ends in
+    let within = holds .within in
+    rw (contains-reaching P s (omega arith) c holds) (reaching-fits P s (c .from) (stepsOf c) fits (omega arith) (omega arith))
+
+pub contains-cuts : (P : Layout) → 1 ≤ P .w → 1 ≤ P .h → (s c : Split) → Contains P s c → any (isCut (meshOf (withLine P s))) (liveOf P) ≡ true →
+    any (isCut (meshOf (withLine P c))) (liveOf P) ≡ true
+contains-cuts P hw hh s c holds e =
+    let cut = any-at (isCut (meshOf (withLine P s))) (liveOf P) e in
+    let rises = proper-rises (P .w) (P .h) (cut .0) (live-proper (P .w) (P .h) hw hh (meshOf P) (cut .0) (cut .1)) in
+    any-of (isCut (meshOf (withLine P c))) (liveOf P) (cut .0) (cut .1)
+    (finer-cut (meshOf (withLine P s)) (meshOf (withLine P c)) (contains-finer P c s holds) (cut .0) rises (cut .2))
+
+-- So the line that a lengthened split takes passes every check of an exact one.
 pub chosen-exact : (P : Layout) → 1 ≤ P .w → 1 ≤ P .h → (s c : Split) (cs : List Split) → given P s ≡ 0 → chosen P s ≡ c ∷ cs →
     exactNumber P c ≡ 0
 unfolding chosen candidate exactNumber given
@@ -83,18 +100,7 @@ chosen-exact P hw hh s c cs e first =
     let g = given-says P s e in
     let ends = ends-in P s (g .fits) in
     let f = chosen-least P s (omega arith) .taken c (rw first (List·Memᴰ.List·Memᴰ·head refl)) in
-    let holds = f .0 in
-    let begins = holds .begins in
-    let reaches = holds .ends in
-    let within = holds .within in
-    let in-range : inRange (P .w) (P .h) c ≡ true =
-    rw (contains-reaching P s (omega arith) c holds) (reaching-fits P s (c .from) (stepsOf c) (g .fits) (omega arith) (omega arith)) in
     let a = and-both (ended (meshOf P) c && not (shares (meshOf P) c)) (soundWith P c) (f .1) in
     let b = and-both (ended (meshOf P) c) (not (shares (meshOf P) c)) (a .0) in
     let room : leb 60 (length (P .splits)) ≡ false = lt-leb _ _ (g .room) in
-    let cut = any-at (isCut (meshOf (withLine P s))) (liveOf P) (g .cut) in
-    let rises = proper-rises (P .w) (P .h) (cut .0) (live-proper (P .w) (P .h) hw hh (meshOf P) (cut .0) (cut .1)) in
-    let still : any (isCut (meshOf (withLine P c))) (liveOf P) ≡ true =
-    any-of (isCut (meshOf (withLine P c))) (liveOf P) (cut .0) (cut .1)
-    (finer-cut (meshOf (withLine P s)) (meshOf (withLine P c)) (contains-finer P c s holds) (cut .0) rises (cut .2)) in
-    rw (in-range, room, not-true (shares (meshOf P) c) (b .1), b .0, still, a .1)
+    rw (contains-fits P s c (g .fits) (f .0), room, not-true (shares (meshOf P) c) (b .1), b .0, contains-cuts P hw hh s c (f .0) (g .cut), a .1)

@@ -97,7 +97,7 @@ inner-room P d z lower k r ne = (omega arith, omega arith)
 inner-room P d z upper k r ne = (omega arith, omega arith)
 
 -- a gap's end: the domain's edge, or a line that goes on
-gap-either : (P : Layout) (d : Direction) (z : ℕ) (e : Side) (k : ℕ) → gapEnds P d z e k ≡ true → (k ≡ edgeOf (viewOf d P) e) ⊎ (meshOf P d z (outward e k) ≡ true)
+pub gap-either : (P : Layout) (d : Direction) (z : ℕ) (e : Side) (k : ℕ) → gapEnds P d z e k ≡ true → (k ≡ edgeOf (viewOf d P) e) ⊎ (meshOf P d z (outward e k) ≡ true)
 gap-either P d z lower k t = ⊎-elim (λ q. inl (eqb-true _ _ q)) inr (or-either (eqb k 1) (meshOf P d z (k - 1)) t)
 gap-either P d z upper k t = ⊎-elim (λ q. inl (eqb-true _ _ q)) inr (or-either (eqb k (side (other d) (P .w) (P .h) + 1)) (meshOf P d z k) t)
 

@@ -36,3 +36,4 @@ pub mod ChosenLine
 pub mod TightMaps
 pub mod SoundLines
 pub mod GoodEnds
+pub mod TwoLooks

@@ -1,6 +1,7 @@
 -- Which ends a split may have: what refusal 8 comes to (document 01, "When a call says no"), and which line a lengthened split takes.
 use Prim.Native.Nat.{ℕ, _+_, _-_}
 use mathlib.Core.Path.{_≡_}
+use mathlib.Core.Logic.{_↔_}
 use mathlib.Core.Bool.{Bool, true, cond, _&&_, _||_}
 use mathlib.Core.List.{List, [], _∷_}
 use lib.Dec.{ltb, eqb}
@@ -66,9 +67,9 @@ pub record TwoLooks (P : Layout) (s : Split) : Type 0 where
   -- "The exact split leaves a map that is not sound": exactly where an end is not good.
   pub exact : soundWith P s ≡ goodEnds P s
   pub refused : exactNumber P s ≡ cond (goodEnds P s) 0 8
-  -- The whole gap is a candidate; so a lengthened split takes a line, and it is the one between the nearest good ends,
+  -- The candidates are the lines through it within the gap whose ends are both good. The whole gap is one;
+  pub candidates : (c : Split) → Contains P s c → candidate P c ≡ true ↔ (Contains P c (gap P s) × (goodEnds P c ≡ true))
   pub whole-gap : Contains P s (gap P s) × (candidate P (gap P s) ≡ true)
+  -- so a lengthened split always takes a line: the one between the nearest good ends, which lies in every other candidate.
   pub taken : chosen P s ≡ nearestGood P s ∷ []
-  -- which lies in every other candidate. The candidates are the lines between good ends of the gap.
   pub in-all : (c : Split) → Contains P s c → candidate P c ≡ true → Contains P (nearestGood P s) c
-  pub candidates : (c : Split) → Contains P s c → Contains P c (gap P s) → candidate P c ≡ goodEnds P c

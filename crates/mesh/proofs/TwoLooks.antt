@@ -1,0 +1,274 @@
+-- Two looks tell whether a line is sound, and the nearest good ends which line a lengthened split takes.
+use Prim.Native.Nat.{ℕ, _+_, _-_, _≤_, _<_}
+use native.Mathlib.Omega.{arith}
+use mathlib.Core.Path.{_≡_, refl, sym, ap, subst, _∙_}
+use mathlib.Core.Logic.{_⊎_, inl, inr, ⊎-elim}
+use mathlib.Core.Bool.{Bool, true, false, cond, _&&_, not}
+use mathlib.Core.List.{List, [], _∷_, List·Memᴰ}
+use lib.Dec.{leb, ltb, eqb}
+use borrow.Author.Tests.{eqb-true, eqb-false, eq-eqb, leb-true, leb-false, ltb-true, ltb-false, not-true}
+use Rattle.axis.specs.Range.{any, some}
+use Rattle.axis.specs.Triple.{Side, lower, upper}
+use Rattle.axis.specs.Nearest.{below, above}
+use Rattle.axis.proofs.Tests.{either, true-not-false, false-of, and-both, and-of, same-test, some-fails, fails-some}
+use Rattle.axis.proofs.Nearest.{below-last, above-first}
+use Rattle.mesh.specs.Lines.{Direction, other, side, direction, Layout, meshOf, inRange, shares, ended, onLine}
+use Rattle.mesh.specs.Blends.{isCut}
+use Rattle.mesh.specs.Splits.{liveOf, withLine, soundWith, given, exactNumber, run, Contains, stepsOf, Precedes, candidate, chosen}
+use Rattle.mesh.specs.Ends.{gapEnds, goodEnd, goodEnds, between, gap, nearestGood, TwoLooks}
+use Rattle.mesh.specs.declared.Split.{Split}
+use Rattle.mesh.proofs.Containing.{chosen-least}
+use Rattle.mesh.proofs.Passing.{Given, given-says, ends-in}
+use Rattle.mesh.proofs.ChosenLine.{contains-fits, contains-cuts}
+use Rattle.mesh.proofs.OneLineMore.{Ranged, ranged, endOf}
+use Rattle.mesh.proofs.TightMaps.{Built}
+use Rattle.mesh.proofs.GoodEnds.{gap-either, gap-edge, gap-line, gap-good, good-sound, good-on-line, sound-good, built-on}
+
+-- A split in range that shares no unit step with a line at its position:
+module _ (P : Layout) (b : Built P) (s : Split) (fits : inRange (P .w) (P .h) s ≡ true) (apart : shares (meshOf P) s ≡ false) where
+  abbrev d : Direction
+  d = direction (s .direction)
+
+  abbrev z : ℕ
+  z = s .position + 1
+
+  r : Ranged (P .w) (P .h) d s
+  r = ranged (P .w) (P .h) s fits
+
+  free : (k : ℕ) → s .from + 1 ≤ k → k < s .to + 1 → meshOf P d z k ≡ false
+  unfolding shares
+  free k lo hi = let g = r .range in some-fails (s .from + 1) (s .to - s .from) (meshOf P d z) apart k lo (omega arith)
+
+  both-good : goodEnds P s ≡ true → (e : Side) → goodEnd P d z e (endOf e s) ≡ true
+  unfolding goodEnds
+  both-good t lower = and-both (goodEnd P d z lower (s .from + 1)) (goodEnd P d z upper (s .to + 1)) t .0
+  both-good t upper = and-both (goodEnd P d z lower (s .from + 1)) (goodEnd P d z upper (s .to + 1)) t .1
+
+  -- between good ends it is a candidate;
+  pub good-candidate : goodEnds P s ≡ true → candidate P s ≡ true
+  unfolding candidate ended
+  good-candidate t =
+      let good = both-good t in
+      and-of _ _ (and-of _ _ (and-of _ _ (good-on-line P b s d r free lower (good lower)) (good-on-line P b s d r free upper (good upper))) (ap not apart))
+      (good-sound P b s d r free good)
+
+  -- and where its ends lie on crossing lines and it cuts something, it leaves a sound map only between good ends.
+  module _ (ends : ended (meshOf P) s ≡ true) (some-cut : any (isCut (meshOf (withLine P s))) (liveOf P) ≡ true) where
+    on-lines : (e : Side) → onLine (meshOf P) (other d) (endOf e s) z ≡ true
+    unfolding ended
+    on-lines lower = and-both (onLine (meshOf P) (other d) (s .from + 1) z) (onLine (meshOf P) (other d) (s .to + 1) z) ends .0
+    on-lines upper = and-both (onLine (meshOf P) (other d) (s .from + 1) z) (onLine (meshOf P) (other d) (s .to + 1) z) ends .1
+
+    pub sound-ends : soundWith P s ≡ true → goodEnds P s ≡ true
+    unfolding goodEnds
+    sound-ends still = and-of _ _ (sound-good P b s d r free on-lines some-cut still lower) (sound-good P b s d r free on-lines some-cut still upper)
+
+    pub stays-built : soundWith P s ≡ true → Built (withLine P s)
+    stays-built still = built-on P b s d r free on-lines some-cut still
+
+-- A line through a given one between the nearest ends of a kind, among which are the gap's:
+module _ (P : Layout) (b : Built P) (s : Split) (fits : inRange (P .w) (P .h) s ≡ true) (apart : shares (meshOf P) s ≡ false)
+    (ends : Side → ℕ → Bool) (gaps : (e : Side) (k : ℕ) → gapEnds P (direction (s .direction)) (s .position + 1) e k ≡ true → ends e k ≡ true) where
+  abbrev way : Direction
+  way = direction (s .direction)
+
+  abbrev at : ℕ
+  at = s .position + 1
+
+  abbrev line : Split
+  line = between ends P s
+
+  low-end : (line .from ≤ s .from) × (ends lower (line .from + 1) ≡ true) × ((k : ℕ) → line .from < k → k ≤ s .from → ends lower (k + 1) ≡ false)
+  low-end = below-last (λ k. ends lower (k + 1)) (s .from) (gaps lower 1 (gap-edge P way at lower 1 refl))
+
+  high-end : (s .to ≤ line .to) × (line .to ≤ run P s) × (ends upper (line .to + 1) ≡ true) × ((k : ℕ) → s .to ≤ k → k < line .to → ends upper (k + 1) ≡ false)
+  high-end =
+      let in-side = ends-in P s fits in
+      let last : run P s + 1 - 1 + 1 ≡ run P s + 1 = omega arith in
+      let f = above-first (λ k. ends upper (k + 1)) (run P s + 1) (run P s + 1 - s .to) (omega arith) (omega arith)
+      (subst (λ (k : ℕ). ends upper k ≡ true) (sym last) (gaps upper (run P s + 1) (gap-edge P way at upper (run P s + 1) refl))) in
+      (omega (arith, f .0), omega (arith, f .1), f .2, λ k lo hi. f .3 k (omega arith) hi)
+
+  pub contains : Contains P s line
+  contains = record { same-way = refl; same-place = refl; begins = low-end .0; ends = high-end .0; within = high-end .1 }
+
+  -- it lies in the gap, so it shares no step with a line,
+  in-gap : (k : ℕ) → line .from + 1 ≤ k → k < line .to + 1 → meshOf P way at k ≡ false
+  in-gap k lo hi = false-of _ refute
+    where
+      refute : meshOf P way at k ≡ true → ⊥
+      refute on =
+          ⊎-elim
+          (λ e. let le = leb-true k (s .from) e in
+          let step : k + 1 - 1 ≡ k = omega arith in
+          true-not-false _ (gaps lower (k + 1) (gap-line P way at lower (k + 1) (subst (λ (n : ℕ). meshOf P way at n ≡ true) (sym step) on))) (low-end .2 k (omega arith) le))
+          (λ e. let gt = leb-false k (s .from) e in
+          ⊎-elim (λ f. let lt = leb-true k (s .to) f in true-not-false _ on (free P b s fits apart k (omega arith) (omega arith)))
+          (λ f. let past = leb-false k (s .to) f in
+          let step : k - 1 + 1 ≡ k = omega arith in
+          true-not-false _ (subst (λ (n : ℕ). ends upper n ≡ true) (sym step) (gaps upper k (gap-line P way at upper k on))) (high-end .3 (k - 1) (omega arith) (omega arith)))
+          (either (leb k (s .to))))
+          (either (leb k (s .from)))
+
+  pub shares-none : shares (meshOf P) line ≡ false
+  unfolding shares
+  shares-none =
+      let in-side = ends-in P s fits in
+      fails-some (line .from + 1) (line .to - line .from) (meshOf P way at) (λ k lo hi. in-gap k lo (omega (arith, low-end .0, high-end .0)))
+
+-- A split that passes 3 to 7:
+module _ (P : Layout) (b : Built P) (s : Split) (e : given P s ≡ 0) where
+  g : Given P s
+  g = given-says P s e
+
+  -- a line that contains it, by the tests of a candidate
+  record Candidate (c : Split) : Type 0 where
+    ends : ended (meshOf P) c ≡ true
+    apart : shares (meshOf P) c ≡ false
+    sound : soundWith P c ≡ true
+
+  candidate-says : (c : Split) → candidate P c ≡ true → Candidate c
+  unfolding candidate
+  candidate-says c t =
+      let a = and-both (ended (meshOf P) c && not (shares (meshOf P) c)) (soundWith P c) t in
+      let f = and-both (ended (meshOf P) c) (not (shares (meshOf P) c)) (a .0) in
+      record { ends = f .0; apart = not-true _ (f .1); sound = a .1 }
+
+  candidate-good : (c : Split) → Contains P s c → candidate P c ≡ true → goodEnds P c ≡ true
+  candidate-good c i t =
+      let f = candidate-says c t in
+      sound-ends P b c (contains-fits P s c (g .fits) i) (f .apart) (f .ends) (contains-cuts P (b .wide) (b .high) s c i (g .cut)) (f .sound)
+
+  exact-is : soundWith P s ≡ goodEnds P s
+  exact-is =
+      same-test _ _ (sound-ends P b s (g .fits) (g .apart) (g .ends) (g .cut))
+      (λ t. candidate-says s (good-candidate P b s (g .fits) (g .apart) t) .sound)
+
+  refused-is : exactNumber P s ≡ cond (goodEnds P s) 0 8
+  unfolding exactNumber
+  refused-is = rw (eq-eqb _ _ e, exact-is)
+
+  abbrev all-gaps : (k : Side) (n : ℕ) → gapEnds P (direction (s .direction)) (s .position + 1) k n ≡ true → goodEnd P (direction (s .direction)) (s .position + 1) k n ≡ true
+  all-gaps k n t = gap-good P (direction (s .direction)) (s .position + 1) k n t
+
+  -- the two lines between nearest ends: the whole gap, and the one between the nearest good ends
+  module _ (ends : Side → ℕ → Bool)
+      (gaps : (k : Side) (n : ℕ) → gapEnds P (direction (s .direction)) (s .position + 1) k n ≡ true → ends k n ≡ true)
+      (good : (k : Side) (n : ℕ) → ends k n ≡ true → goodEnd P (direction (s .direction)) (s .position + 1) k n ≡ true) where
+    between-candidate : candidate P (between ends P s) ≡ true
+    unfolding goodEnds
+    between-candidate =
+        let i = contains P b s (g .fits) (g .apart) ends gaps in
+        good-candidate P b (between ends P s) (contains-fits P s (between ends P s) (g .fits) i) (shares-none P b s (g .fits) (g .apart) ends gaps)
+        (and-of _ _ (good lower _ (low-end P b s (g .fits) (g .apart) ends gaps .1)) (good upper _ (high-end P b s (g .fits) (g .apart) ends gaps .2)))
+
+  gap-is : Contains P s (gap P s) × (candidate P (gap P s) ≡ true)
+  unfolding gap
+  gap-is =
+      let ends = gapEnds P (direction (s .direction)) (s .position + 1) in
+      (contains P b s (g .fits) (g .apart) ends (λ k n t. t), between-candidate ends (λ k n t. t) all-gaps)
+
+  -- a candidate lies in the gap, and a line there between good ends is one
+  in-whole-gap : (c : Split) → Contains P s c → candidate P c ≡ true → Contains P c (gap P s)
+  unfolding gap shares
+  in-whole-gap c i t =
+      let f = candidate-says c t in
+      let ends = gapEnds P (direction (s .direction)) (s .position + 1) in
+      let low = low-end P b s (g .fits) (g .apart) ends (λ k n t. t) in
+      let high = high-end P b s (g .fits) (g .apart) ends (λ k n t. t) in
+      let begins = i .begins in
+      let reaches = i .ends in
+      let within = i .within in
+      let in-side = ends-in P s (g .fits) in
+      let rows : (k : ℕ) → c .from + 1 ≤ k → k < c .to + 1 → meshOf P (direction (s .direction)) (s .position + 1) k ≡ false =
+      λ k lo hi. some-fails (c .from + 1) (c .to - c .from) _ (rw (i .same-way, i .same-place) at (f .apart)) k lo (omega arith) in
+      record {
+        same-way = sym (i .same-way);
+        same-place = sym (i .same-place);
+        begins = ⊎-elim (λ q. leb-true _ _ q)
+            (λ q. let gt = leb-false (between ends P s .from) (c .from) q in
+            absurd (⊎-elim (λ one. omega arith) (λ on. true-not-false _ on (rows _ (omega arith) (omega (arith, low .0))))
+            (gap-either P (direction (s .direction)) (s .position + 1) lower (between ends P s .from + 1) (low .1))))
+            (either (leb (between ends P s .from) (c .from)));
+        ends = ⊎-elim (λ q. leb-true _ _ q)
+            (λ q. let gt = leb-false (c .to) (between ends P s .to) q in
+            absurd (⊎-elim (λ last. omega (arith, high .1)) (λ on. true-not-false _ on (rows _ (omega (arith, high .0)) (omega arith)))
+            (gap-either P (direction (s .direction)) (s .position + 1) upper (between ends P s .to + 1) (high .2))))
+            (either (leb (c .to) (between ends P s .to)));
+        within = rw (i .same-way) (high .1);
+      }
+
+  gap-candidate : (c : Split) → Contains P s c → Contains P c (gap P s) → goodEnds P c ≡ true → candidate P c ≡ true
+  unfolding gap shares
+  gap-candidate c i o t =
+      let ends = gapEnds P (direction (s .direction)) (s .position + 1) in
+      let begins = o .begins in
+      let reaches = o .ends in
+      good-candidate P b c (contains-fits P s c (g .fits) i)
+      (rw (i .same-way, i .same-place)
+      (fails-some (c .from + 1) (c .to - c .from) _ (λ k lo hi. in-gap P b s (g .fits) (g .apart) ends (λ k n t. t) k (omega arith) (omega arith)))) t
+
+  abbrev good-ends : Side → ℕ → Bool
+  good-ends = goodEnd P (direction (s .direction)) (s .position + 1)
+
+  nearest-contains : Contains P s (nearestGood P s)
+  unfolding nearestGood
+  nearest-contains = contains P b s (g .fits) (g .apart) good-ends all-gaps
+
+  nearest-candidate : candidate P (nearestGood P s) ≡ true
+  unfolding nearestGood
+  nearest-candidate = between-candidate good-ends all-gaps (λ k n t. t)
+
+  nearest-in : (c : Split) → Contains P s c → candidate P c ≡ true → Contains P (nearestGood P s) c
+  unfolding nearestGood goodEnds
+  nearest-in c i t =
+      let good = candidate-good c i t in
+      let f : (good-ends lower (c .from + 1) && good-ends upper (c .to + 1)) ≡ true = rw (i .same-way, i .same-place) at good in
+      let a = and-both (good-ends lower (c .from + 1)) (good-ends upper (c .to + 1)) f in
+      let low = low-end P b s (g .fits) (g .apart) good-ends all-gaps in
+      let high = high-end P b s (g .fits) (g .apart) good-ends all-gaps in
+      record {
+        same-way = i .same-way;
+        same-place = i .same-place;
+        begins = ⊎-elim (λ q. leb-true _ _ q)
+            (λ q. absurd (true-not-false _ (a .0) (low .2 (c .from) (leb-false _ _ q) (i .begins))))
+            (either (leb (c .from) (between good-ends P s .from)));
+        ends = ⊎-elim (λ q. leb-true _ _ q)
+            (λ q. absurd (true-not-false _ (a .1) (high .3 (c .to) (i .ends) (leb-false _ _ q))))
+            (either (leb (between good-ends P s .to) (c .to)));
+        within = i .within;
+      }
+
+  taken-is : chosen P s ≡ nearestGood P s ∷ []
+  taken-is =
+      let in-side = ends-in P s (g .fits) in
+      let least = chosen-least P s (omega arith) in
+      let f = least .some (nearestGood P s) nearest-contains nearest-candidate in
+      f .1 ∙ ap (λ (c : Split). c ∷ []) (sym (same (f .0) (f .1)))
+    where
+      same : (c : Split) → chosen P s ≡ c ∷ [] → nearestGood P s ≡ c
+      same c q =
+          let in-side = ends-in P s (g .fits) in
+          let least = chosen-least P s (omega arith) in
+          let there : List·Memᴰ c (chosen P s) = subst (List·Memᴰ c) (sym q) (List·Memᴰ.List·Memᴰ·head refl) in
+          let t = least .taken c there in
+          let i = nearest-in c (t .0) (t .1) in
+          let begins = i .begins in
+          let ends = i .ends in
+          ⊎-elim (λ e. e)
+          (λ p. let own = nearest-contains in
+          let lo = own .begins in
+          let hi = own .ends in
+          absurd (⊎-elim (λ short. omega arith) (λ low. let len = low .0 in let start = low .1 in omega arith) p))
+          (least .first (nearestGood P s) c there nearest-contains nearest-candidate)
+
+  pub two-looks : TwoLooks P s
+  two-looks =
+      record {
+        exact = exact-is;
+        refused = refused-is;
+        whole-gap = gap-is;
+        taken = taken-is;
+        in-all = nearest-in;
+        candidates = λ c i. (λ t. (in-whole-gap c i t, candidate-good c i t), λ f. gap-candidate c i (f .0) (f .1));
+      }
