@@ -37,3 +37,4 @@ pub mod TightMaps
 pub mod SoundLines
 pub mod GoodEnds
 pub mod TwoLooks
+pub mod CrossingList
