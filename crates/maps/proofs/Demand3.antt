@@ -9,12 +9,15 @@ use borrow.Author.Tests.{eqb-true, eqb-false}
 use lib.Dec.{eqb}
 use lib.IntN.{ℤ}
 use Rattle.mesh.specs.declared.Split.{Split}
-use Rattle.mesh.specs.Lines.{allowedSide}
+use Rattle.mesh.specs.Lines.{allowedSide, Layout, layout, meshOf}
 use Rattle.mesh.specs.Blends.{live}
 use Rattle.mesh.specs.declared.Blend.{Blend}
 use Rattle.mesh.specs.Order.{Coarser}
+use Rattle.mesh.specs.Crossings.{anchors, crossings, Tight}
 use Rattle.axis.proofs.Tests.{either, and-of, same-test, cond-true}
 use Rattle.mesh.proofs.Order.{same-steps}
+use Rattle.mesh.proofs.TightMaps.{Built}
+use Rattle.mesh.proofs.CrossingList.{anchors-are-crossings, lines-are-grids, blends-tell-lines}
 use Rattle.maps.specs.declared.Map.{Map}
 use Rattle.maps.specs.Plain.{Plain, freshPlain, blends}
 use Rattle.mesh.specs.Splits.{given, exactNumber, chosen}
@@ -24,13 +27,14 @@ use Rattle.maps.specs.Calls.{freshMap}
 use Rattle.maps.specs.Histories.{Call, number, Outcome, outcome, firstDrawn, byLibrary, byMachine, ending}
 use Rattle.maps.specs.Straight.{ValuesStraight}
 use Rattle.maps.specs.Demand.{leftBy, Tabled, Gentle, IsSplit, exact-split, lengthened-split, linesBy, meshBy, DemandFrom, Demand3}
-use Rattle.maps.proofs.GoodRecords.{record-good}
+use Rattle.maps.proofs.GoodRecords.{replays-stands, record-good}
 use Rattle.mesh.proofs.ChosenLine.{chosen-exact}
 use Rattle.maps.proofs.Reached.{Reached, fresh-reached, start-reached, ending-leads}
 use Rattle.maps.proofs.Following.{step-follows, outcomes-follow, ending-follows}
 use Rattle.maps.proofs.Tabled.{tabled-once, holds-tabled}
 use Rattle.maps.proofs.Squares.{valued-four, valued-sum}
 use Rattle.maps.proofs.Gentle.{split-gentle}
+use Rattle.maps.proofs.ByEnds.{built, ends-tell}
 use Rattle.maps.proofs.Straight.{reads-straight, carried-straight}
 
 -- The blends after a list of calls are those of its lines.
@@ -97,6 +101,42 @@ pub both-tabled : (P Q : Plain) → Reached P → Reached Q → Q .lines .w ≡ 
 both-tabled P Q at from wide tall cs ds f g bs tabled =
     rw (tabled-once tabled (end-tabled Q from ds) ∙ same-lines P Q at from cs ds wide tall f g) (end-tabled P at cs)
 
+-- The lines after a list of calls, and what its blends tell of them:
+module _ (P : Plain) (at : Reached P) (cs : List Call) where
+  lines-after : ending byMachine P cs .lines ≡ layout (P .lines .w) (P .lines .h) (P .lines .splits ++ linesBy P cs)
+  lines-after = let l = ending-leads cs P at in λ i. layout (l .wide i) (l .tall i) (l .more i)
+
+  built-after : Built (ending byMachine P cs .lines)
+  built-after = built (ending byMachine P cs) (ending-leads cs P at .reached)
+
+  crossings-after : anchors (blends (ending byMachine P cs)) ≡ crossings (P .lines .w) (P .lines .h) (meshBy P cs)
+  crossings-after =
+      anchors-are-crossings (ending byMachine P cs .lines) built-after ∙ ap (λ (L : Layout). crossings (L .w) (L .h) (meshOf L)) lines-after
+
+  grids-after : Tight (P .lines .w) (P .lines .h) (meshBy P cs) (blends (ending byMachine P cs))
+  grids-after =
+      subst (λ (L : Layout). Tight (L .w) (L .h) (meshOf L) (blends (ending byMachine P cs))) lines-after
+      (lines-are-grids (ending byMachine P cs .lines) built-after)
+
+-- lists that end with the same blends have lines that cover the same points
+told-lines : (P Q : Plain) → Reached P → Reached Q → (cs ds : List Call) → Q .lines .w ≡ P .lines .w → Q .lines .h ≡ P .lines .h →
+    blends (ending byMachine Q ds) ≡ blends (ending byMachine P cs) → Coarser (meshBy P cs) (meshBy Q ds)
+told-lines P Q at from cs ds wide tall same =
+    let l = ending-leads cs P at in
+    let k = ending-leads ds Q from in
+    let A = ending byMachine P cs in
+    let B = ending byMachine Q ds in
+    subst (λ (L : Layout). Coarser (meshOf L) (meshBy Q ds)) (lines-after P at cs)
+    (subst (λ (L : Layout). Coarser (meshOf (A .lines)) (meshOf L)) (lines-after Q from ds)
+    (blends-tell-lines (A .lines) (B .lines) (built-after P at cs) (built-after Q from ds) (replays-stands (l .reached .holds .taken) .ranges)
+    (replays-stands (k .reached .holds .taken) .ranges) (k .wide ∙ wide ∙ sym (l .wide)) (k .tall ∙ tall ∙ sym (l .tall)) same))
+
+pub both-lined : (P Q : Plain) → Reached P → Reached Q → Q .lines .w ≡ P .lines .w → Q .lines .h ≡ P .lines .h → (cs ds : List Call) →
+    (bs : List Blend) → Tabled (leftBy P cs) bs → Tabled (leftBy Q ds) bs → Coarser (meshBy P cs) (meshBy Q ds) × Coarser (meshBy Q ds) (meshBy P cs)
+both-lined P Q at from wide tall cs ds bs here there =
+    let same = sym (tabled-once there (end-tabled Q from ds)) ∙ tabled-once here (end-tabled P at cs) in
+    (told-lines P Q at from cs ds wide tall same, told-lines Q P from at ds cs (sym wide) (sym tall) (sym same))
+
 -- The demand holds of it,
 pub reached-demand : (P : Plain) → Reached P → (cs : List Call) → DemandFrom P cs
 reached-demand P at cs =
@@ -113,6 +153,10 @@ reached-demand P at cs =
       are-lines = end-lines P at cs;
       same-blends = λ R start wide tall ds f g bs tabled.
           tabled-once (both-tabled P R at (start-reached R start) wide tall cs ds f g bs tabled) (end-tabled P at cs);
+      are-crossings = crossings-after P at cs;
+      are-grids = grids-after P at cs;
+      same-lines = λ R start wide tall ds tabled. both-lined P R at (start-reached R start) wide tall cs ds (blends Q) (end-tabled P at cs) tabled;
+      by-ends = rw (ending-follows cs P at) (ends-tell Q (leads .reached));
       straight = reads-straight Q (leads .reached) (leftBy P cs) (P .lines .w) (P .lines .h) (ending-follows cs P at) (leads .wide) (leads .tall);
       stays-straight = λ earlier c later e.
           any-split P at earlier (λ m n. (A B C D : ℤ) → ValuesStraight m A B C D → ValuesStraight n A B C D) carried-straight c;

@@ -20,6 +20,8 @@ use Rattle.mesh.specs.Splits.{liveOf, withLine, exactNumber, accepted}
 use Rattle.mesh.specs.Replay.{replays}
 use Rattle.mesh.proofs.Fresh.{fresh-live}
 use Rattle.mesh.proofs.AtMost.{at-most}
+use Rattle.mesh.proofs.TightMaps.{Built, fresh-built}
+use Rattle.mesh.proofs.TwoLooks.{stays-built}
 use Rattle.maps.specs.declared.Map.{Map}
 use Rattle.maps.specs.Plain.{Plain, freshPlain, blends}
 use Rattle.maps.specs.Values.{drawn}
@@ -46,10 +48,11 @@ blank-split s e =
 abbrev withLines : Layout → List Split → Layout
 withLines P ss = layout (P .w) (P .h) (P .splits ++ ss)
 
--- accepted ones leave splits in range and a sound map
+-- accepted ones leave splits in range and a sound map, whose lines are its grids
 pub record Standing (P : Layout) : Type 0 where
   pub ranges : all (inRange (P .w) (P .h)) (P .splits) ≡ true
   pub is-sound : sound (P .w) (P .h) (liveOf P) ≡ true
+  pub built : Built P
 
 accepted-stands : (ss : List Split) (P : Layout) → Standing P → accepted P ss ≡ true → Standing (withLines P ss)
 unfolding accepted
@@ -59,7 +62,11 @@ accepted-stands (s ∷ ss) P ok e =
     let r = exact-says P s (eqb-true _ _ (a .0)) in
     rw (← append-assoc (P .splits) (s ∷ []) ss)
     (accepted-stands ss (withLine P s)
-    (record { ranges = all-append _ (P .splits) (s ∷ []) (ok .ranges) (and-of _ true (r .0 .fits) refl); is-sound = r .1 })
+    (record {
+      ranges = all-append _ (P .splits) (s ∷ []) (ok .ranges) (and-of _ true (r .0 .fits) refl);
+      is-sound = r .1;
+      built = stays-built P (ok .built) s (r .0 .fits) (r .0 .apart) (r .0 .ends) (r .0 .cut) (r .1);
+    })
     (a .1))
 
 -- The layout of a good record's lines.
@@ -79,7 +86,10 @@ module _ {P : Layout} (r : Replays P) where
 
   pub replays-stands : Standing P
   unfolding linesOf
-  replays-stands = accepted-stands (P .splits) (layout (P .w) (P .h) []) (record { ranges = refl; is-sound = fresh .is-sound }) (r .all-taken)
+  replays-stands =
+      let a = replays-sides in
+      accepted-stands (P .splits) (layout (P .w) (P .h) [])
+      (record { ranges = refl; is-sound = fresh .is-sound; built = fresh-built (P .w) (P .h) (a .0) (a .2) (a .3) }) (r .all-taken)
 
   pub replays-short : length (liveOf P) ≤ 1024
   replays-short =

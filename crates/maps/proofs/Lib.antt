@@ -3,6 +3,7 @@ pub mod SameMaps
 pub mod Asking
 pub mod Walking
 pub mod PairsTold
+pub mod ByEnds
 pub mod Demand3
 pub mod ExactSums
 pub mod Following

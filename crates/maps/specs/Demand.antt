@@ -16,6 +16,8 @@ use Rattle.mesh.specs.Weight.{weight}
 use Rattle.maps.specs.declared.Map.{Map}
 use Rattle.maps.specs.Plain.{Plain, freshPlain}
 use Rattle.mesh.specs.Splits.{given, exactNumber, chosen}
+use Rattle.mesh.specs.Crossings.{anchors, crossings, Tight}
+use Rattle.mesh.specs.Ends.{goodEnds, nearestGood, TwoLooks}
 use Rattle.maps.specs.Record.{recordOf, plain}
 use Rattle.maps.specs.Calls.{changed, freshMap, shape, tablePlace, reading}
 use Rattle.maps.specs.Histories.{Call, set, exact, lengthened, place, reads, weighs, alongRow, alongColumn, sameAs, number, Outcome, outcome, byLibrary, byMachine, outcomes, ending}
@@ -105,6 +107,14 @@ linesBy P (c ∷ cs) = lineBy P c ++ linesBy (byMachine P c .next) cs
 abbrev pub meshBy : Plain → List Call → Mesh
 meshBy P cs = mesh (P .lines .w) (P .lines .h) (P .lines .splits ++ linesBy P cs)
 
+-- A split on a map, by the present map's two blends over each of its ends: an exact one is refused with 8 exactly where an end is not good; a
+-- lengthened one never is, and draws the line between the nearest good ends, which lies in every other line that it could have drawn.
+pub record ByEnds (m : Map) (s : Split) : Type 0 where
+  pub exact-says : byLibrary m (exact s) .answer ≡ number (cond (goodEnds (plain m .lines) s) 0 8)
+  pub lengthened-says : byLibrary m (lengthened s) .answer ≡ number 0
+  pub drawn-line : plain (byLibrary m (lengthened s) .next) .lines .splits ≡ plain m .lines .splits ++ nearestGood (plain m .lines) s ∷ []
+  pub looks : TwoLooks (plain m .lines) s
+
 -- The demand on a list of calls, of a map that holds P at its start.
 pub record DemandFrom (P : Plain) (cs : List Call) : Type 0 where
   -- 1. At every call the number, every part of the answer and the map handed back or left are those of the plain machine, the map being "the
@@ -129,6 +139,16 @@ pub record DemandFrom (P : Plain) (cs : List Call) : Type 0 where
   pub same-blends : (Q : Plain) → Start Q → Q .lines .w ≡ P .lines .w → Q .lines .h ≡ P .lines .h → (ds : List Call) →
       Coarser (meshBy P cs) (meshBy Q ds) → Coarser (meshBy Q ds) (meshBy P cs) →
       (bs : List Blend) → Tabled (leftBy Q ds) bs → bs ≡ blends
+  -- Report 000, "one blend for each crossing": the anchors of the blends that the table calls give are the points where an upright and a level pass
+  -- through each other, run-out counted, in the same order; so there are as many.
+  pub are-crossings : anchors blends ≡ crossings (P .lines .w) (P .lines .h) (meshBy P cs)
+  -- Document 02, L9: no line goes on past the grids of these blends inside the domain, and the grids lie on lines; so any two lists on equal sides
+  -- that end with the same blends have lines that cover the same points.
+  pub are-grids : Tight (P .lines .w) (P .lines .h) (meshBy P cs) blends
+  pub same-lines : (Q : Plain) → Start Q → Q .lines .w ≡ P .lines .w → Q .lines .h ≡ P .lines .h → (ds : List Call) → Tabled (leftBy Q ds) blends →
+      Coarser (meshBy P cs) (meshBy Q ds) × Coarser (meshBy Q ds) (meshBy P cs)
+  -- Refusal 8, of every split that follows the list and passes 3 to 7: by its ends.
+  pub by-ends : (s : Split) → let m = leftBy P cs in given (plain m .lines) s ≡ 0 → ByEnds m s
   -- Document 02, L1: where the value at each anchor (m, n), as the table calls give them after the list, is A + B × m + C × n + D × m × n, the reading at
   -- every whole point (u, v) of the domain is A + B × u + C × v + D × u × v.
   pub straight : (A B C D : ℤ) → ValuesStraight (leftBy P cs) A B C D → ReadsStraight (leftBy P cs) blends (P .lines .w) (P .lines .h) A B C D
