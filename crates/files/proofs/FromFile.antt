@@ -14,7 +14,7 @@ use Rattle.maps.specs.Demand.{leftBy, DemandFrom}
 use Rattle.maps.proofs.Readings.{Valued}
 use Rattle.maps.proofs.Reached.{Reached, holds-reached, fresh-reached, Leads, ending-leads}
 use Rattle.maps.proofs.Rebuilding.{AcceptedTo, accepted-join, accepted-ends, accepted-more, library-accepts, ending-join, outcomes-join, withValues, splits-drawn, value-set}
-use Rattle.maps.proofs.Demand3.{both-tabled, reached-demand, demand-three}
+use Rattle.maps.proofs.Demand3.{both-tabled, both-lined, reached-demand, demand-three}
 use Rattle.maps.proofs.Following.{ending-follows}
 use Rattle.files.specs.File.{guessed}
 use Rattle.files.specs.Calls.{readFile}
@@ -107,6 +107,8 @@ from-file bytes e =
       same-blends = λ other o wide tall cs ds f g bs tabled.
           rw (read-record bytes e) at
           (both-tabled P (readPlain other) at (read-reached other o) wide tall cs ds f g bs (rw (← read-record other o) at tabled));
+      same-lines = λ other o wide tall cs ds bs tabled others.
+          both-lined P (readPlain other) at (read-reached other o) wide tall cs ds bs (rw (← read-record bytes e) at tabled) (rw (← read-record other o) at others);
     }
 
 -- Writes and payloads leave the map that they got, so they are left out of a list and it answers and ends as before.

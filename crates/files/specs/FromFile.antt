@@ -53,6 +53,11 @@ pub record FromFile (bytes : List ℕ) : Type 0 where
       let P = readPlain bytes in let Q = readPlain other in Q .lines .w ≡ P .lines .w → Q .lines .h ≡ P .lines .h → (cs ds : List Call) →
       Coarser (meshBy P cs) (meshBy Q ds) → Coarser (meshBy Q ds) (meshBy P cs) →
       (bs : List Blend) → Tabled (ending byLibrary (readFile other .map) ds) bs → Tabled (ending byLibrary (readFile bytes .map) cs) bs
+  -- And those that end with the same blends have lines that cover the same points.
+  pub same-lines : (other : List ℕ) → readFile other .number ≡ 0 →
+      let P = readPlain bytes in let Q = readPlain other in Q .lines .w ≡ P .lines .w → Q .lines .h ≡ P .lines .h → (cs ds : List Call) →
+      (bs : List Blend) → Tabled (ending byLibrary (readFile bytes .map) cs) bs → Tabled (ending byLibrary (readFile other .map) ds) bs →
+      Coarser (meshBy P cs) (meshBy Q ds) × Coarser (meshBy Q ds) (meshBy P cs)
 
 -- "Writing and asking for a record's payload change no map, so they may come anywhere between these calls": a call of such a list, on the map,
 -- a write of it to a lent buffer, or a payload at a byte place of lent bytes.
