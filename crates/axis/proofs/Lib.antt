@@ -12,3 +12,5 @@ pub mod Scale
 pub mod Hats
 pub mod Sums
 pub mod Gaps
+pub mod Runs
+pub mod Sides

@@ -1,6 +1,6 @@
 -- One axis of a blend: document 01, "Blends", on one triple (l, m, r) of knots. Nothing here knows how many axes there are.
 use Prim.Native.Nat.{ℕ, _+_, _-_, _*_, _≤_, _<_, min, max}
-use mathlib.Core.Bool.{Bool, _&&_, not, cond}
+use mathlib.Core.Bool.{Bool, _&&_, _||_, not, cond}
 use lib.Dec.{ltb, leb, eqb}
 use Rattle.axis.specs.Fraction.{Fraction}
 use Rattle.axis.specs.declared.Triple.{Triple}
@@ -51,6 +51,15 @@ stepsIn side t = min (t .r) (side + 1) - max (t .l) 1
 -- knot z lies strictly between l and r
 abbrev pub between : ℕ → Triple → Bool
 between z t = ltb (t .l) z && ltb z (t .r)
+
+-- knot z lies strictly inside one part of the triple: the lower, l to m, or the upper, m to r
+abbrev pub knotIn : Side → ℕ → Triple → Bool
+knotIn lower z t = ltb (t .l) z && ltb z (t .m)
+knotIn upper z t = ltb (t .m) z && ltb z (t .r)
+
+-- z is one of its three knots
+abbrev pub isKnot : ℕ → Triple → Bool
+isKnot z t = eqb z (t .l) || eqb z (t .m) || eqb z (t .r)
 
 abbrev pub sameTriple : Triple → Triple → Bool
 sameTriple s t = eqb (s .l) (t .l) && eqb (s .m) (t .m) && eqb (s .r) (t .r)

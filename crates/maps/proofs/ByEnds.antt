@@ -2,10 +2,10 @@
 use Prim.Native.Nat.{ℕ}
 use mathlib.Core.Path.{_≡_, refl, sym, ap, subst, _∙_}
 use mathlib.Core.Bool.{Bool, true, false, cond}
-use mathlib.Core.List.{List, [], _∷_, _++_}
+use mathlib.Core.List.{[], _∷_, _++_}
 use lib.Dec.{eqb}
 use Rattle.mesh.specs.declared.Split.{Split}
-use Rattle.mesh.specs.Splits.{given, exactNumber, chosen}
+use Rattle.mesh.specs.Splits.{given, exactNumber}
 use Rattle.mesh.specs.Ends.{goodEnds, nearestGood, TwoLooks}
 use Rattle.mesh.proofs.Passing.{exact-says}
 use Rattle.mesh.proofs.TightMaps.{Built}
@@ -15,7 +15,7 @@ use Rattle.maps.specs.declared.Map.{Map}
 use Rattle.maps.specs.Plain.{Plain}
 use Rattle.maps.specs.Values.{drawn}
 use Rattle.maps.specs.Record.{recordOf, plain}
-use Rattle.maps.specs.Histories.{exact, lengthened, number, Outcome, outcome, firstDrawn, byLibrary, byMachine}
+use Rattle.maps.specs.Histories.{exact, lengthened, number, Outcome, outcome, byLibrary, byMachine}
 use Rattle.maps.specs.Demand.{recorded, ByEnds}
 use Rattle.maps.proofs.GoodRecords.{replays-stands, record-good}
 use Rattle.maps.proofs.Reached.{Reached, drawn-leads}

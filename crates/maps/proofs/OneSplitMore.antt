@@ -1,12 +1,12 @@
 -- Lines whose live blends are in hand, and what one split more does to them.
-use Prim.Native.Nat.{ℕ, zero, suc, _+_, _≤_, _<_}
+use Prim.Native.Nat.{ℕ, _+_, _≤_, _<_}
 use native.Mathlib.Omega.{arith}
 use native.Mathlib.Numerals.{add-one}
 use mathlib.Core.Path.{_≡_, refl, sym, ap, _∙_}
-use mathlib.Core.Bool.{Bool, true, false, cond, _&&_, not}
+use mathlib.Core.Bool.{true, false, _&&_}
 use mathlib.Core.List.{[], _∷_, _++_}
-use borrow.Author.Tests.{leb-true, leb-false, le-leb, ne-eqb, not-false}
-use lib.Dec.{leb, eqb}
+use borrow.Author.Tests.{leb-true, le-leb}
+use lib.Dec.{leb}
 use lib.ListN.{length, length-append}
 use lib.Seq.{take-suc-set, length-take-le}
 use Rattle.mesh.specs.declared.Split.{Split}
@@ -14,7 +14,7 @@ use Rattle.mesh.specs.declared.Lines.{Lines}
 use Rattle.mesh.specs.declared.Table.{Table}
 use Rattle.mesh.specs.declared.Found.{Found}
 use Rattle.axis.specs.Range.{all, any}
-use Rattle.mesh.specs.Lines.{Layout, layout, layoutOf, mesh, splitsOf, allowed, allowedSide, inRange, shares, ended, meshOf}
+use Rattle.mesh.specs.Lines.{layout, layoutOf, mesh, splitsOf, allowed, allowedSide, inRange, meshOf}
 use Rattle.mesh.specs.Blends.{isCut, live, firstFour}
 use Rattle.mesh.specs.Sound.{table, proper, blendsOf, full, fitted, refined, someCut}
 use Rattle.axis.proofs.Tests.{and-both, and-of, all-of, all-append}
@@ -26,7 +26,7 @@ use Rattle.mesh.proofs.Live.{finer-fitted}
 use Rattle.mesh.proofs.Fresh.{first-proper, fresh-live, fresh-sound}
 use Rattle.mesh.proofs.AtMost.{at-most}
 use Rattle.mesh.proofs.SoundMaps.{live-proper}
-use Rattle.mesh.specs.Splits.{liveOf, withLine, soundWith, given, exactNumber}
+use Rattle.mesh.specs.Splits.{liveOf, withLine, soundWith}
 use Rattle.maps.specs.Record.{linesOf}
 use Rattle.maps.specs.Inner.{withSplit, HasTable}
 use Rattle.mesh.proofs.OneLineMore.{more-finer}

@@ -6,19 +6,17 @@ use native.Mathlib.Nat.{mul-div-cancel, div-le-of-le-mul}
 use mathlib.Core.Path.{_≡_, refl, sym, ap, ap₂, _∙_}
 use mathlib.Core.Logic.{⊎-elim}
 use mathlib.Core.Bool.{true, false}
-use mathlib.Core.List.{List, [], _∷_, _++_, List·Memᴰ, Memᴰ·append-left}
+use mathlib.Core.List.{List, [], _∷_, List·Memᴰ}
 use borrow.Author.Tests.{eqb-true, ltb-true}
 use lib.Dec.{eqb, ltb}
 use lib.ListN.{length, getD, length-map, length-set}
 use lib.Seq.{getD-set-same, getD-set-other}
 use Rattle.mesh.specs.declared.Split.{Split}
 use Rattle.mesh.specs.declared.Blend.{Blend}
-use Rattle.axis.specs.Range.{any}
-use Rattle.mesh.specs.Lines.{mesh, freshMesh, draws, meshOf}
+use Rattle.mesh.specs.Lines.{meshOf}
 use Rattle.mesh.specs.Blends.{anchored}
-use Rattle.mesh.specs.Order.{Coarser}
 use Rattle.mesh.specs.Sound.{none, proper, sound}
-use Rattle.axis.proofs.Tests.{either, and-both, or-either, or-left, or-right, any-at, any-of, cond-true, cond-false}
+use Rattle.axis.proofs.Tests.{either, and-both, cond-true, cond-false}
 use Rattle.mesh.proofs.OneLineMore.{more-finer}
 use Rattle.mesh.proofs.Order.{finer-back, keeps-anchor}
 use Rattle.mesh.proofs.Cuts.{proper-facts, proper-rises}

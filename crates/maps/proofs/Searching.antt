@@ -5,16 +5,15 @@ use mathlib.Core.Path.{_≡_, refl, sym, ap, _∙_}
 use mathlib.Core.Logic.{⊎-elim}
 use mathlib.Core.Bool.{Bool, true, false, _&&_, not}
 use mathlib.Core.List.{List, [], _∷_, _++_, append-assoc}
-use borrow.Author.Tests.{leb-true, le-leb, lt-leb, lt-ltb, eqb-true}
-use lib.Dec.{leb, ltb, eqb}
+use borrow.Author.Tests.{leb-true, le-leb, lt-leb}
+use lib.Dec.{leb, eqb}
 use lib.ListN.{take}
 use Rattle.mesh.specs.declared.Split.{Split}
 use Rattle.mesh.specs.declared.Lines.{Lines}
 use Rattle.mesh.specs.declared.Table.{Table}
 use Rattle.axis.specs.Range.{each, only}
-use Rattle.mesh.specs.Lines.{Layout, layoutOf, upright, level, inRange, shares, ended, fits, meshOf}
+use Rattle.mesh.specs.Lines.{Layout, layoutOf, inRange, shares, ended, fits, meshOf}
 use Rattle.axis.proofs.Tests.{either, and-both, and-of, and-first, false-of, cond-true, cond-false, each-turn, each-none, each-skips, each-empty}
-use Rattle.mesh.proofs.Ranges.{in-range-says}
 use Rattle.mesh.proofs.Containing.{line}
 use Rattle.maps.specs.declared.splits.Step.{Step}
 use Rattle.mesh.specs.Splits.{given, soundWith, reaching, run, containing, candidate, chosen}

@@ -10,7 +10,7 @@ use Rattle.axis.specs.Triple.{Side, lower, upper}
 use Rattle.axis.proofs.Tests.{either}
 use Rattle.axis.proofs.Parts.{OnSide}
 use Rattle.mesh.specs.declared.Blend.{Blend}
-use Rattle.mesh.proofs.View.{View, turn, flip, Live, In, Over, Knot, SoundView, TightView, turn-sound, turn-tight, flip-tight}
+use Rattle.mesh.proofs.View.{View, turn, flip, Live, Over, Knot, SoundView, TightView, turn-sound, turn-tight, flip-tight}
 use Rattle.mesh.proofs.Neighbours.{neighbours, grid-at, level-at}
 
 -- an upright and a level pass through a point of the domain; and a live blend has its anchor there

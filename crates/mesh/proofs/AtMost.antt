@@ -9,7 +9,7 @@ use mathlib.Core.List.{List, [], _∷_, map, List·Memᴰ}
 use mathlib.Core.List.List·Memᴰ.{List·Memᴰ·head, List·Memᴰ·tail}
 use lib.Dec.{leb, ltb, eqb}
 use lib.ListN.{length, length-append, length-map}
-use borrow.Author.Tests.{eqb-true, eq-eqb, ne-eqb, lt-ltb, leb-true, leb-false}
+use borrow.Author.Tests.{eqb-true, ne-eqb, leb-true, leb-false}
 use Rattle.axis.specs.Limits.{largestSide, mostSplits, mostBlends}
 use Rattle.axis.specs.Range.{any, only, joined, Distinct}
 use Rattle.mesh.specs.Lines.{Direction, upright, level, mesh, freshMesh, draws, start, end, number, other, side}
@@ -18,7 +18,7 @@ use Rattle.mesh.specs.Sound.{sound}
 use Rattle.mesh.specs.declared.Split.{Split}
 use Rattle.axis.specs.declared.Triple.{Triple}
 use Rattle.mesh.specs.declared.Blend.{Blend}
-use Rattle.axis.proofs.Tests.{either, and-both, and-of, or-either, or-left, any-at, mem-only, mem-joined}
+use Rattle.axis.proofs.Tests.{either, and-both, or-either, or-left, any-at, mem-only, mem-joined}
 use Rattle.axis.proofs.Distinct.{distinct-length, map-distinct}
 use Rattle.axis.proofs.Members.{map-mem, mem-map}
 use Rattle.axis.proofs.Triples.{Knots, First, is-low, is-high, AtFresh}

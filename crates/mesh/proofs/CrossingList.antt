@@ -3,35 +3,35 @@ use Prim.Native.Nat.{ℕ, zero, suc, _+_, _-_, _≤_, _<_}
 use native.Mathlib.Omega.{arith}
 use mathlib.Core.Path.{_≡_, refl, sym, ap, subst, _∙_}
 use mathlib.Core.Logic.{_⊎_, inl, inr, ⊎-elim}
-use mathlib.Core.Bool.{Bool, true, false, cond, _&&_, _||_}
+use mathlib.Core.Bool.{Bool, true, false, cond, _||_}
 use mathlib.Core.List.{List, [], _∷_, _++_, map, List·Memᴰ, List·Memᴰ·not-nil}
 use mathlib.Core.List.List·Memᴰ.{List·Memᴰ·head}
 use lib.Dec.{leb, ltb, eqb}
 use lib.ListN.{length}
 use borrow.Author.Tests.{eqb-true, eqb-false, eq-eqb, leb-true, leb-false, ltb-true}
 use Rattle.axis.specs.Range.{each, all, any, only}
-use Rattle.axis.specs.Triple.{Side, lower, upper}
+use Rattle.axis.specs.Triple.{lower, upper}
 use Rattle.axis.specs.declared.Triple.{Triple}
 use Rattle.axis.proofs.Tests.{either, true-not-false, and-both, and-of, or-either, or-left, or-right, same-test, all-at, any-at, any-of, only-mem, mem-only, each-same}
 use Rattle.axis.proofs.Counts.{one-at-most}
 use Rattle.axis.proofs.Triples.{Knots, AtFresh}
-use Rattle.mesh.specs.Lines.{Direction, upright, level, other, side, direction, Mesh, mesh, freshMesh, draws, inRange, Layout, meshOf}
+use Rattle.axis.proofs.Sides.{from, KnotOf}
+use Rattle.mesh.specs.Lines.{Direction, upright, level, other, side, direction, mesh, freshMesh, draws, inRange, Layout, meshOf}
 use Rattle.mesh.specs.Blends.{anchored, once, leavesOf, inTableOrder, refine, live, firstFour}
 use Rattle.mesh.specs.Order.{Coarser}
 use Rattle.mesh.specs.Sound.{sound}
 use Rattle.mesh.specs.Splits.{liveOf}
-use Rattle.mesh.specs.Crossings.{Point, point, passes, crosses, crossings, anchors, onGrid, Tight}
+use Rattle.mesh.specs.Crossings.{point, passes, crosses, crossings, anchors, onGrid, Tight}
 use Rattle.mesh.specs.declared.Split.{Split}
 use Rattle.mesh.specs.declared.Blend.{Blend}
 use Rattle.mesh.proofs.TableOrder.{anchored-at, order-mem, mem-order, once-distinct}
-use Rattle.mesh.proofs.Places.{proper-anchored}
 use Rattle.mesh.proofs.SoundMaps.{own-anchors}
-use Rattle.mesh.proofs.Quadrants.{facts, four-unnested}
+use Rattle.mesh.proofs.Quadrants.{four-unnested}
 use Rattle.mesh.proofs.Fresh.{fresh-positions, fresh-line}
-use Rattle.mesh.proofs.View.{View, SoundView}
-use Rattle.mesh.proofs.AnchorsCross.{Crossing, Anchor, crossing-anchored, anchor-crosses}
+use Rattle.mesh.proofs.View.{SoundView}
+use Rattle.mesh.proofs.AnchorsCross.{Crossing, crossing-anchored, anchor-crosses}
 use Rattle.mesh.proofs.MapView.{live-grid}
-use Rattle.mesh.proofs.Grids.{KnotOf, OnGrid, grid-says, grid-of}
+use Rattle.mesh.proofs.Grids.{grid-says, grid-of}
 use Rattle.mesh.proofs.OneLineMore.{Ranged, Row, ranged, draws-says, draws-of}
 use Rattle.mesh.proofs.TightMaps.{Built, Gridded, viewOf, soundOf, tight-view}
 

@@ -1,40 +1,27 @@
 -- A line drawn in a gap at an upright position, between good ends: what it cuts, and that it leaves no square with two blends in one quadrant.
 use Prim.Native.Nat.{ℕ, _+_, _-_, _≤_, _<_}
 use native.Mathlib.Omega.{arith}
-use mathlib.Core.Path.{_≡_, refl, sym, ap, subst, _∙_}
+use mathlib.Core.Path.{_≡_, sym, ap, subst, _∙_}
 use mathlib.Core.Logic.{_⊎_, inl, inr, ⊎-elim}
 use mathlib.Core.Bool.{Bool, true, false}
 use lib.Dec.{leb, ltb, eqb}
 use borrow.Author.Tests.{leb-true, leb-false, ltb-true, ltb-false, eqb-true, eqb-false}
 use Rattle.axis.specs.Triple.{triple, Side, lower, upper, RisesIn}
-use Rattle.axis.specs.declared.Triple.{Triple}
 use Rattle.axis.proofs.Tests.{either, true-not-false}
 use Rattle.axis.proofs.Parts.{OnSide}
 use Rattle.axis.proofs.Triples.{Inside}
+use Rattle.axis.proofs.Sides.{StepIn, KnotIn, opposite, from, to, knot-step, mirror, in-mirror}
 use Rattle.mesh.specs.declared.Blend.{Blend}
-use Rattle.mesh.proofs.View.{View, turn, flip, swap, opposite, mirror, Live, In, Parts, Over, Knot, SoundView, TightView, turn-sound, flip-tight, swap-tight, flipped, on-mirror, in-mirror}
-use Rattle.mesh.proofs.Neighbours.{Compared, less, equal, more, compare, neighbours, level-at, Abreast, Ended, line-ends, outward, flip-abreast}
-
--- the part of a blend's triple in which the upright lies: where it begins and where it ends
-abbrev pub from : Side → Triple → ℕ
-from lower t = t .l
-from upper t = t .m
-
-abbrev pub to : Side → Triple → ℕ
-to lower t = t .m
-to upper t = t .r
-
-pub parts-in : (x : Side) (z : ℕ) (t : Triple) → Parts x z t → In x z t
-parts-in lower z t p = (omega arith, omega arith)
-parts-in upper z t p = (omega arith, omega arith)
+use Rattle.mesh.proofs.View.{View, turn, flip, swap, Live, Over, SoundView, TightView, turn-sound, flip-tight, swap-tight, flipped, on-mirror}
+use Rattle.mesh.proofs.Neighbours.{neighbours, level-at, Abreast, Ended, line-ends, outward, flip-abreast}
 
 module _ (Q : View) (t : TightView Q) where
   s : SoundView Q
   s = t .is-sound
 
   -- a blend over column z and a row in which the upright z has no step: z lies strictly inside one of its parts
-  pub astride : (x : Side) (B : Blend) (z k : ℕ) → Live Q B → In x z (Q .across B) → Q .up B .l ≤ k → k < Q .up B .r → Q .uprights z k ≡ false →
-      Parts x z (Q .across B)
+  pub astride : (x : Side) (B : Blend) (z k : ℕ) → Live Q B → StepIn x z (Q .across B) → Q .up B .l ≤ k → k < Q .up B .r → Q .uprights z k ≡ false →
+      KnotIn x z (Q .across B)
   astride lower B z k m i lo hi off =
       (⊎-elim (λ e. let same = eqb-true (Q .across B .l) z e in
       absurd (true-not-false _ (subst (λ (n : ℕ). Q .uprights n k ≡ true) same (s .x .grid B m k lo hi .l)) off))
@@ -68,7 +55,7 @@ module _ (Q : View) (t : TightView Q) where
   -- a blend over column z, and a level w strictly inside it
   pub record Holding (z w : ℕ) (x : Side) (B : Blend) : Type 0 where
     pub live : Live Q B
-    pub column : In x z (Q .across B)
+    pub column : StepIn x z (Q .across B)
     pub lo : Q .up B .l < w
     pub hi : w < Q .up B .r
 
@@ -181,10 +168,10 @@ module _ (Q : View) (t : TightView Q) where
     under x k lo hi =
         let at = e .anchored x in
         let start = e .reaches x in
-        record { live = e .live x; column = parts-in x z _ (e .over x); row = (omega arith, omega arith) }
+        record { live = e .live x; column = knot-step x z _ (e .over x); row = (omega arith, omega arith) }
 
     -- a blend over the upright on both sides of the level is one of them,
-    pub met : (x : Side) (B : Blend) → Live Q B → Parts x z (Q .across B) → Q .up B .l < a → a < Q .up B .r → B ≡ e .at x
+    pub met : (x : Side) (B : Blend) → Live Q B → KnotIn x z (Q .across B) → Q .up B .l < a → a < Q .up B .r → B ≡ e .at x
     met x B m p lo hi =
         let at = e .anchored x in
         let start = e .reaches x in
@@ -192,9 +179,9 @@ module _ (Q : View) (t : TightView Q) where
         ⊎-elim
         (λ f. let le = leb-true a (Q .up B .m) f in
         s .one x lower z (a - 1) B (e .at x) hz (omega arith, omega arith)
-        (record { live = m; column = parts-in x z _ p; row = (omega arith, omega arith) }) (under x (a - 1) (omega arith) (omega arith)))
+        (record { live = m; column = knot-step x z _ p; row = (omega arith, omega arith) }) (under x (a - 1) (omega arith) (omega arith)))
         (λ f. let lt = leb-false a (Q .up B .m) f in
-        let n = neighbours Q s hz (omega arith, omega arith) (record { live = m; column = parts-in x z _ p; row = (omega arith, omega arith) }) (under x (a - 1) (omega arith) (omega arith)) in
+        let n = neighbours Q s hz (omega arith, omega arith) (record { live = m; column = knot-step x z _ p; row = (omega arith, omega arith) }) (under x (a - 1) (omega arith) (omega arith)) in
         absurd (omega arith))
         (either (leb a (Q .up B .m)))
 
@@ -222,7 +209,7 @@ module _ (Q : View) (t : TightView Q) (z a : ℕ) (hz : OnSide (Q .w) z) (ha : (
   abbrev mirrored : (1 < Q .h + 2 - a) × (Q .h + 2 - a < Q .h + 1)
   mirrored = (omega arith, omega arith)
 
-  pub met-at : (e : Side) (b : Abreast Q e z a) (x : Side) (B : Blend) → Live Q B → Parts x z (Q .across B) → Q .up B .l < a → a < Q .up B .r → B ≡ b .at x
+  pub met-at : (e : Side) (b : Abreast Q e z a) (x : Side) (B : Blend) → Live Q B → KnotIn x z (Q .across B) → Q .up B .l < a → a < Q .up B .r → B ≡ b .at x
   unfolding flip-abreast
   met-at upper b x B m p lo hi = met Q t z a hz ha b x B m p lo hi
   met-at lower b x B m p lo hi =
@@ -282,7 +269,7 @@ swap-good Q s e z a hz (blends i off b) =
       reaches = λ x. b .reaches (opposite x);
     })
   where
-    over : (x : Side) → Parts x (Q .w + 2 - z) (mirror (Q .w) (Q .across (b .at (opposite x))))
+    over : (x : Side) → KnotIn x (Q .w + 2 - z) (mirror (Q .w) (Q .across (b .at (opposite x))))
     over lower = let r = s .x .rises (b .at upper) (b .live upper) in let o = b .over upper in (omega arith, omega arith)
     over upper = let r = s .x .rises (b .at lower) (b .live lower) in let o = b .over lower in (omega arith, omega arith)
 
@@ -310,12 +297,12 @@ module _ (Q : View) (t : TightView Q) (z a b : ℕ) (drawn : ℕ → Bool) (d : 
   abbrev column : OnSide (Q .w) z
   column = let i = d .inner in (omega arith, omega arith)
 
-  entered : (x : Side) (B : Blend) → Live Q B → Parts x z (Q .across B) → Inside z (Q .across B)
+  entered : (x : Side) (B : Blend) → Live Q B → KnotIn x z (Q .across B) → Inside z (Q .across B)
   entered lower B m p = let r = sound .x .rises B m in record { lo = omega arith; hi = omega arith; off = omega arith }
   entered upper B m p = let r = sound .x .rises B m in record { lo = omega arith; hi = omega arith; off = omega arith }
 
   -- A level strictly inside a cut blend does not lie below the line,
-  level-low : (x : Side) (B : Blend) → Live Q B → Parts x z (Q .across B) → CutBy Q drawn B → (w : ℕ) → Q .levels w z ≡ true →
+  level-low : (x : Side) (B : Blend) → Live Q B → KnotIn x z (Q .across B) → CutBy Q drawn B → (w : ℕ) → Q .levels w z ≡ true →
       Q .up B .l < w → w < Q .up B .r → a ≤ w
   level-low x B m p c w on lo hi =
       ⊎-elim (λ e. leb-true a w e) (λ e. absurd (under (leb-false a w e))) (either (leb a w))
@@ -397,7 +384,7 @@ cut-flip Q s drawn B m c k lo hi =
 
 module _ (Q : View) (t : TightView Q) (z a b : ℕ) (drawn : ℕ → Bool) (d : Drawn Q z a b drawn) where
   -- nor above it.
-  level-high : (x : Side) (B : Blend) → Live Q B → Parts x z (Q .across B) → CutBy Q drawn B → (w : ℕ) → Q .levels w z ≡ true →
+  level-high : (x : Side) (B : Blend) → Live Q B → KnotIn x z (Q .across B) → CutBy Q drawn B → (w : ℕ) → Q .levels w z ≡ true →
       Q .up B .l < w → w < Q .up B .r → w ≤ b
   level-high x B m p c w on lo hi =
       let r = t .is-sound .y .rises B m in
@@ -408,7 +395,7 @@ module _ (Q : View) (t : TightView Q) (z a b : ℕ) (drawn : ℕ → Bool) (d : 
       omega arith
 
   -- A blend that the upright enters is covered below the line, unless it is one abreast of the line's lower end;
-  rows-below : (x : Side) (B : Blend) → Live Q B → Parts x z (Q .across B) → Q .up B .l < a → a < Q .up B .r →
+  rows-below : (x : Side) (B : Blend) → Live Q B → KnotIn x z (Q .across B) → Q .up B .l < a → a < Q .up B .r →
       ((1 < a) × (a < Q .h + 1) → (e : Abreast Q lower z a) → Q .uprights z (a - 1) ≡ false → B ≡ e .at x → ⊥) → (k : ℕ) → Q .up B .l ≤ k → k < a → drawn k ≡ true
   rows-below x B m p lo hi apart k klo khi = by (d .low-end)
     where
@@ -427,7 +414,7 @@ module _ (Q : View) (t : TightView Q) (z a b : ℕ) (drawn : ℕ → Bool) (d : 
           absurd (apart i e off (met-at Q t z a (omega arith, omega arith) i lower e x B m p lo hi))
 
   -- and above it, if its anchor lies below the upper end, only past the edge.
-  rows-above : (x : Side) (B : Blend) → Live Q B → Parts x z (Q .across B) → Q .up B .m < b → (k : ℕ) → b ≤ k → k < Q .up B .r → drawn k ≡ true
+  rows-above : (x : Side) (B : Blend) → Live Q B → KnotIn x z (Q .across B) → Q .up B .m < b → (k : ℕ) → b ≤ k → k < Q .up B .r → drawn k ≡ true
   rows-above x B m p lo k klo khi = by (d .high-end)
     where
       rise : (Q .up B .l < b) × (b < Q .up B .r)
@@ -453,7 +440,7 @@ module _ (Q : View) (t : TightView Q) (z a b : ℕ) (drawn : ℕ → Bool) (d : 
 
   -- X is cut, and w is a level strictly inside it that has a step beside the line. In the square above and right of that point, the blend with
   -- its anchor below and left of the square is cut as well.
-  module _ (x : Side) (X : Blend) (m : Live Q X) (p : Parts x z (Q .across X)) (c : CutBy Q drawn X)
+  module _ (x : Side) (X : Blend) (m : Live Q X) (p : KnotIn x z (Q .across X)) (c : CutBy Q drawn X)
       (w : ℕ) (on : Q .levels w z ≡ true) (lo : Q .up X .l < w) (hi : w < Q .up X .r) (row : w ≤ Q .h) where
     abbrev side : OnSide (Q .w) z
     side = let i = d .inner in (omega arith, omega arith)
@@ -465,7 +452,7 @@ module _ (Q : View) (t : TightView Q) (z a b : ℕ) (drawn : ℕ → Bool) (d : 
     over = sound Q t z a b drawn d .some upper upper z w side (omega arith, omega arith) .1
 
     record Entered (B : Blend) : Type 0 where
-      astride : Parts upper z (Q .across B)
+      astride : KnotIn upper z (Q .across B)
       cut : CutBy Q drawn B
 
     -- where the level is that of the line's upper end, and the line goes on from there
@@ -477,10 +464,10 @@ module _ (Q : View) (t : TightView Q) (z a b : ℕ) (drawn : ℕ → Bool) (d : 
         let anchor = r .abreast .anchored upper in
         let rise = v .y .rises A (r .abreast .live upper) in
         let is = v .one upper upper z w B A side (omega arith, omega arith) o
-        (record { live = r .abreast .live upper; column = parts-in upper z (Q .across A) (r .abreast .over upper); row = (omega arith, omega arith) }) in
-        known B o e is (subst (λ (D : Blend). Parts upper z (Q .across D)) {x = A} (sym is) (r .abreast .over upper))
+        (record { live = r .abreast .live upper; column = knot-step upper z (Q .across A) (r .abreast .over upper); row = (omega arith, omega arith) }) in
+        known B o e is (subst (λ (D : Blend). KnotIn upper z (Q .across D)) {x = A} (sym is) (r .abreast .over upper))
       where
-        known : (B : Blend) → Over Q upper upper z w B → w ≡ b → B ≡ r .abreast .at upper → Parts upper z (Q .across B) → Entered B
+        known : (B : Blend) → Over Q upper upper z w B → w ≡ b → B ≡ r .abreast .at upper → KnotIn upper z (Q .across B) → Entered B
         known B o e is par =
             let range = d .range in
             let anchor = r .abreast .anchored upper in
@@ -533,7 +520,7 @@ module _ (Q : View) (t : TightView Q) (z a b : ℕ) (drawn : ℕ → Bool) (d : 
         }
       where
         -- a blend abreast of the lower end has no level beside the line above its anchor
-        apart : Parts upper z (Q .across B) → (1 < a) × (a < Q .h + 1) → (e : Abreast Q lower z a) → Q .uprights z (a - 1) ≡ false → B ≡ e .at upper → ⊥
+        apart : KnotIn upper z (Q .across B) → (1 < a) × (a < Q .h + 1) → (e : Abreast Q lower z a) → Q .uprights z (a - 1) ≡ false → B ≡ e .at upper → ⊥
         apart par i e off is =
             let range = d .range in
             let row-of = o .row in
@@ -558,7 +545,7 @@ module _ (Q : View) (t : TightView Q) (z a b : ℕ) (drawn : ℕ → Bool) (d : 
 
     pub also-cut : (next : ℕ) → ((v : ℕ) → w < v → v < next → Q .levels v z ≡ true → ⊥) →
         (j k : ℕ) → z ≤ j → j < to x (Q .across X) → w ≤ k → k < next → OnSide (Q .w) j → OnSide (Q .h) k →
-        (B : Blend) → Over Q upper upper j k B → Parts upper z (Q .across B) × CutBy Q drawn B
+        (B : Blend) → Over Q upper upper j k B → KnotIn upper z (Q .across B) × CutBy Q drawn B
     also-cut next none j k jlo jhi klo khi hj hk B o =
         let v = sound Q t z a b drawn d in
         let r = v .y .rises Y (over .live) in
@@ -567,7 +554,7 @@ module _ (Q : View) (t : TightView Q) (z a b : ℕ) (drawn : ℕ → Bool) (d : 
         let col = over .column in
         let in-there = entered-there in
         let par = in-there .astride in
-        let same = agree Q t z w side on x upper X Y (record { live = m; column = parts-in x z _ p; lo = lo; hi = hi })
+        let same = agree Q t z w side on x upper X Y (record { live = m; column = knot-step x z _ p; lo = lo; hi = hi })
         (record { live = over .live; column = over .column; lo = omega arith; hi = over .row .1 }) in
         let end = same .1 in
         let above : k < Q .up Y .r =
@@ -575,13 +562,13 @@ module _ (Q : View) (t : TightView Q) (z a b : ℕ) (drawn : ℕ → Bool) (d : 
         (λ e. let le = ltb-false k (Q .up Y .r) e in absurd (none (Q .up Y .r) (over .row .1) (omega arith) (v .y .grid Y (over .live) z (omega arith) (omega arith) .r)))
         (either (ltb k (Q .up Y .r))) in
         let is = v .one upper upper j k B Y hj hk o (record { live = over .live; column = (omega arith, omega arith); row = (omega arith, above) }) in
-        (subst (λ (C : Blend). Parts upper z (Q .across C)) (sym is) par, subst (CutBy Q drawn) (sym is) (in-there .cut))
+        (subst (λ (C : Blend). KnotIn upper z (Q .across C)) (sym is) par, subst (CutBy Q drawn) (sym is) (in-there .cut))
 
 -- What a cut blend leaves beside the line, about level w: it reaches over the part of the blend's triple in which the line lies, up from level u to
 -- level v, and no other level between those has a step beside the line.
 pub record Piece (Q : View) (z : ℕ) (drawn : ℕ → Bool) (x : Side) (X : Blend) (u w v : ℕ) : Type 0 where
   pub live : Live Q X
-  pub astride : Parts x z (Q .across X)
+  pub astride : KnotIn x z (Q .across X)
   pub cut : CutBy Q drawn X
   pub lo : Q .up X .l < w
   pub hi : w < Q .up X .r
@@ -594,10 +581,10 @@ pub record Piece (Q : View) (z : ℕ) (drawn : ℕ → Bool) (x : Side) (X : Ble
 -- A square in one of its quadrants: the blend of the map before with the square in the same quadrant is cut as well.
 module _ (z a b u w v : ℕ) where
   abbrev Taken : View → (ℕ → Bool) → Side → Side → ℕ → ℕ → Type 0
-  Taken Q drawn p q j k = (B : Blend) → Over Q p q j k B → Parts p z (Q .across B) × CutBy Q drawn B
+  Taken Q drawn p q j k = (B : Blend) → Over Q p q j k B → KnotIn p z (Q .across B) × CutBy Q drawn B
 
   upper-upper : (Q : View) (t : TightView Q) (drawn : ℕ → Bool) → Drawn Q z a b drawn → (x : Side) (X : Blend) → Piece Q z drawn x X u w v →
-      (j k : ℕ) → OnSide (Q .w) j → OnSide (Q .h) k → In upper j (triple (from x (Q .across X)) z (to x (Q .across X))) → In upper k (triple u w v) →
+      (j k : ℕ) → OnSide (Q .w) j → OnSide (Q .h) k → StepIn upper j (triple (from x (Q .across X)) z (to x (Q .across X))) → StepIn upper k (triple u w v) →
       Taken Q drawn upper upper j k
   upper-upper Q t drawn d x X p j k hj hk i e B o =
       also-cut Q t z a b drawn d x X (p .live) (p .astride) (p .cut) w (p .right) (p .lo) (p .hi) (omega arith) v
@@ -643,13 +630,13 @@ swap-piece Q s z i drawn x X u w v p =
       alone-right = λ i a b on. p .alone-left i a b (subst (λ (n : ℕ). Q .levels i n ≡ true) (sym l) on);
     }
   where
-    by : (x : Side) → Parts x z (Q .across X) → Parts (opposite x) (Q .w + 2 - z) (mirror (Q .w) (Q .across X))
+    by : (x : Side) → KnotIn x z (Q .across X) → KnotIn (opposite x) (Q .w + 2 - z) (mirror (Q .w) (Q .across X))
     by lower a = let r = s .x .rises X (p .live) in (omega arith, omega arith)
     by upper a = let r = s .x .rises X (p .live) in (omega arith, omega arith)
 
 module _ (Q : View) (t : TightView Q) (z a b : ℕ) (drawn : ℕ → Bool) (d : Drawn Q z a b drawn) (x : Side) (X : Blend) (u w v : ℕ)
     (p : Piece Q z drawn x X u w v) (j k : ℕ) (hj : OnSide (Q .w) j) (hk : OnSide (Q .h) k) where
-  upper-any : (q : Side) → In upper j (triple (from x (Q .across X)) z (to x (Q .across X))) → In q k (triple u w v) → Taken z a b u w v Q drawn upper q j k
+  upper-any : (q : Side) → StepIn upper j (triple (from x (Q .across X)) z (to x (Q .across X))) → StepIn q k (triple u w v) → Taken z a b u w v Q drawn upper q j k
   upper-any upper i e B o = upper-upper z a b u w v Q t drawn d x X p j k hj hk i e B o
   upper-any lower i e B o =
       let r = p .rises in
@@ -661,7 +648,7 @@ module _ (Q : View) (t : TightView Q) (z a b : ℕ) (drawn : ℕ → Bool) (d : 
 
 swap-any : (Q : View) (t : TightView Q) (z a b : ℕ) (drawn : ℕ → Bool) (d : Drawn Q z a b drawn) (x : Side) (X : Blend) (u w v : ℕ)
     (p : Piece Q z drawn x X u w v) (j k : ℕ) (hj : OnSide (Q .w) j) (hk : OnSide (Q .h) k) (q : Side) →
-    In lower j (triple (from x (Q .across X)) z (to x (Q .across X))) → In q k (triple u w v) → Taken z a b u w v Q drawn lower q j k
+    StepIn lower j (triple (from x (Q .across X)) z (to x (Q .across X))) → StepIn q k (triple u w v) → Taken z a b u w v Q drawn lower q j k
 swap-any Q t z a b drawn d x X u w v p j k hj hk q i e B o =
     let s = t .is-sound in
     let r = s .x .rises B (o .live) in
@@ -672,14 +659,14 @@ swap-any Q t z a b drawn d x X u w v p j k hj hk q i e B o =
     let par = got .0 in
     ((omega arith, omega arith), got .1)
   where
-    turned : (x : Side) → RisesIn (Q .w) (Q .across X) → In lower j (triple (from x (Q .across X)) z (to x (Q .across X))) →
-        In upper (Q .w + 1 - j) (triple (from (opposite x) (mirror (Q .w) (Q .across X))) (Q .w + 2 - z) (to (opposite x) (mirror (Q .w) (Q .across X))))
+    turned : (x : Side) → RisesIn (Q .w) (Q .across X) → StepIn lower j (triple (from x (Q .across X)) z (to x (Q .across X))) →
+        StepIn upper (Q .w + 1 - j) (triple (from (opposite x) (mirror (Q .w) (Q .across X))) (Q .w + 2 - z) (to (opposite x) (mirror (Q .w) (Q .across X))))
     turned lower r i = let inner = d .inner in (omega arith, omega arith)
     turned upper r i = let inner = d .inner in (omega arith, omega arith)
 
 pub taken-too : (Q : View) (t : TightView Q) (z a b : ℕ) (drawn : ℕ → Bool) (d : Drawn Q z a b drawn) (x : Side) (X : Blend) (u w v : ℕ)
     (p : Piece Q z drawn x X u w v) (j k : ℕ) (hj : OnSide (Q .w) j) (hk : OnSide (Q .h) k) (g q : Side) →
-    In g j (triple (from x (Q .across X)) z (to x (Q .across X))) → In q k (triple u w v) →
-    (B : Blend) → Over Q g q j k B → Parts g z (Q .across B) × CutBy Q drawn B
+    StepIn g j (triple (from x (Q .across X)) z (to x (Q .across X))) → StepIn q k (triple u w v) →
+    (B : Blend) → Over Q g q j k B → KnotIn g z (Q .across B) × CutBy Q drawn B
 taken-too Q t z a b drawn d x X u w v p j k hj hk lower q i e = swap-any Q t z a b drawn d x X u w v p j k hj hk q i e
 taken-too Q t z a b drawn d x X u w v p j k hj hk upper q i e = upper-any Q t z a b drawn d x X u w v p j k hj hk q i e

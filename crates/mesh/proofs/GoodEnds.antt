@@ -1,44 +1,34 @@
 -- A line is sound exactly when both its ends are good.
 use Prim.Native.Nat.{ℕ, _+_, _-_, _≤_, _<_}
 use native.Mathlib.Omega.{arith}
-use mathlib.Core.Path.{_≡_, refl, sym, ap, subst, _∙_}
+use mathlib.Core.Path.{_≡_, refl, sym, subst, _∙_}
 use mathlib.Core.Logic.{_⊎_, inl, inr, ⊎-elim}
-use mathlib.Core.Bool.{Bool, true, false, _&&_, _||_}
-use mathlib.Core.List.{List, List·Memᴰ}
-use lib.Dec.{leb, ltb, eqb}
-use borrow.Author.Tests.{eqb-true, eqb-false, eq-eqb, ltb-true, ltb-false, lt-ltb}
-use Rattle.axis.specs.Range.{any, some}
-use Rattle.axis.specs.Triple.{triple, Side, lower, upper, half}
-use Rattle.axis.specs.declared.Triple.{Triple}
-use Rattle.axis.proofs.Tests.{either, true-not-false, false-of, and-both, and-of, or-either, or-left, or-right, any-at, any-of, some-fails}
-use Rattle.axis.proofs.Triples.{Rise, Inside}
-use Rattle.mesh.specs.Lines.{Direction, upright, level, other, side, direction, Mesh, Layout, meshOf, shares, ended, onLine}
+use mathlib.Core.Bool.{true, false, _&&_}
+use mathlib.Core.List.{List·Memᴰ}
+use lib.Dec.{eqb}
+use borrow.Author.Tests.{eqb-true, eqb-false, eq-eqb}
+use Rattle.axis.specs.Range.{any}
+use Rattle.axis.specs.Triple.{Side, lower, upper, knotIn}
+use Rattle.axis.proofs.Tests.{either, true-not-false, false-of, and-both, and-of, or-either, or-left, or-right, any-at, any-of}
+use Rattle.axis.proofs.Sides.{KnotIn, from, to, part-says, part-test, Clear, half-clear, still-clear}
+use Rattle.mesh.specs.Lines.{Direction, upright, level, other, side, Mesh, Layout, meshOf, onLine}
 use Rattle.mesh.specs.Blends.{crossed, along, cuts, halve, isCut}
-use Rattle.mesh.specs.Order.{Comes, here, cut, Left}
-use Rattle.mesh.specs.Sound.{fourEverywhere, sound}
+use Rattle.mesh.specs.Order.{Comes, here, cut}
+use Rattle.mesh.specs.Sound.{sound}
 use Rattle.mesh.specs.Splits.{liveOf, withLine, soundWith}
-use Rattle.mesh.specs.Ends.{parts, gapEnds, back, abreast, goodEnd, goodEnds}
+use Rattle.mesh.specs.Ends.{gapEnds, back, abreast, goodEnd}
 use Rattle.mesh.specs.declared.Split.{Split}
 use Rattle.mesh.specs.declared.Blend.{Blend}
 use Rattle.mesh.proofs.Cuts.{RiseB, cut-fact, halve-rises, crossed-rises}
 use Rattle.mesh.proofs.Order.{some-half, left-uncut}
 use Rattle.mesh.proofs.Fresh.{fresh-line}
 use Rattle.mesh.proofs.Quadrants.{four-unnested}
-use Rattle.mesh.proofs.View.{View, Live, Parts, SoundView, TightView}
+use Rattle.mesh.proofs.View.{View}
 use Rattle.mesh.proofs.Neighbours.{Abreast, line-ends, inward, outward, level-at}
 use Rattle.mesh.proofs.Filling.{Good, edge, line, blends, edgeOf, Drawn}
 use Rattle.mesh.proofs.OneLineMore.{Ranged, Row, endOf, more-finer, step-drawn, step-either}
 use Rattle.mesh.proofs.TightMaps.{Built, viewOf, tight-view, still-built}
 use Rattle.mesh.proofs.SoundLines.{cut-either, halve-same, halve-cross, from-before, unless-cut, rise-of, line-four}
-
--- what the tests say
-parts-says : (x : Side) (z : ℕ) (t : Triple) → parts x z t ≡ true → Parts x z t
-parts-says lower z t e = let b = and-both (ltb (t .l) z) (ltb z (t .m)) e in (ltb-true _ _ (b .0), ltb-true _ _ (b .1))
-parts-says upper z t e = let b = and-both (ltb (t .m) z) (ltb z (t .r)) e in (ltb-true _ _ (b .0), ltb-true _ _ (b .1))
-
-parts-of : (x : Side) (z : ℕ) (t : Triple) → Parts x z t → parts x z t ≡ true
-parts-of lower z t p = and-of _ _ (lt-ltb _ _ (p .0)) (lt-ltb _ _ (p .1))
-parts-of upper z t p = and-of _ _ (lt-ltb _ _ (p .0)) (lt-ltb _ _ (p .1))
 
 module _ (P : Layout) (d : Direction) (z : ℕ) (e : Side) (k : ℕ) where
   abbrev Q : View
@@ -46,10 +36,10 @@ module _ (P : Layout) (d : Direction) (z : ℕ) (e : Side) (k : ℕ) where
 
   abreast-says : (A B : Blend) → List·Memᴰ A (liveOf P) → List·Memᴰ B (liveOf P) → abreast d z e k A B ≡ true → Abreast Q e z k
   abreast-says A B mA mB t =
-      let a = and-both (parts upper z (crossed d A) && parts lower z (crossed d B) && eqb (along d A .m) k && eqb (along d B .m) k) (eqb (back e (along d A)) (back e (along d B))) t in
-      let b = and-both (parts upper z (crossed d A) && parts lower z (crossed d B) && eqb (along d A .m) k) (eqb (along d B .m) k) (a .0) in
-      let c = and-both (parts upper z (crossed d A) && parts lower z (crossed d B)) (eqb (along d A .m) k) (b .0) in
-      let f = and-both (parts upper z (crossed d A)) (parts lower z (crossed d B)) (c .0) in
+      let a = and-both (knotIn upper z (crossed d A) && knotIn lower z (crossed d B) && eqb (along d A .m) k && eqb (along d B .m) k) (eqb (back e (along d A)) (back e (along d B))) t in
+      let b = and-both (knotIn upper z (crossed d A) && knotIn lower z (crossed d B) && eqb (along d A .m) k) (eqb (along d B .m) k) (a .0) in
+      let c = and-both (knotIn upper z (crossed d A) && knotIn lower z (crossed d B)) (eqb (along d A .m) k) (b .0) in
+      let f = and-both (knotIn upper z (crossed d A)) (knotIn lower z (crossed d B)) (c .0) in
       record {
         reach = back e (along d A);
         at = at;
@@ -67,9 +57,9 @@ module _ (P : Layout) (d : Direction) (z : ℕ) (e : Side) (k : ℕ) where
       live upper = mA
       live lower = mB
 
-      over : parts upper z (crossed d A) ≡ true → parts lower z (crossed d B) ≡ true → (x : Side) → Parts x z (crossed d (at x))
-      over p q upper = parts-says upper z (crossed d A) p
-      over p q lower = parts-says lower z (crossed d B) q
+      over : knotIn upper z (crossed d A) ≡ true → knotIn lower z (crossed d B) ≡ true → (x : Side) → KnotIn x z (crossed d (at x))
+      over p q upper = part-says upper z (crossed d A) p
+      over p q lower = part-says lower z (crossed d B) q
 
       anchored : along d A .m ≡ k → along d B .m ≡ k → (x : Side) → along d (at x) .m ≡ k
       anchored p q upper = p
@@ -84,7 +74,7 @@ module _ (P : Layout) (d : Direction) (z : ℕ) (e : Side) (k : ℕ) where
       any-of _ (liveOf P) (b .at upper) (b .live upper)
       (any-of _ (liveOf P) (b .at lower) (b .live lower)
       (and-of _ _
-      (and-of _ _ (and-of _ _ (and-of _ _ (parts-of upper z (crossed d (b .at upper)) (b .over upper)) (parts-of lower z (crossed d (b .at lower)) (b .over lower))) (eq-eqb _ _ (b .anchored upper))) (eq-eqb _ _ (b .anchored lower)))
+      (and-of _ _ (and-of _ _ (and-of _ _ (part-test upper z (crossed d (b .at upper)) (b .over upper)) (part-test lower z (crossed d (b .at lower)) (b .over lower))) (eq-eqb _ _ (b .anchored upper))) (eq-eqb _ _ (b .anchored lower)))
       (eq-eqb _ _ (b .reaches upper ∙ sym (b .reaches lower)))))
 
 -- where an end of a line may be
@@ -132,34 +122,6 @@ unfolding goodEnd
 good-of P d z e k (edge q) = or-left _ _ (gap-edge P d z e k q)
 good-of P d z e k (line i on) = or-left _ _ (gap-line P d z e k on)
 good-of P d z e k (blends i off a) = or-right (gapEnds P d z e k) _ (abreast-of P d z e k a)
-
--- What is left of a blend that a line cuts does not reach over the line but with a knot on it.
-abbrev Clear : ℕ → Triple → Type 0
-Clear z t = (x : Side) → Parts x z t → ⊥
-
-half-clear : (w : Side) (z : ℕ) (t : Triple) → Inside z t → Clear z (half w z t)
-unfolding half
-half-clear lower z t i lower p = omega arith
-half-clear lower z t i upper p = omega arith
-half-clear upper z t i lower p = omega arith
-half-clear upper z t i upper p = omega arith
-
-still-clear : (s : Side) (y z : ℕ) (t : Triple) → Rise t → Inside y t → Clear z t → Clear z (half s y t)
-unfolding half
-still-clear s y z t r i c x p = by s x p
-  where
-    outside : (t .l < z) × (z < t .r) → z ≡ t .m
-    outside o =
-        ⊎-elim (λ e. absurd (c lower (o .0, ltb-true _ _ e)))
-        (λ e. let le = ltb-false z (t .m) e in
-        ⊎-elim (λ f. absurd (c upper (ltb-true _ _ f, o .1))) (λ f. let ge = ltb-false (t .m) z f in omega arith) (either (ltb (t .m) z)))
-        (either (ltb z (t .m)))
-
-    by : (s x : Side) → Parts x z (half s y t) → ⊥
-    by lower lower p = let lo = i .lo in let hi = i .hi in let o = outside (omega arith, omega arith) in omega arith
-    by lower upper p = let lo = i .lo in let hi = i .hi in let o = outside (omega arith, omega arith) in omega arith
-    by upper lower p = let lo = i .lo in let hi = i .hi in let o = outside (omega arith, omega arith) in omega arith
-    by upper upper p = let lo = i .lo in let hi = i .hi in let o = outside (omega arith, omega arith) in omega arith
 
 comes-clear : {M : Mesh} (d : Direction) (z : ℕ) {B C : Blend} → RiseB B → Clear z (crossed d B) → Comes M B C → Clear z (crossed d C)
 comes-clear d z r c here = c
@@ -254,7 +216,7 @@ module _ (P : Layout) (b : Built P) (s : Split) (d : Direction) (r : Ranged (P .
     abreast-before e k q =
         record { reach = q .reach; at = q .at; live = λ x. before x (q .at x) (q .live x) (q .over x); over = q .over; anchored = q .anchored; reaches = q .reaches }
       where
-        before : (x : Side) (B : Blend) → List·Memᴰ B (liveOf (withLine P s)) → Parts x z (crossed d B) → List·Memᴰ B (liveOf P)
+        before : (x : Side) (B : Blend) → List·Memᴰ B (liveOf (withLine P s)) → KnotIn x z (crossed d B) → List·Memᴰ B (liveOf P)
         before x B m p =
             let f = from-before P b s d r B m in
             ⊎-elim

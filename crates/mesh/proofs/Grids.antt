@@ -1,39 +1,19 @@
 -- The grids of the live blends: a unit step on the grid of a blend is on that of something left of it, whatever cuts it.
-use Prim.Native.Nat.{ℕ, _≤_, _<_, min, max}
-use native.Mathlib.Omega.{arith}
-use mathlib.Core.Path.{_≡_, refl, ap, _∙_}
-use mathlib.Core.Logic.{_⊎_, inl, inr, ⊎-elim}
-use mathlib.Core.Bool.{true, _&&_, _||_}
-use mathlib.Core.List.{List, List·Memᴰ}
-use lib.Dec.{ltb, eqb}
-use borrow.Author.Tests.{eqb-true, eq-eqb, ltb-true, ltb-false}
-use Rattle.axis.specs.Range.{any}
-use Rattle.axis.specs.Triple.{Side, lower, upper, half, spans}
-use Rattle.axis.specs.declared.Triple.{Triple}
-use Rattle.axis.proofs.Tests.{either, and-both, and-of, or-either, or-left, or-right, any-at, any-of, within-of, within-at}
-use Rattle.axis.proofs.Triples.{keeps-middle}
+use Prim.Native.Nat.{ℕ, _≤_, _<_}
+use mathlib.Core.Path.{_≡_}
+use mathlib.Core.Bool.{true}
+use mathlib.Core.List.{List·Memᴰ}
+use Rattle.axis.specs.Triple.{Side, spans, isKnot}
+use Rattle.axis.proofs.Tests.{and-both, and-of, within-of, within-at}
+use Rattle.axis.proofs.Sides.{KnotOf, knot-says, knot-of, half-knot, half-step}
 use Rattle.mesh.specs.Lines.{Direction, upright, level, Mesh}
-use Rattle.mesh.specs.Blends.{crossed, along, halve, live, firstFour}
+use Rattle.mesh.specs.Blends.{crossed, along, halve, live}
 use Rattle.mesh.specs.Order.{Left, Coarser}
-use Rattle.mesh.specs.Crossings.{isKnot, onGrid}
+use Rattle.mesh.specs.Crossings.{onGrid}
 use Rattle.mesh.specs.declared.Blend.{Blend}
 use Rattle.mesh.proofs.Cuts.{RiseB, proper-rises}
 use Rattle.mesh.proofs.Order.{by-cutting, left-itself, left-front, finer-back}
 use Rattle.mesh.proofs.SoundMaps.{live-left, live-proper}
-
--- what the tests say
-abbrev pub KnotOf : ℕ → Triple → Type 0
-KnotOf z t = (z ≡ t .l) ⊎ ((z ≡ t .m) ⊎ (z ≡ t .r))
-
-pub knot-says : (z : ℕ) (t : Triple) → isKnot z t ≡ true → KnotOf z t
-knot-says z t e =
-    ⊎-elim (λ f. ⊎-elim (λ g. inl (eqb-true _ _ g)) (λ g. inr (inl (eqb-true _ _ g))) (or-either (eqb z (t .l)) (eqb z (t .m)) f))
-    (λ f. inr (inr (eqb-true _ _ f))) (or-either (eqb z (t .l) || eqb z (t .m)) (eqb z (t .r)) e)
-
-pub knot-of : (z : ℕ) (t : Triple) → KnotOf z t → isKnot z t ≡ true
-knot-of z t (inl e) = or-left _ _ (or-left _ _ (eq-eqb _ _ e))
-knot-of z t (inr (inl e)) = or-left _ _ (or-right (eqb z (t .l)) _ (eq-eqb _ _ e))
-knot-of z t (inr (inr e)) = or-right (eqb z (t .l) || eqb z (t .m)) _ (eq-eqb _ _ e)
 
 pub record OnGrid (d : Direction) (z k : ℕ) (B : Blend) : Type 0 where
   pub knot : KnotOf z (crossed d B)
@@ -48,18 +28,6 @@ grid-says d z k B e =
 
 pub grid-of : (d : Direction) (z k : ℕ) (B : Blend) → OnGrid d z k B → onGrid d z k B ≡ true
 grid-of d z k B g = and-of _ _ (knot-of z (crossed d B) (g .knot)) (within-of _ _ k (g .lo) (g .hi))
-
--- one triple: a half keeps each knot, and each step
-half-knot : (z y : ℕ) (t : Triple) → KnotOf z t → (s : Side) × KnotOf z (half s y t)
-unfolding half
-half-knot z y t (inl e) = (lower, inl e)
-half-knot z y t (inr (inl e)) = let k = keeps-middle y t in (k .0, inr (inl (e ∙ (let m = k .1 in omega arith))))
-half-knot z y t (inr (inr e)) = (upper, inr (inr e))
-
-half-step : (k y : ℕ) (t : Triple) → t .l ≤ k → k < t .r → (s : Side) × (half s y t .l ≤ k) × (k < half s y t .r)
-unfolding half
-half-step k y t lo hi =
-    ⊎-elim (λ e. (lower, lo, ltb-true _ _ e)) (λ e. let le = ltb-false k (max y (t .m)) e in (upper, omega arith, hi)) (either (ltb k (max y (t .m))))
 
 halve-on-grid : (d e : Direction) (z k y : ℕ) (B : Blend) → OnGrid d z k B → (s : Side) × OnGrid d z k (halve e s y B)
 unfolding halve

@@ -3,26 +3,27 @@ use Prim.Native.Nat.{ℕ, _+_, _≤_, _<_}
 use native.Mathlib.Omega.{arith}
 use mathlib.Core.Path.{_≡_, refl}
 use mathlib.Core.Logic.{inl, inr, ⊎-elim}
-use mathlib.Core.Bool.{true, _&&_}
+use mathlib.Core.Bool.{true}
 use mathlib.Core.List.{List, List·Memᴰ}
 use lib.Dec.{eqb}
 use borrow.Author.Tests.{eqb-true, eqb-false}
-use Rattle.axis.specs.Triple.{Side, lower, upper}
+use Rattle.axis.specs.Triple.{Side}
 use Rattle.axis.specs.declared.Triple.{Triple}
-use Rattle.axis.proofs.Tests.{either, true-not-false, within-of, within-at, and-both, and-of, every-at}
-use Rattle.axis.proofs.Triples.{Inside, Knots, half-knots, First, is-low, is-high}
-use Rattle.axis.proofs.Parts.{OnSide, lies, first, first-lies}
+use Rattle.axis.proofs.Tests.{either, true-not-false, and-both, and-of, every-at}
+use Rattle.axis.proofs.Triples.{Knots, half-knots, First, is-low, is-high}
+use Rattle.axis.proofs.Parts.{lies, first, first-lies}
+use Rattle.axis.proofs.Sides.{lies-of, lies-at}
 use Rattle.mesh.specs.Lines.{Direction, upright, level, other, side, Mesh, mesh}
 use Rattle.mesh.specs.Blends.{blend, crossed, along, cuts, halve, live, firstFour}
 use Rattle.mesh.specs.Order.{Comes, here, cut}
-use Rattle.mesh.specs.Sound.{sound, fourEverywhere, noneNested, overSquare}
+use Rattle.mesh.specs.Sound.{fourEverywhere}
 use Rattle.mesh.specs.declared.Split.{Split}
 use Rattle.mesh.specs.declared.Blend.{Blend}
-use Rattle.mesh.proofs.Cuts.{RiseB, Cut, cut-fact, cut-test, halve-rises, crossed-within, halve-within}
+use Rattle.mesh.proofs.Cuts.{RiseB, Cut, cut-fact, cut-test, halve-rises, halve-within}
 use Rattle.mesh.proofs.Fresh.{first-four, firstFour-rises, first-crossed, fresh-line}
 use Rattle.mesh.proofs.SoundMaps.{live-left}
 use Rattle.mesh.proofs.Quadrants.{quadrant, left-quadrant, first-in-four, one-quadrant, crossed-in, facts, fresh-clear}
-use Rattle.mesh.proofs.View.{View, turn, In, Live, Over, OneWay, SoundView, turn-sound}
+use Rattle.mesh.proofs.View.{View, Over, OneWay, SoundView, turn-sound}
 
 -- A blend's grid lies on lines: so it does of the first four, and a cut keeps it.
 abbrev pub Grid : Mesh → Blend → Type 0
@@ -52,15 +53,6 @@ view d w h M =
       levels = M (other d);
       blends = live w h M;
     }
-
--- part and quadrant of a square, as tests
-pub lies-of : (p : Side) (x : ℕ) (t : Triple) → In p x t → lies p x t ≡ true
-lies-of lower x t i = within-of (t .l) (t .m) x (i .0) (i .1)
-lies-of upper x t i = within-of (t .m) (t .r) x (i .0) (i .1)
-
-pub lies-at : (p : Side) (x : ℕ) (t : Triple) → lies p x t ≡ true → In p x t
-lies-at lower x t e = within-at (t .l) (t .m) x e
-lies-at upper x t e = within-at (t .m) (t .r) x e
 
 module _ (w h : ℕ) (hw : 1 ≤ w) (hh : 1 ≤ h) (splits : List Split) where
   abbrev M : Mesh

@@ -2,7 +2,7 @@
 -- anchor. And how an upright ends: on two blends abreast of it.
 use Prim.Native.Nat.{ℕ, _+_, _-_, _≤_, _<_}
 use native.Mathlib.Omega.{arith}
-use mathlib.Core.Path.{_≡_, refl, sym, ap, subst, _∙_}
+use mathlib.Core.Path.{_≡_, sym, ap, subst}
 use mathlib.Core.Logic.{_⊎_, inl, inr, ⊎-elim}
 use mathlib.Core.Bool.{true, false}
 use lib.Dec.{leb, ltb, eqb}
@@ -10,21 +10,11 @@ use borrow.Author.Tests.{leb-true, leb-false, ltb-true, ltb-false, eqb-true, eqb
 use Rattle.axis.specs.Triple.{Side, lower, upper}
 use Rattle.axis.proofs.Tests.{either, true-not-false}
 use Rattle.axis.proofs.Parts.{OnSide}
+use Rattle.axis.proofs.Runs.{Compared, less, equal, more, compare}
+use Rattle.axis.proofs.Sides.{StepIn, KnotIn, opposite, mirror, same-back, other-end, back-flip}
 use Rattle.mesh.specs.Ends.{back}
 use Rattle.mesh.specs.declared.Blend.{Blend}
-use Rattle.mesh.proofs.View.{View, turn, flip, mirror, opposite, Live, In, Parts, Over, Knot, OneWay, SoundView, TightView, turn-sound, flip-sound, flip-tight, flipped, on-mirror}
-
--- one number comes before another, is it, or comes after it
-pub data Compared (a b : ℕ) : Type 0 where
-  less : a < b → Compared a b
-  equal : a ≡ b → Compared a b
-  more : b < a → Compared a b
-
-pub compare : (a b : ℕ) → Compared a b
-compare a b =
-    ⊎-elim (λ e. less (ltb-true a b e))
-    (λ e. let le = ltb-false a b e in ⊎-elim (λ f. equal (eqb-true a b f)) (λ f. let ne = eqb-false a b f in more (omega arith)) (either (eqb a b)))
-    (either (ltb a b))
+use Rattle.mesh.proofs.View.{View, turn, flip, Live, Over, Knot, SoundView, TightView, flip-sound, flip-tight, flipped, on-mirror}
 
 -- Over one square, in one part across: A with its anchor below the square, and C with its anchor above it.
 module _ (Q : View) (s : SoundView Q) (x : Side) (j k : ℕ) (hj : OnSide (Q .w) j) (hk : OnSide (Q .h) k) (A C : Blend)
@@ -33,7 +23,7 @@ module _ (Q : View) (s : SoundView Q) (x : Side) (j k : ℕ) (hj : OnSide (Q .w)
   start-is-anchor : Q .up C .l ≡ Q .up A .m
   start-is-anchor = by (compare (Q .up C .l) (Q .up A .m))
     where
-      at : (y : Side) (i : ℕ) (B : Blend) → Live Q B → In x j (Q .across B) → In y i (Q .up B) → Over Q x y j i B
+      at : (y : Side) (i : ℕ) (B : Blend) → Live Q B → StepIn x j (Q .across B) → StepIn y i (Q .up B) → Over Q x y j i B
       at y i B m p q = record { live = m; column = p; row = q }
 
       by : Compared (Q .up C .l) (Q .up A .m) → Q .up C .l ≡ Q .up A .m
@@ -100,7 +90,7 @@ pub grid-knot : (Q : View) (s : SoundView Q) (B : Blend) → Live Q B → (j v :
 grid-knot Q s B m j v hj hv lo hi at =
     ⊎-elim (λ e. (lower, by lower (lo, ltb-true j _ e) at)) (λ e. (upper, by upper (ltb-false j _ e, hi) at)) (either (ltb j (Q .across B .m)))
   where
-    by : (x : Side) → In x j (Q .across B) → (v ≡ Q .up B .l) ⊎ ((v ≡ Q .up B .m) ⊎ (v ≡ Q .up B .r)) → Knot Q x j v
+    by : (x : Side) → StepIn x j (Q .across B) → (v ≡ Q .up B .l) ⊎ ((v ≡ Q .up B .m) ⊎ (v ≡ Q .up B .r)) → Knot Q x j v
     by x i (inl e) =
         let rise = s .y .rises B m in
         let r = s .some x upper j v hj (omega arith, omega arith) in
@@ -128,7 +118,7 @@ pub record Abreast (Q : View) (e : Side) (z a : ℕ) : Type 0 where
   pub reach : ℕ
   pub at : Side → Blend
   pub live : (x : Side) → Live Q (at x)
-  pub over : (x : Side) → Parts x z (Q .across (at x))
+  pub over : (x : Side) → KnotIn x z (Q .across (at x))
   pub anchored : (x : Side) → Q .up (at x) .m ≡ a
   pub reaches : (x : Side) → back e (Q .up (at x)) ≡ reach
 
@@ -155,7 +145,7 @@ module _ (Q : View) (t : TightView Q) (z a : ℕ) (hz : (1 < z) × (z < Q .w + 1
     blend : Blend
     live : Live Q blend
     at : Q .across blend .m ≡ z
-    row : In upper (a - 1) (Q .up blend)
+    row : StepIn upper (a - 1) (Q .up blend)
     ends : Q .up blend .r ≡ a
 
   last : Last
@@ -188,7 +178,7 @@ module _ (Q : View) (t : TightView Q) (z a : ℕ) (hz : (1 < z) × (z < Q .w + 1
   record Beside (x : Side) : Type 0 where
     blend : Blend
     live : Live Q blend
-    over : Parts x z (Q .across blend)
+    over : KnotIn x z (Q .across blend)
     anchored : Q .up blend .m ≡ a
     begins : Q .up blend .l ≡ Q .up X .m
 
@@ -252,15 +242,6 @@ flip-abreast Q e z a b =
         back (opposite e) (mirror (Q .h) (Q .up (b .at x))) ≡ Q .h + 2 - b .reach
     by lower f x = ap (λ (n : ℕ). Q .h + 2 - n) (f x)
     by upper f x = ap (λ (n : ℕ). Q .h + 2 - n) (f x)
-
-same-back : (s m a : ℕ) → m ≤ s → a ≤ s → s - m ≡ s - a → m ≡ a
-same-back s m a hm ha e = omega arith
-
-other-end : (s m a : ℕ) → m ≤ s → s - m ≡ a → m ≡ s - a
-other-end s m a hm e = omega arith
-
-back-flip : (h a n r : ℕ) → a ≤ n → n < h + 2 - r → (r ≤ h + 1 - n) × (h + 1 - n < h + 2 - a) × (h + 1 - (h + 1 - n) ≡ n)
-back-flip h a n r lo hi = (omega arith, omega arith, omega arith)
 
 pub line-ends : (Q : View) (t : TightView Q) (z a : ℕ) → (1 < z) × (z < Q .w + 1) → (1 < a) × (a < Q .h + 1) → (e : Side) →
     Q .uprights z (inward e a) ≡ true → Q .uprights z (outward e a) ≡ false → Ended Q e z a

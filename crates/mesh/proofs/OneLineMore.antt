@@ -3,14 +3,15 @@ use Prim.Native.Nat.{ℕ, _+_, _-_, _≤_, _<_}
 use native.Mathlib.Omega.{arith}
 use mathlib.Core.Path.{_≡_, refl, sym, ap, _∙_}
 use mathlib.Core.Logic.{_⊎_, inl, inr, ⊎-elim}
-use mathlib.Core.Bool.{Bool, true, false, _&&_, _||_, or-assoc, or-false}
-use mathlib.Core.List.{List, [], _∷_, _++_}
+use mathlib.Core.Bool.{Bool, true, _&&_, _||_, or-assoc, or-false}
+use mathlib.Core.List.{[], _∷_}
 use lib.Dec.{leb, ltb, eqb}
 use borrow.Author.Tests.{eqb-true, eqb-false, eq-eqb, leb-true, le-leb, ltb-true, lt-ltb}
 use Rattle.axis.specs.Range.{any}
 use Rattle.axis.specs.Triple.{Side, lower, upper}
-use Rattle.axis.proofs.Tests.{either, true-not-false, and-both, and-of, or-either, or-left, or-right, any-append}
-use Rattle.mesh.specs.Lines.{Direction, upright, level, number, other, side, direction, Mesh, mesh, freshMesh, draws, start, end, fits, inRange, Layout, meshOf}
+use Rattle.axis.proofs.Tests.{either, and-both, and-of, or-either, or-left, or-right, any-append}
+use Rattle.axis.proofs.Sides.{from, to}
+use Rattle.mesh.specs.Lines.{Direction, upright, level, number, other, side, direction, mesh, freshMesh, draws, start, end, fits, inRange, Layout, meshOf}
 use Rattle.mesh.specs.Splits.{withLine}
 use Rattle.mesh.specs.Order.{Coarser}
 use Rattle.mesh.specs.declared.Split.{Split}

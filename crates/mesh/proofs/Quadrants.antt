@@ -1,6 +1,6 @@
 -- A blend's anchor parts its support into four quadrants. Every unit square of the domain lies in each quadrant of some live blend, so at
 -- least four lie over it; and where exactly four lie over every square, no anchor lies strictly inside another blend's support.
-use Prim.Native.Nat.{ℕ, _+_, _≤_, _<_}
+use Prim.Native.Nat.{ℕ, _+_, _≤_}
 use native.Mathlib.Omega.{arith}
 use mathlib.Core.Path.{_≡_, refl, ap, _∙_}
 use mathlib.Core.Logic.{_⊎_, inl, inr, ⊎-elim}

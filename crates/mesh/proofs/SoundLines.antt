@@ -3,16 +3,18 @@ use Prim.Native.Nat.{ℕ, _+_, _-_, _≤_, _<_}
 use native.Mathlib.Omega.{arith}
 use mathlib.Core.Path.{_≡_, refl, sym, ap, subst, _∙_}
 use mathlib.Core.Logic.{_⊎_, inl, inr, ⊎-elim}
-use mathlib.Core.Bool.{Bool, true, false}
-use mathlib.Core.List.{List, List·Memᴰ}
-use lib.Dec.{leb, ltb, eqb}
-use borrow.Author.Tests.{eqb-true, eqb-false, eq-eqb, ltb-true, ltb-false}
-use Rattle.axis.specs.Triple.{triple, Side, lower, upper, half, RisesIn}
+use mathlib.Core.Bool.{true, false}
+use mathlib.Core.List.{List·Memᴰ}
+use lib.Dec.{eqb}
+use borrow.Author.Tests.{eqb-true, eqb-false, eq-eqb}
+use Rattle.axis.specs.Triple.{triple, Side, lower, upper, half}
 use Rattle.axis.specs.declared.Triple.{Triple}
 use Rattle.axis.proofs.Tests.{either, true-not-false, false-of, and-both, every-of}
-use Rattle.axis.proofs.Triples.{Rise, Inside, Knots, half-rises, half-within, half-knots, half-below, half-above, triple-eq}
+use Rattle.axis.proofs.Triples.{Rise, Inside, Knots, half-rises, half-within, half-knots, triple-eq}
 use Rattle.axis.proofs.Parts.{OnSide, lies, beside}
 use Rattle.axis.proofs.Counts.{one-at-most}
+use Rattle.axis.proofs.Runs.{Compared, less, equal, more, compare, Downward, throughout, until, downward}
+use Rattle.axis.proofs.Sides.{KnotIn, opposite, from, to, knot-step, lies-at, halves-of, kept, kept-is, kept-in, kept-away, one-part, part-of, inside-of, StepIn}
 use Rattle.mesh.specs.Lines.{Direction, upright, level, other, side, Mesh, Layout, meshOf}
 use Rattle.mesh.specs.Blends.{crossed, along, cuts, halve, live}
 use Rattle.mesh.specs.Order.{Uncut, Comes, here, cut, Left}
@@ -25,13 +27,10 @@ use Rattle.mesh.proofs.Order.{some-half, left-uncut, finer}
 use Rattle.mesh.proofs.Fresh.{firstFour-rises}
 use Rattle.mesh.proofs.SoundMaps.{live-left, live-proper, live-distinct}
 use Rattle.mesh.proofs.Quadrants.{quadrant, four-of}
-use Rattle.mesh.proofs.View.{View, opposite, Live, In, Parts, Over, SoundView, TightView}
-use Rattle.mesh.proofs.AnchorsCross.{Crossing, Anchor, crossing-anchored}
-use Rattle.mesh.proofs.Filling.{from, to, parts-in, Holding, agree, level-covers, Drawn, CutBy, Piece, taken-too}
-use Rattle.mesh.proofs.Spreading.{Downward, throughout, until, downward}
-use Rattle.mesh.proofs.Neighbours.{Compared, less, equal, more, compare}
-use Rattle.mesh.proofs.MapView.{view, lies-at}
-use Rattle.mesh.proofs.OneLineMore.{Ranged, Row, more-finer, step-drawn, step-either}
+use Rattle.mesh.proofs.View.{View, Live, Over, SoundView, TightView}
+use Rattle.mesh.proofs.AnchorsCross.{crossing-anchored}
+use Rattle.mesh.proofs.Filling.{Holding, agree, level-covers, Drawn, CutBy, Piece, taken-too}
+use Rattle.mesh.proofs.OneLineMore.{Ranged, more-finer, step-either}
 use Rattle.mesh.proofs.TightMaps.{Built, viewOf, tight-view}
 
 -- No live blend's anchor lies strictly inside another's support, in the words of a view.
@@ -77,60 +76,19 @@ blend-eq : (d : Direction) (B C : Blend) → crossed d B ≡ crossed d C → alo
 blend-eq upright B C p q = λ i. record { across = p i; up = q i }
 blend-eq level B C p q = λ i. record { across = q i; up = p i }
 
--- The halves of a triple by a line inside one of its parts: one has that part for its own, about the line; the other keeps the middle.
-halves-of : (x : Side) (z : ℕ) (t : Triple) → Parts x z t → half x z t ≡ triple (from x t) z (to x t)
-halves-of lower z t p = half-below t z (p .1) .0
-halves-of upper z t p = half-above t z (p .0) .1
-
-abbrev kept : Side → ℕ → Triple → Triple
-kept lower z t = triple z (t .m) (t .r)
-kept upper z t = triple (t .l) (t .m) z
-
-kept-is : (x : Side) (z : ℕ) (t : Triple) → Parts x z t → half (opposite x) z t ≡ kept x z t
-kept-is lower z t p = half-below t z (p .1) .1
-kept-is upper z t p = half-above t z (p .0) .0
-
--- what keeps the middle has its steps in the same parts, and in the line's part none past the line
-kept-in : (x : Side) (z : ℕ) (t : Triple) → Parts x z t → (p : Side) (j : ℕ) → In p j (kept x z t) → In p j t
-kept-in lower z t a lower j i = (omega arith, omega arith)
-kept-in lower z t a upper j i = i
-kept-in upper z t a lower j i = i
-kept-in upper z t a upper j i = (omega arith, omega arith)
-
-kept-away : (x : Side) (z : ℕ) (t : Triple) (f g j : ℕ) → In x j (kept x z t) → In x j (triple f z g) → ⊥
-kept-away lower z t f g j i k = omega arith
-kept-away upper z t f g j i k = omega arith
-
-one-part : (x u : Side) (z : ℕ) (t : Triple) → Parts x z t → Parts u z t → x ≡ u
-one-part lower lower z t p q = refl
-one-part lower upper z t p q = absurd (omega arith)
-one-part upper lower z t p q = absurd (omega arith)
-one-part upper upper z t p q = refl
-
-part-of : (z : ℕ) (t : Triple) → Inside z t → (x : Side) × Parts x z t
-part-of z t i =
-    let lo = i .lo in
-    let hi = i .hi in
-    let off = i .off in
-    ⊎-elim (λ e. (lower, (lo, ltb-true _ _ e))) (λ e. let le = ltb-false z (t .m) e in (upper, (omega arith, hi))) (either (ltb z (t .m)))
-
-inside-of : (x : Side) (z : ℕ) (t : Triple) → Rise t → Parts x z t → Inside z t
-inside-of lower z t r p = record { lo = omega arith; hi = omega arith; off = omega arith }
-inside-of upper z t r p = record { lo = omega arith; hi = omega arith; off = omega arith }
-
 -- a square's quadrant, in the words of a view
 abbrev pick : Direction → Side → Side → Side
 pick upright p q = p
 pick level p q = q
 
 in-view : (d : Direction) (p q : Side) (x y : ℕ) (B : Blend) → quadrant p q x y B ≡ true →
-    In (pick d p q) (side d x y) (crossed d B) × In (pick (other d) p q) (side (other d) x y) (along d B)
+    StepIn (pick d p q) (side d x y) (crossed d B) × StepIn (pick (other d) p q) (side (other d) x y) (along d B)
 in-view d p q x y B e = by d (lies-at p x (B .across) (b .0)) (lies-at q y (B .up) (b .1))
   where
     b : (lies p x (B .across) ≡ true) × (lies q y (B .up) ≡ true)
     b = and-both (lies p x (B .across)) (lies q y (B .up)) e
 
-    by : (d : Direction) → In p x (B .across) → In q y (B .up) → In (pick d p q) (side d x y) (crossed d B) × In (pick (other d) p q) (side (other d) x y) (along d B)
+    by : (d : Direction) → StepIn p x (B .across) → StepIn q y (B .up) → StepIn (pick d p q) (side d x y) (crossed d B) × StepIn (pick (other d) p q) (side (other d) x y) (along d B)
     by upright i k = (i, k)
     by level i k = (k, i)
 
@@ -200,7 +158,7 @@ module _ (P : Layout) (b : Built P) (s : Split) (d : Direction) (r : Ranged (P .
       (f .0, live-left (P .w) (P .h) (b .wide) (b .high) (meshOf P) (f .0) .1 (l .0, l .1, f .1), f .2)
 
   -- A blend that the line cuts:
-  module _ (x : Side) (X : Blend) (m : Live Q X) (p : Parts x z (crossed d X)) (c : CutBy Q (N d z) X) where
+  module _ (x : Side) (X : Blend) (m : Live Q X) (p : KnotIn x z (crossed d X)) (c : CutBy Q (N d z) X) where
     abbrev F : ℕ
     F = from x (crossed d X)
 
@@ -210,7 +168,7 @@ module _ (P : Layout) (b : Built P) (s : Split) (d : Direction) (r : Ranged (P .
     spans : (F < z) × (z < G) × (crossed d X .l ≤ F) × (G ≤ crossed d X .r)
     spans = by x p
       where
-        by : (x : Side) → Parts x z (crossed d X) → (from x (crossed d X) < z) × (z < to x (crossed d X)) × (crossed d X .l ≤ from x (crossed d X)) × (to x (crossed d X) ≤ crossed d X .r)
+        by : (x : Side) → KnotIn x z (crossed d X) → (from x (crossed d X) < z) × (z < to x (crossed d X)) × (crossed d X .l ≤ from x (crossed d X)) × (to x (crossed d X) ≤ crossed d X .r)
         by lower p = let rx = known .x .rises X m in (p .0, p .1, omega arith, omega arith)
         by upper p = let rx = known .x .rises X m in (p .0, p .1, omega arith, omega arith)
 
@@ -248,7 +206,7 @@ module _ (P : Layout) (b : Built P) (s : Split) (d : Direction) (r : Ranged (P .
         up-is : along d H ≡ along d X
         up-is = halve-same d (opposite x) z X .1
 
-        by-upright : (x : Side) → Parts x z (crossed d X) → Inside y (kept x z (crossed d X)) → ((k : ℕ) → along d X .l ≤ k → k < along d X .r → N d y k ≡ true) → ⊥
+        by-upright : (x : Side) → KnotIn x z (crossed d X) → Inside y (kept x z (crossed d X)) → ((k : ℕ) → along d X .l ≤ k → k < along d X .r → N d y k ≡ true) → ⊥
         by-upright lower p i f =
             let lo = i .lo in
             let hi = i .hi in
@@ -267,7 +225,7 @@ module _ (P : Layout) (b : Built P) (s : Split) (d : Direction) (r : Ranged (P .
             no-crossing (crossed d X .m) y (omega arith, omega arith) (lo, hi) (λ q. off (q .1)) (known .x .grid X m (y - 1) (omega arith) (omega arith) .m)
             (known .x .grid X m y (omega arith) (omega arith) .m) f g
 
-        by-level : (x : Side) → Parts x z (crossed d X) → Inside y (along d X) → ((j : ℕ) → kept x z (crossed d X) .l ≤ j → j < kept x z (crossed d X) .r → N (other d) y j ≡ true) → ⊥
+        by-level : (x : Side) → KnotIn x z (crossed d X) → Inside y (along d X) → ((j : ℕ) → kept x z (crossed d X) .l ≤ j → j < kept x z (crossed d X) .r → N (other d) y j ≡ true) → ⊥
         by-level lower p i f =
             let rx = known .x .rises X m in
             passed i (same-across y _ (f (crossed d X .m - 1) (omega arith) (omega arith))) (same-across y _ (f (crossed d X .m) (omega arith) (omega arith)))
@@ -277,7 +235,7 @@ module _ (P : Layout) (b : Built P) (s : Split) (d : Direction) (r : Ranged (P .
 
     -- The other half is cut by levels only, those that have a step beside the line.
     holding : (v : ℕ) → along d X .l < v → v < along d X .r → Holding Q t z v x X
-    holding v lo hi = record { live = m; column = parts-in x z (crossed d X) p; lo = lo; hi = hi }
+    holding v lo hi = record { live = m; column = knot-step x z (crossed d X) p; lo = lo; hi = hi }
 
     abbrev column : OnSide (Q .w) z
     column = let i = r .inner in (omega arith, omega arith)
@@ -322,7 +280,7 @@ module _ (P : Layout) (b : Built P) (s : Split) (d : Direction) (r : Ranged (P .
         (same-elsewhere y (v - 1) off (f (v - 1) (omega arith) (omega arith))) (same-elsewhere y v off (f v (omega arith) (omega arith)))
         (covers v (y - 1) (omega arith) (omega arith) on (omega arith) (omega arith)) (covers v y (omega arith) (omega arith) on (omega arith) hi)
       where
-        middle : (x : Side) → Parts x z (crossed d X) → (y : ℕ) → from x (crossed d X) < y → y < to x (crossed d X) → y ≡ crossed d X .m → ⊥
+        middle : (x : Side) → KnotIn x z (crossed d X) → (y : ℕ) → from x (crossed d X) < y → y < to x (crossed d X) → y ≡ crossed d X .m → ⊥
         middle lower p y lo hi e = omega arith
         middle upper p y lo hi e = omega arith
 
@@ -396,14 +354,14 @@ module _ (P : Layout) (b : Built P) (s : Split) (d : Direction) (r : Ranged (P .
             let inn = r .inner in
             level-covers Q t (z - 1) i (omega arith, omega arith) step x X (record { live = m; column = before x p; lo = omega arith; hi = omega arith }) z (omega arith) (omega arith)
           where
-            before : (x : Side) → Parts x z (crossed d X) → In x (z - 1) (crossed d X)
+            before : (x : Side) → KnotIn x z (crossed d X) → StepIn x (z - 1) (crossed d X)
             before lower p = (omega arith, omega arith)
             before upper p = (omega arith, omega arith)
 
   -- What the line leaves of the map before: a blend that it does not cut, the half with the anchor of one that it cuts, or a piece beside the line.
   data Kind (C : Blend) : Type 0 where
     whole : Live Q C → cuts N d z C ≡ false → Kind C
-    kept-half : (x : Side) (X : Blend) → Live Q X → Parts x z (crossed d X) → CutBy Q (N d z) X → C ≡ halve d (opposite x) z X → Kind C
+    kept-half : (x : Side) (X : Blend) → Live Q X → KnotIn x z (crossed d X) → CutBy Q (N d z) X → C ≡ halve d (opposite x) z X → Kind C
     piece : (x : Side) (X : Blend) → Piece Q z (N d z) x X (along d C .l) (along d C .m) (along d C .r) →
         crossed d C ≡ triple (from x (crossed d X)) z (to x (crossed d X)) → Knots (λ (v : ℕ). Q .levels v z ≡ true) (along d C) → Kind C
 
@@ -422,15 +380,15 @@ module _ (P : Layout) (b : Built P) (s : Split) (d : Direction) (r : Ranged (P .
           let g = part-of z (crossed d X) (f .inside) in
           by X mX (g .0) (g .1) (f .covered) (h .0) (h .1)
         where
-          other-half : (X : Blend) (mX : Live Q X) (x : Side) (p : Parts x z (crossed d X)) (c : CutBy Q (N d z) X) → Left N (halve d x z X) C → Kind C
+          other-half : (X : Blend) (mX : Live Q X) (x : Side) (p : KnotIn x z (crossed d X)) (c : CutBy Q (N d z) X) → Left N (halve d x z X) C → Kind C
           other-half X mX x p c l =
               let q = between-left x X mX p c (between-first x X mX p c) (l .comes) in
               piece x X (piece-of x X mX p c C q (l .uncut)) (q .across) (q .knots)
 
-          own-half : (X : Blend) (mX : Live Q X) (x : Side) (p : Parts x z (crossed d X)) (c : CutBy Q (N d z) X) → Left N (halve d (opposite x) z X) C → Kind C
+          own-half : (X : Blend) (mX : Live Q X) (x : Side) (p : KnotIn x z (crossed d X)) (c : CutBy Q (N d z) X) → Left N (halve d (opposite x) z X) C → Kind C
           own-half X mX x p c l = kept-half x X mX p c (left-uncut (kept-uncut x X mX p c) l)
 
-          by : (X : Blend) (mX : Live Q X) (x : Side) (p : Parts x z (crossed d X)) (c : CutBy Q (N d z) X) (w : Side) → Left N (halve d w z X) C → Kind C
+          by : (X : Blend) (mX : Live Q X) (x : Side) (p : KnotIn x z (crossed d X)) (c : CutBy Q (N d z) X) (w : Side) → Left N (halve d w z X) C → Kind C
           by X mX lower p c lower l = other-half X mX lower p c l
           by X mX lower p c upper l = own-half X mX lower p c l
           by X mX upper p c lower l = own-half X mX upper p c l
@@ -438,20 +396,20 @@ module _ (P : Layout) (b : Built P) (s : Split) (d : Direction) (r : Ranged (P .
 
   -- In one quadrant of a square lies one of them only.
   module _ (dr : Drawn Q z (s .from + 1) (s .to + 1) (N d z)) (g q : Side) (j k : ℕ) (hj : OnSide (Q .w) j) (hk : OnSide (Q .h) k) where
-    cut-is : (x : Side) (X : Blend) → Live Q X → Parts x z (crossed d X) → CutBy Q (N d z) X → cuts N d z X ≡ true
+    cut-is : (x : Side) (X : Blend) → Live Q X → KnotIn x z (crossed d X) → CutBy Q (N d z) X → cuts N d z X ≡ true
     cut-is x X m p c =
         let rx = known .x .rises X m in
         cut-test N d z X (record { inside = inside-of x z (crossed d X) (record { low = rx .low; high = rx .high }) p; covered = c })
 
     record Sits (C : Blend) : Type 0 where
-      column : In g j (crossed d C)
-      row : In q k (along d C)
+      column : StepIn g j (crossed d C)
+      row : StepIn q k (along d C)
 
-    kept-sits : (x : Side) (X : Blend) → Live Q X → (p : Parts x z (crossed d X)) → Sits (halve d (opposite x) z X) → Over Q g q j k X × In g j (kept x z (crossed d X))
+    kept-sits : (x : Side) (X : Blend) → Live Q X → (p : KnotIn x z (crossed d X)) → Sits (halve d (opposite x) z X) → Over Q g q j k X × StepIn g j (kept x z (crossed d X))
     kept-sits x X m p o =
         let e = halve-same d (opposite x) z X in
-        let i = subst (In g j) (e .0 ∙ kept-is x z (crossed d X) p) (o .column) in
-        (record { live = m; column = kept-in x z (crossed d X) p g j i; row = subst (In q k) (e .1) (o .row) }, i)
+        let i = subst (StepIn g j) (e .0 ∙ kept-is x z (crossed d X) p) (o .column) in
+        (record { live = m; column = kept-in x z (crossed d X) p g j i; row = subst (StepIn q k) (e .1) (o .row) }, i)
 
     over-whole : (C : Blend) → Live Q C → Sits C → Over Q g q j k C
     over-whole C m o = record { live = m; column = o .column; row = o .row }
@@ -462,11 +420,11 @@ module _ (P : Layout) (b : Built P) (s : Split) (d : Direction) (r : Ranged (P .
     -- the blends of before that a piece shares a quadrant with are cut, on the line's side of it
     taken : (x : Side) (X C : Blend) → Piece Q z (N d z) x X (along d C .l) (along d C .m) (along d C .r) →
         crossed d C ≡ triple (from x (crossed d X)) z (to x (crossed d X)) → Sits C → (B : Blend) → Over Q g q j k B →
-        Parts g z (crossed d B) × CutBy Q (N d z) B
+        KnotIn g z (crossed d B) × CutBy Q (N d z) B
     taken x X C p e o B over =
-        taken-too Q t z (s .from + 1) (s .to + 1) (N d z) dr x X (along d C .l) (along d C .m) (along d C .r) p j k hj hk g q (subst (In g j) e (o .column)) (o .row) B over
+        taken-too Q t z (s .from + 1) (s .to + 1) (N d z) dr x X (along d C .l) (along d C .m) (along d C .r) p j k hj hk g q (subst (StepIn g j) e (o .column)) (o .row) B over
 
-    whole-half : (B C : Blend) → Live Q B → cuts N d z B ≡ false → (x : Side) (X : Blend) → Live Q X → Parts x z (crossed d X) → CutBy Q (N d z) X →
+    whole-half : (B C : Blend) → Live Q B → cuts N d z B ≡ false → (x : Side) (X : Blend) → Live Q X → KnotIn x z (crossed d X) → CutBy Q (N d z) X →
         C ≡ halve d (opposite x) z X → Sits B → Sits C → ⊥
     whole-half B C mB off x X mX p c e oB oC =
         let is = one-before B X (over-whole B mB oB) (kept-sits x X mX p (subst Sits e oC) .0) in
@@ -478,7 +436,7 @@ module _ (P : Layout) (b : Built P) (s : Split) (d : Direction) (r : Ranged (P .
         let r = taken x X C p e oC B (over-whole B mB oB) in
         true-not-false _ (cut-is g B mB (r .0) (r .1)) off
 
-    half-piece : (B C : Blend) (y : Side) (Y : Blend) → Live Q Y → Parts y z (crossed d Y) → CutBy Q (N d z) Y → B ≡ halve d (opposite y) z Y →
+    half-piece : (B C : Blend) (y : Side) (Y : Blend) → Live Q Y → KnotIn y z (crossed d Y) → CutBy Q (N d z) Y → B ≡ halve d (opposite y) z Y →
         (x : Side) (X : Blend) → Piece Q z (N d z) x X (along d C .l) (along d C .m) (along d C .r) →
         crossed d C ≡ triple (from x (crossed d X)) z (to x (crossed d X)) → Sits B → Sits C → ⊥
     half-piece B C y Y mY pY cY is x X p e oB oC =
@@ -486,10 +444,10 @@ module _ (P : Layout) (b : Built P) (s : Split) (d : Direction) (r : Ranged (P .
         let r = taken x X C p e oC Y (o .0) in
         let same = one-part y g z (crossed d Y) pY (r .0) in
         kept-away g z (crossed d Y) (from x (crossed d X)) (to x (crossed d X)) j
-        (subst (λ (i : Side). In g j (kept i z (crossed d Y))) same (o .1)) (subst (In g j) e (oC .column))
+        (subst (λ (i : Side). StepIn g j (kept i z (crossed d Y))) same (o .1)) (subst (StepIn g j) e (oC .column))
 
     -- two pieces have one level, and so all else
-    same-level : (q : Side) (u w v a e f : ℕ) → In q k (triple u w v) → In q k (triple a e f) → (u < w) × (w < v) → (a < e) × (e < f) →
+    same-level : (q : Side) (u w v a e f : ℕ) → StepIn q k (triple u w v) → StepIn q k (triple a e f) → (u < w) × (w < v) → (a < e) × (e < f) →
         ((i : ℕ) → u < i → i < v → Q .levels i z ≡ true → i ≡ w) → ((i : ℕ) → a < i → i < f → Q .levels i z ≡ true → i ≡ e) →
         Q .levels w z ≡ true → Q .levels e z ≡ true → w ≡ e
     same-level lower u w v a e f i o r p alone other won eon = by (compare w e)
@@ -525,9 +483,9 @@ module _ (P : Layout) (b : Built P) (s : Split) (d : Direction) (r : Ranged (P .
         let cl : Q .up B .l ≡ Q .up C .l = low w in
         let cr : Q .up B .r ≡ Q .up C .r = high w in
         let hold : Holding Q t z (along d B .m) y Y =
-        record { live = o .live; column = parts-in y z (crossed d Y) (o .astride); lo = let lo = o .lo in omega arith; hi = let hi = o .hi in omega arith } in
+        record { live = o .live; column = knot-step y z (crossed d Y) (o .astride); lo = let lo = o .lo in omega arith; hi = let hi = o .hi in omega arith } in
         let same = agree Q t z (along d B .m) (omega arith, omega arith) (p .right) x y X Y
-        (record { live = p .live; column = parts-in x z (crossed d X) (p .astride); lo = p .lo; hi = p .hi }) hold in
+        (record { live = p .live; column = knot-step x z (crossed d X) (p .astride); lo = p .lo; hi = p .hi }) hold in
         blend-eq d B C (e ∙ triple-eq (same .0) refl (same .1) ∙ sym f) (triple-eq cl w cr)
       where
         low : along d B .m ≡ along d C .m → along d B .l ≡ along d C .l
@@ -561,7 +519,7 @@ module _ (P : Layout) (b : Built P) (s : Split) (d : Direction) (r : Ranged (P .
     kinds B C (kept-half x X mX p c e) (whole mC h) oB oC = absurd (whole-half C B mC h x X mX p c e oC oB)
     kinds B C (kept-half x X mX p c e) (kept-half y Y mY o a f) oB oC =
         let is = one-before X Y (kept-sits x X mX p (subst Sits e oB) .0) (kept-sits y Y mY o (subst Sits f oC) .0) in
-        let same = one-part x y z (crossed d X) p (subst (λ (D : Blend). Parts y z (crossed d D)) (sym is) o) in
+        let same = one-part x y z (crossed d X) p (subst (λ (D : Blend). KnotIn y z (crossed d D)) (sym is) o) in
         e ∙ ap (λ (D : Blend). halve d (opposite x) z D) is ∙ ap (λ (i : Side). halve d (opposite i) z Y) same ∙ sym f
     kinds B C (kept-half y Y mY o a f) (piece x X p e n) oB oC = absurd (half-piece B C y Y mY o a f x X p e oB oC)
     kinds B C (piece x X p e n) (whole mC h) oB oC = absurd (whole-piece C B mC h x X p e oC oB)

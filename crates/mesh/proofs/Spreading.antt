@@ -1,16 +1,18 @@
 -- A line of a sound map that stands on the grid of a live blend in one of its rows does so in all of them, if it ends on levels of such grids.
 use Prim.Native.Nat.{ℕ, zero, suc, _+_, _-_, _≤_, _<_}
 use native.Mathlib.Omega.{arith}
-use mathlib.Core.Path.{_≡_, refl, sym, ap, subst}
+use mathlib.Core.Path.{_≡_, sym, ap, subst}
 use mathlib.Core.Logic.{_⊎_, inl, inr, ⊎-elim}
-use mathlib.Core.Bool.{Bool, true, false}
+use mathlib.Core.Bool.{true, false}
 use lib.Dec.{leb, ltb, eqb}
 use borrow.Author.Tests.{leb-true, leb-false, ltb-true, ltb-false, eqb-true, eqb-false}
 use Rattle.axis.specs.Triple.{Side, lower, upper}
 use Rattle.axis.proofs.Tests.{either, true-not-false}
 use Rattle.axis.proofs.Parts.{OnSide}
+use Rattle.axis.proofs.Runs.{Downward, throughout, until, downward}
+use Rattle.axis.proofs.Sides.{StepIn, KnotIn, opposite, mirror, in-mirror}
 use Rattle.mesh.specs.declared.Blend.{Blend}
-use Rattle.mesh.proofs.View.{View, turn, flip, opposite, in-mirror, mirror, Live, In, Parts, Over, Knot, SoundView, flip-sound}
+use Rattle.mesh.proofs.View.{View, turn, flip, Live, Knot, SoundView, flip-sound}
 use Rattle.mesh.proofs.Neighbours.{neighbours, grid-at}
 
 -- some live blend has its anchor on the upright z and lies over row k
@@ -30,29 +32,6 @@ RestsBelow Q z = (a : ℕ) → 1 < a → a < Q .h + 1 → Q .uprights z (a - 1) 
 
 abbrev pub RestsAbove : View → ℕ → Type 0
 RestsAbove Q z = (a : ℕ) → 1 < a → a < Q .h + 1 → Q .uprights z (a - 1) ≡ true → Q .uprights z a ≡ false → Rests Q z a
-
--- Down a run of numbers from its last: a test holds of all, or there is a first one at which it fails.
-pub data Downward (test : ℕ → Bool) (lo hi : ℕ) : Type 0 where
-  throughout : ((k : ℕ) → lo ≤ k → k < hi → test k ≡ true) → Downward test lo hi
-  until : (e : ℕ) → lo ≤ e → e < hi → test e ≡ false → ((k : ℕ) → e < k → k < hi → test k ≡ true) → Downward test lo hi
-
-pub downward : (test : ℕ → Bool) (lo hi : ℕ) → Downward test lo hi
-downward test lo zero = throughout (λ k a b. absurd (omega arith))
-downward test lo (suc n) =
-    ⊎-elim
-    (λ e. ⊎-elim (λ f. throughout (λ k a b. let lt = ltb-true n lo f in absurd (omega arith))) (λ f. let le = ltb-false n lo f in on e le (downward test lo n)) (either (ltb n lo)))
-    (λ e. ⊎-elim (λ f. throughout (λ k a b. let lt = ltb-true n lo f in absurd (omega arith)))
-    (λ f. let le = ltb-false n lo f in until n le (omega arith) e (λ k a b. absurd (omega arith))) (either (ltb n lo)))
-    (either (test n))
-  where
-    last : {m : ℕ} → test n ≡ true → ((k : ℕ) → m ≤ k → k < n → test k ≡ true) → (k : ℕ) → m ≤ k → k < suc n → test k ≡ true
-    last {m} e f k a b =
-        ⊎-elim (λ q. let is = eqb-true k n q in subst (λ (i : ℕ). test i ≡ true) (sym is) e)
-        (λ q. let ne = eqb-false k n q in f k a (omega arith)) (either (eqb k n))
-
-    on : test n ≡ true → lo ≤ n → Downward test lo n → Downward test lo (suc n)
-    on e le (throughout f) = throughout (last e f)
-    on e le (until i a b off f) = until i a (omega arith) off (λ k lo hi. last {m = i + 1} e (λ k lo hi. f k (omega arith) hi) k (omega arith) hi)
 
 -- One row down:
 module _ (Q : View) (s : SoundView Q) (z : ℕ) (hz : (1 < z) × (z ≤ Q .w)) (rests : RestsBelow Q z)
@@ -75,7 +54,7 @@ module _ (Q : View) (s : SoundView Q) (z : ℕ) (hz : (1 < z) × (z ≤ Q .w)) (
     record Under (x : Side) : Type 0 where
       blend : Blend
       live : Live Q blend
-      over : Parts x z (Q .across blend)
+      over : KnotIn x z (Q .across blend)
       anchored : Q .up blend .m ≡ v
       ends : Q .up blend .r ≡ Q .up (Y .blend) .m
 
@@ -113,11 +92,11 @@ module _ (Q : View) (s : SoundView Q) (z : ℕ) (hz : (1 < z) × (z ≤ Q .w)) (
         ⊎-elim (λ e. below k lo (ltb-true k v e))
         (λ e. let le = ltb-false k v e in grid-at Q s (Y .blend) (Y .live) (Y .at) (omega arith) (omega arith)) (either (ltb k v)))
       where
-        inside : (x : Side) → Parts x z (Q .across (u .blend)) → Rattle.axis.proofs.Triples.Inside z (Q .across (u .blend))
+        inside : (x : Side) → KnotIn x z (Q .across (u .blend)) → Rattle.axis.proofs.Triples.Inside z (Q .across (u .blend))
         inside lower p = let r = s .x .rises (u .blend) (u .live) in record { lo = omega arith; hi = omega arith; off = omega arith }
         inside upper p = let r = s .x .rises (u .blend) (u .live) in record { lo = omega arith; hi = omega arith; off = omega arith }
 
-    beside : (x : Side) (j : ℕ) (t : Rattle.axis.specs.declared.Triple.Triple) → (j ≡ z) ⊎ (j + 1 ≡ z) → Parts x z t → In x j t
+    beside : (x : Side) (j : ℕ) (t : Rattle.axis.specs.declared.Triple.Triple) → (j ≡ z) ⊎ (j + 1 ≡ z) → KnotIn x z t → StepIn x j t
     beside lower j t (inl e) p = (omega arith, omega arith)
     beside lower j t (inr e) p = (omega arith, omega arith)
     beside upper j t (inl e) p = (omega arith, omega arith)
@@ -210,7 +189,7 @@ flip-used Q s z k on u =
 used-flip : (Q : View) (s : SoundView Q) (z k : ℕ) → OnSide (Q .h) k → Used (flip Q) z (Q .h + 1 - k) → Used Q z k
 used-flip Q s z k on u = (opposite (u .0), record { blend = u .1 .blend; live = u .1 .live; column = by (u .0) (u .1 .column); at = u .1 .at })
   where
-    by : (y : Side) → In y (Q .h + 1 - k) (mirror (Q .h) (Q .up (u .1 .blend))) → In (opposite y) k (Q .up (u .1 .blend))
+    by : (y : Side) → StepIn y (Q .h + 1 - k) (mirror (Q .h) (Q .up (u .1 .blend))) → StepIn (opposite y) k (Q .up (u .1 .blend))
     by lower i = let r = s .y .rises (u .1 .blend) (u .1 .live) in (omega arith, omega arith)
     by upper i = let r = s .y .rises (u .1 .blend) (u .1 .live) in (omega arith, omega arith)
 

@@ -1,20 +1,20 @@
 -- Maps that accepted splits build are tight: every unit step of a line inside the domain lies on the grid of a live blend.
 use Prim.Native.Nat.{ℕ, _+_, _-_, _≤_, _<_}
 use native.Mathlib.Omega.{arith}
-use mathlib.Core.Path.{_≡_, refl, sym, ap, subst, _∙_}
+use mathlib.Core.Path.{_≡_, refl, sym, subst}
 use mathlib.Core.Logic.{_⊎_, inl, inr, ⊎-elim}
-use mathlib.Core.Bool.{Bool, true, false, _&&_, _||_}
+use mathlib.Core.Bool.{true, false, _&&_}
 use mathlib.Core.List.{List, [], List·Memᴰ}
-use lib.Dec.{leb, ltb, eqb}
+use lib.Dec.{ltb, eqb}
 use borrow.Author.Tests.{eqb-true, eqb-false, ltb-true, ltb-false}
-use Rattle.axis.specs.Range.{any}
 use Rattle.axis.specs.Triple.{Side, lower, upper, half}
 use Rattle.axis.specs.declared.Triple.{Triple}
-use Rattle.axis.proofs.Tests.{either, true-not-false, false-of, and-both, or-either, any-at}
-use Rattle.axis.proofs.Triples.{Inside, keeps-middle}
+use Rattle.axis.proofs.Tests.{either, true-not-false, false-of, and-both, or-either}
 use Rattle.axis.proofs.Parts.{OnSide}
-use Rattle.mesh.specs.Lines.{Direction, upright, level, other, side, direction, Mesh, onLine, Layout, layout, meshOf}
-use Rattle.mesh.specs.Blends.{crossed, along, cuts, isCut, halve, live}
+use Rattle.axis.proofs.Runs.{throughout, until, downward, Downward}
+use Rattle.axis.proofs.Sides.{from, to, KnotOf}
+use Rattle.mesh.specs.Lines.{Direction, upright, level, other, side, onLine, Layout, layout, meshOf}
+use Rattle.mesh.specs.Blends.{along, cuts, isCut, halve, live}
 use Rattle.mesh.specs.Sound.{fourEverywhere, sound}
 use Rattle.mesh.specs.Splits.{liveOf, withLine}
 use Rattle.mesh.specs.declared.Split.{Split}
@@ -22,11 +22,11 @@ use Rattle.mesh.specs.declared.Blend.{Blend}
 use Rattle.mesh.proofs.Cuts.{Cut, cut-exactly, cut-fact, cut-test, proper-rises, halve-rises}
 use Rattle.mesh.proofs.SoundMaps.{live-left, live-proper}
 use Rattle.mesh.proofs.Fresh.{fresh-positions, fresh-live, fresh-sound}
-use Rattle.mesh.proofs.View.{View, turn, Live, In, Knot, SoundView, TightView, TightLevels, turn-sound, turn-tight}
-use Rattle.mesh.proofs.Neighbours.{grid-knot, level-at, inward, outward, Ended, line-ends}
-use Rattle.mesh.proofs.Spreading.{Used, Rests, RestsBelow, RestsAbove, Downward, throughout, until, downward, used-along}
+use Rattle.mesh.proofs.View.{View, turn, Knot, SoundView, TightView, turn-sound}
+use Rattle.mesh.proofs.Neighbours.{grid-knot, level-at, inward, outward, line-ends}
+use Rattle.mesh.proofs.Spreading.{Used, Rests, used-along}
 use Rattle.mesh.proofs.MapView.{view, sound-view}
-use Rattle.mesh.proofs.Grids.{KnotOf, OnGrid, stays-on-grid, half-on-grid}
+use Rattle.mesh.proofs.Grids.{OnGrid, stays-on-grid, half-on-grid}
 use Rattle.mesh.proofs.OneLineMore.{Ranged, Row, endOf, more-finer, step-drawn, step-either}
 
 -- some live blend has the unit step on its grid

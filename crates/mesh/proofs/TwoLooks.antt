@@ -2,19 +2,19 @@
 use Prim.Native.Nat.{ℕ, _+_, _-_, _≤_, _<_}
 use native.Mathlib.Omega.{arith}
 use mathlib.Core.Path.{_≡_, refl, sym, ap, subst, _∙_}
-use mathlib.Core.Logic.{_⊎_, inl, inr, ⊎-elim}
+use mathlib.Core.Logic.{_⊎_, ⊎-elim}
 use mathlib.Core.Bool.{Bool, true, false, cond, _&&_, not}
-use mathlib.Core.List.{List, [], _∷_, List·Memᴰ}
-use lib.Dec.{leb, ltb, eqb}
-use borrow.Author.Tests.{eqb-true, eqb-false, eq-eqb, leb-true, leb-false, ltb-true, ltb-false, not-true}
+use mathlib.Core.List.{[], _∷_, List·Memᴰ}
+use lib.Dec.{leb}
+use borrow.Author.Tests.{eq-eqb, leb-true, leb-false, not-true}
 use Rattle.axis.specs.Range.{any, some}
 use Rattle.axis.specs.Triple.{Side, lower, upper}
-use Rattle.axis.specs.Nearest.{below, above}
 use Rattle.axis.proofs.Tests.{either, true-not-false, false-of, and-both, and-of, same-test, some-fails, fails-some}
 use Rattle.axis.proofs.Nearest.{below-last, above-first}
-use Rattle.mesh.specs.Lines.{Direction, other, side, direction, Layout, meshOf, inRange, shares, ended, onLine}
+use Rattle.axis.proofs.Sides.{from, to}
+use Rattle.mesh.specs.Lines.{Direction, other, direction, Layout, meshOf, inRange, shares, ended, onLine}
 use Rattle.mesh.specs.Blends.{isCut}
-use Rattle.mesh.specs.Splits.{liveOf, withLine, soundWith, given, exactNumber, run, Contains, stepsOf, Precedes, candidate, chosen}
+use Rattle.mesh.specs.Splits.{liveOf, withLine, soundWith, given, exactNumber, run, Contains, candidate, chosen}
 use Rattle.mesh.specs.Ends.{gapEnds, goodEnd, goodEnds, between, gap, nearestGood, TwoLooks}
 use Rattle.mesh.specs.declared.Split.{Split}
 use Rattle.mesh.proofs.Containing.{chosen-least}

@@ -2,13 +2,14 @@
 -- fact about all that it turns and flips into, and is shown once.
 use Prim.Native.Nat.{ℕ, _+_, _-_, _≤_, _<_}
 use native.Mathlib.Omega.{arith}
-use mathlib.Core.Path.{_≡_, refl, sym, ap, subst, _∙_}
+use mathlib.Core.Path.{_≡_, subst}
 use mathlib.Core.Bool.{Bool, true}
 use mathlib.Core.List.{List, List·Memᴰ}
-use Rattle.axis.specs.Triple.{triple, Side, lower, upper, RisesIn}
+use Rattle.axis.specs.Triple.{Side, lower, upper, RisesIn}
 use Rattle.axis.specs.declared.Triple.{Triple}
 use Rattle.axis.proofs.Triples.{Inside, Knots}
 use Rattle.axis.proofs.Parts.{OnSide}
+use Rattle.axis.proofs.Sides.{StepIn, mirror, in-mirror, mirror-in, opposite}
 use Rattle.mesh.specs.declared.Blend.{Blend}
 
 -- The sides, the two triples of a blend, the unit steps of uprights and of levels, and the live blends.
@@ -24,10 +25,6 @@ pub record View : Type 0 where
 abbrev pub turn : View → View
 turn Q =
     record { w = Q .h; h = Q .w; across = Q .up; up = Q .across; uprights = Q .levels; levels = Q .uprights; blends = Q .blends }
-
--- a triple, a knot and a step seen from the other end of the side
-abbrev pub mirror : ℕ → Triple → Triple
-mirror s t = triple (s + 2 - t .r) (s + 2 - t .m) (s + 2 - t .l)
 
 abbrev pub flip : View → View
 flip Q =
@@ -45,36 +42,14 @@ flip Q =
 abbrev pub swap : View → View
 swap Q = turn (flip (turn Q))
 
--- the unit step from knot j lies in the lower or the upper part of a triple
-abbrev pub In : Side → ℕ → Triple → Type 0
-In lower j t = (t .l ≤ j) × (j < t .m)
-In upper j t = (t .m ≤ j) × (j < t .r)
-
--- knot z lies strictly inside it
-abbrev pub Parts : Side → ℕ → Triple → Type 0
-Parts lower z t = (t .l < z) × (z < t .m)
-Parts upper z t = (t .m < z) × (z < t .r)
-
-abbrev pub opposite : Side → Side
-opposite lower = upper
-opposite upper = lower
-
-pub in-mirror : (s : ℕ) (y : Side) (k : ℕ) (t : Triple) → RisesIn s t → OnSide s k → In y k t → In (opposite y) (s + 1 - k) (mirror s t)
-in-mirror s lower k t r on i = (omega arith, omega arith)
-in-mirror s upper k t r on i = (omega arith, omega arith)
-
-pub mirror-in : (s : ℕ) (y : Side) (k : ℕ) (t : Triple) → RisesIn s t → OnSide s k → In y k (mirror s t) → In (opposite y) (s + 1 - k) t
-mirror-in s lower k t r on i = (omega arith, omega arith)
-mirror-in s upper k t r on i = (omega arith, omega arith)
-
 abbrev pub Live : View → Blend → Type 0
 Live Q B = List·Memᴰ B (Q .blends)
 
 -- a live blend over the unit square at (j, k), by the quadrant in which the square lies
 pub record Over (Q : View) (x y : Side) (j k : ℕ) (B : Blend) : Type 0 where
   pub live : Live Q B
-  pub column : In x j (Q .across B)
-  pub row : In y k (Q .up B)
+  pub column : StepIn x j (Q .across B)
+  pub row : StepIn y k (Q .up B)
 
 -- What is known of the live blends on one axis: their triples rise; they reach past the domain only with the anchor on its edge; their
 -- grids lie on lines; and no line cuts them.
@@ -98,7 +73,7 @@ pub record SoundView (Q : View) : Type 0 where
 pub record Knot (Q : View) (x : Side) (j v : ℕ) : Type 0 where
   pub blend : Blend
   pub live : Live Q blend
-  pub column : In x j (Q .across blend)
+  pub column : StepIn x j (Q .across blend)
   pub at : Q .up blend .m ≡ v
 
 -- every step of a level inside the domain does so
@@ -183,7 +158,7 @@ module _ (Q : View) (s : SoundView Q) where
   over-flip : (x y : Side) (j k : ℕ) (B : Blend) → OnSide (Q .h) k → Over Q x (opposite y) j (Q .h + 1 - k) B → Over (flip Q) x y j k B
   over-flip x y j k B on o = record { live = o .live; column = o .column; row = back y (o .row) }
     where
-      back : (y : Side) → In (opposite y) (Q .h + 1 - k) (Q .up B) → In y k (mirror (Q .h) (Q .up B))
+      back : (y : Side) → StepIn (opposite y) (Q .h + 1 - k) (Q .up B) → StepIn y k (mirror (Q .h) (Q .up B))
       back lower i = let r = rising B (o .live) in (omega arith, omega arith)
       back upper i = let r = rising B (o .live) in (omega arith, omega arith)
 
@@ -220,7 +195,7 @@ module _ (Q : View) (t : TightView Q) where
                 blend = B;
                 live = r .1 .live;
                 column =
-                    carry (λ (n : ℕ). In (opposite (r .0)) n (mirror (Q .h) (Q .up B))) (let q : Q .h + 1 - (Q .h + 1 - j) ≡ j = omega arith in q)
+                    carry (λ (n : ℕ). StepIn (opposite (r .0)) n (mirror (Q .h) (Q .up B))) (let q : Q .h + 1 - (Q .h + 1 - j) ≡ j = omega arith in q)
                     (in-mirror (Q .h) (r .0) (Q .h + 1 - j) (Q .up B) (t .is-sound .y .rises B (r .1 .live)) (omega arith, omega arith) (r .1 .column));
                 at = r .1 .at;
               },

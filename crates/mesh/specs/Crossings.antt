@@ -1,12 +1,10 @@
 -- Where lines cross, and the grids that lines lie on: report 000, "one blend for each crossing"; document 02, L9, a line "that cuts nothing past its end".
 use Prim.Native.Nat.{ℕ, _+_, _-_, _≤_}
 use mathlib.Core.Path.{_≡_}
-use mathlib.Core.Bool.{Bool, cond, _&&_, _||_}
+use mathlib.Core.Bool.{Bool, cond, _&&_}
 use mathlib.Core.List.{List, [], _∷_, map}
-use lib.Dec.{eqb}
 use Rattle.axis.specs.Range.{each, any}
-use Rattle.axis.specs.Triple.{spans}
-use Rattle.axis.specs.declared.Triple.{Triple}
+use Rattle.axis.specs.Triple.{spans, isKnot}
 use Rattle.mesh.specs.Lines.{Direction, upright, level, other, side, Mesh}
 use Rattle.mesh.specs.Blends.{crossed, along}
 use Rattle.mesh.specs.declared.Blend.{Blend}
@@ -36,9 +34,6 @@ anchors bs = map (λ (B : Blend). point (B .across .m) (B .up .m)) bs
 
 -- The grid of a blend: its uprights at l, m and r from b to t, and its levels at b, n and t from l to r. Whether the unit step from knot k, of a
 -- line of the direction at knot z, lies on it.
-abbrev pub isKnot : ℕ → Triple → Bool
-isKnot z t = eqb z (t .l) || eqb z (t .m) || eqb z (t .r)
-
 abbrev pub onGrid : Direction → ℕ → ℕ → Blend → Bool
 onGrid d z k B = isKnot z (crossed d B) && spans k (along d B)
 

@@ -3,10 +3,10 @@ use Prim.Native.Nat.{ℕ, _+_, _-_}
 use mathlib.Core.Path.{_≡_}
 use mathlib.Core.Logic.{_↔_}
 use mathlib.Core.Bool.{Bool, true, cond, _&&_, _||_}
-use mathlib.Core.List.{List, [], _∷_}
-use lib.Dec.{ltb, eqb}
+use mathlib.Core.List.{[], _∷_}
+use lib.Dec.{eqb}
 use Rattle.axis.specs.Range.{any}
-use Rattle.axis.specs.Triple.{Side, lower, upper}
+use Rattle.axis.specs.Triple.{Side, lower, upper, knotIn}
 use Rattle.axis.specs.Nearest.{below, above}
 use Rattle.axis.specs.declared.Triple.{Triple}
 use Rattle.mesh.specs.Lines.{Direction, direction, other, side, Layout, meshOf}
@@ -14,11 +14,6 @@ use Rattle.mesh.specs.Blends.{crossed, along}
 use Rattle.mesh.specs.Splits.{liveOf, soundWith, exactNumber, run, Contains, candidate, chosen}
 use Rattle.mesh.specs.declared.Split.{Split}
 use Rattle.mesh.specs.declared.Blend.{Blend}
-
--- position z lies strictly between l and m, the lower part of a triple, or between m and r, its upper part
-abbrev pub parts : Side → ℕ → Triple → Bool
-parts lower z t = ltb (t .l) z && ltb z (t .m)
-parts upper z t = ltb (t .m) z && ltb z (t .r)
 
 -- An end of a gap at position z: at knot k a line of the direction goes on, or the domain ends. `lower` is a gap's first knot, `upper` its last.
 abbrev pub gapEnds : Layout → Direction → ℕ → Side → ℕ → Bool
@@ -34,7 +29,7 @@ back upper t = t .l
 -- level of the end, and both blends reach back along the line to the same level.
 abbrev pub abreast : Direction → ℕ → Side → ℕ → Blend → Blend → Bool
 abreast d z e k A B =
-    parts upper z (crossed d A) && parts lower z (crossed d B) && eqb (along d A .m) k && eqb (along d B .m) k &&
+    knotIn upper z (crossed d A) && knotIn lower z (crossed d B) && eqb (along d A .m) k && eqb (along d B .m) k &&
     eqb (back e (along d A)) (back e (along d B))
 
 -- A good end: the gap's, or one at which two live blends of the present map are so.
