@@ -20,6 +20,14 @@ compare a b =
     (λ e. let le = ltb-false a b e in ⊎-elim (λ f. equal (eqb-true a b f)) (λ f. let ne = eqb-false a b f in more (omega arith)) (either (eqb a b)))
     (either (ltb a b))
 
+pub neither : (a b : ℕ) → (a < b → ⊥) → (b < a → ⊥) → a ≡ b
+neither a b f g = by (compare a b)
+  where
+    by : Compared a b → a ≡ b
+    by (less lt) = absurd (f lt)
+    by (equal e) = e
+    by (more gt) = absurd (g gt)
+
 -- Down a run of numbers from its last: a test holds of all, or there is a first one at which it fails.
 pub data Downward (test : ℕ → Bool) (lo hi : ℕ) : Type 0 where
   throughout : ((k : ℕ) → lo ≤ k → k < hi → test k ≡ true) → Downward test lo hi

@@ -40,6 +40,23 @@ pub knot-step : (x : Side) (z : ℕ) (t : Triple) → KnotIn x z t → StepIn x 
 knot-step lower z t p = (omega arith, omega arith)
 knot-step upper z t p = (omega arith, omega arith)
 
+-- The column beside knot z in which a triple with the middle z has that part; and one over it without z for its middle has z inside the part.
+abbrev pub column : Side → ℕ → ℕ
+column lower z = z - 1
+column upper z = z
+
+pub own-column : (x : Side) (z : ℕ) (t : Triple) → Rise t → t .m ≡ z → StepIn x (column x z) t
+own-column lower z t r e = (omega arith, omega arith)
+own-column upper z t r e = (omega arith, omega arith)
+
+pub past-column : (x : Side) (z : ℕ) (t : Triple) → 0 < z → StepIn x (column x z) t → (t .m ≡ z → ⊥) → KnotIn x z t
+past-column lower z t pos i ne = (omega arith, omega arith)
+past-column upper z t pos i ne = (omega arith, omega arith)
+
+pub on-column : (x : Side) (z s : ℕ) → (1 < z) × (z ≤ s) → OnSide s (column x z)
+on-column lower z s i = (omega arith, omega arith)
+on-column upper z s i = (omega arith, omega arith)
+
 -- the same as tests
 pub part-says : (x : Side) (z : ℕ) (t : Triple) → knotIn x z t ≡ true → KnotIn x z t
 part-says lower z t e = let b = and-both (ltb (t .l) z) (ltb z (t .m)) e in (ltb-true _ _ (b .0), ltb-true _ _ (b .1))

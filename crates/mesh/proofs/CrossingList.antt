@@ -10,14 +10,15 @@ use lib.Dec.{leb, ltb, eqb}
 use lib.ListN.{length}
 use borrow.Author.Tests.{eqb-true, eqb-false, eq-eqb, leb-true, leb-false, ltb-true}
 use Rattle.axis.specs.Range.{each, all, any, only}
-use Rattle.axis.specs.Triple.{lower, upper}
+use Rattle.axis.specs.Triple.{Side, lower, upper}
 use Rattle.axis.specs.declared.Triple.{Triple}
 use Rattle.axis.proofs.Tests.{either, true-not-false, and-both, and-of, or-either, or-left, or-right, same-test, all-at, any-at, any-of, only-mem, mem-only, each-same}
 use Rattle.axis.proofs.Counts.{one-at-most}
 use Rattle.axis.proofs.Triples.{Knots, AtFresh}
-use Rattle.axis.proofs.Sides.{from, KnotOf}
+use Rattle.axis.proofs.Sides.{from, KnotOf, StepIn, column}
+use Rattle.axis.proofs.Parts.{OnSide}
 use Rattle.mesh.specs.Lines.{Direction, upright, level, other, side, direction, mesh, freshMesh, draws, inRange, Layout, meshOf}
-use Rattle.mesh.specs.Blends.{anchored, once, leavesOf, inTableOrder, refine, live, firstFour}
+use Rattle.mesh.specs.Blends.{anchored, once, leavesOf, inTableOrder, refine, live, firstFour, crossed}
 use Rattle.mesh.specs.Order.{Coarser}
 use Rattle.mesh.specs.Sound.{sound}
 use Rattle.mesh.specs.Splits.{liveOf}
@@ -118,36 +119,28 @@ module _ (P : Layout) (b : Built P) where
       known : SoundView (viewOf d P)
       known = soundOf P (b .wide) (b .high) (b .four) d
 
+      -- on an edge, by the blend over the column beside it
+      at-edge : (x : Side) → OnSide (side d (P .w) (P .h)) (column x z) →
+          ((B : Blend) → List·Memᴰ B (liveOf P) → StepIn x (column x z) (crossed d B) → z ≡ crossed d B .m) → Gridded P d z k
+      at-edge x on is =
+          let r = known .some x upper (column x z) k on (lk, omega arith) in
+          let o = r .1 in
+          let rise = known .y .rises (r .0) (o .live) in
+          let row = o .row in
+          (r .0, o .live, record { knot = inr (inl (is (r .0) (o .live) (o .column))); lo = omega arith; hi = omega arith })
+
       gridded : meshOf P d z k ≡ true → Gridded P d z k
       gridded on =
-          ⊎-elim (λ e. near (eqb-true z 1 e))
+          let wide = known .x .wide in
+          ⊎-elim
+          (λ e. let one = eqb-true z 1 e in
+          at-edge upper (omega arith, omega arith) (λ B m i. let r = known .x .rises B m in omega arith))
           (λ e. let ne = eqb-false z 1 e in
           ⊎-elim (λ f. b .tight d z k (omega arith, leb-true _ _ f) (lk, omega arith) on)
-          (λ f. let gt = leb-false z (side d (P .w) (P .h)) f in far (omega arith))
+          (λ f. let gt = leb-false z (side d (P .w) (P .h)) f in
+          at-edge lower (omega arith, omega arith) (λ B m i. let r = known .x .rises B m in omega arith))
           (either (leb z (side d (P .w) (P .h)))))
           (either (eqb z 1))
-        where
-          near : z ≡ 1 → Gridded P d z k
-          near e =
-              let wide = known .x .wide in
-              let r = known .some upper upper 1 k (omega arith, omega arith) (omega arith, omega arith) in
-              let o = r .1 in
-              let rx = known .x .rises (r .0) (o .live) in
-              let ry = known .y .rises (r .0) (o .live) in
-              let c = o .column in
-              let w = o .row in
-              (r .0, o .live, record { knot = inr (inl (omega arith)); lo = omega arith; hi = omega arith })
-
-          far : z ≡ side d (P .w) (P .h) + 1 → Gridded P d z k
-          far e =
-              let wide = known .x .wide in
-              let r = known .some lower upper (side d (P .w) (P .h)) k (omega arith, omega arith) (omega arith, omega arith) in
-              let o = r .1 in
-              let rx = known .x .rises (r .0) (o .live) in
-              let ry = known .y .rises (r .0) (o .live) in
-              let c = o .column in
-              let w = o .row in
-              (r .0, o .live, record { knot = inr (inl (omega arith)); lo = omega arith; hi = omega arith })
 
 -- A line inside the domain runs out exactly where it reaches the domain's edge.
 abbrev Ranges : Layout → Type 0

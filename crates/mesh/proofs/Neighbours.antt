@@ -11,7 +11,8 @@ use Rattle.axis.specs.Triple.{Side, lower, upper}
 use Rattle.axis.proofs.Tests.{either, true-not-false}
 use Rattle.axis.proofs.Parts.{OnSide}
 use Rattle.axis.proofs.Runs.{Compared, less, equal, more, compare}
-use Rattle.axis.proofs.Sides.{StepIn, KnotIn, opposite, mirror, same-back, other-end, back-flip}
+use Rattle.axis.proofs.Sides.{StepIn, KnotIn, opposite, mirror, same-back, other-end, back-flip, column, own-column, past-column, on-column}
+use Rattle.axis.proofs.Triples.{rise-of}
 use Rattle.mesh.specs.Ends.{back}
 use Rattle.mesh.specs.declared.Blend.{Blend}
 use Rattle.mesh.proofs.View.{View, turn, flip, Live, Over, Knot, SoundView, TightView, flip-sound, flip-tight, flipped, on-mirror}
@@ -183,32 +184,22 @@ module _ (Q : View) (t : TightView Q) (z a : ℕ) (hz : (1 < z) × (z < Q .w + 1
     begins : Q .up blend .l ≡ Q .up X .m
 
   beside : (x : Side) → Beside x
-  beside upper =
-      let r = s .some upper lower z (a - 1) (omega arith, omega arith) (omega arith, omega arith) in
+  beside x =
+      let on = on-column x z (Q .w) (hz .0, omega arith) in
+      let r = s .some x lower (column x z) (a - 1) on (omega arith, omega arith) in
       let C : Blend = r .0 in
       let o = r .1 in
-      let rx = s .x .rises X (last .live) in
-      let at = last .at in
-      let n = neighbours Q s (omega arith, omega arith) (omega arith, omega arith)
-      (record { live = last .live; column = (omega arith, omega arith); row = last .row }) o in
+      let n = neighbours Q s on (omega arith, omega arith)
+      (record { live = last .live; column = own-column x z (Q .across X) (rise-of (s .x .rises X (last .live))) (last .at); row = last .row }) o in
       let ends = last .ends in
-      let ry = s .y .rises C (o .live) in
-      let c = o .column in
-      let ne : Q .across C .m ≡ z → ⊥ = λ e. past C (o .live) e (omega arith) (omega arith) in
-      record { blend = C; live = o .live; over = (omega arith, omega arith); anchored = omega arith; begins = n .0 }
-  beside lower =
-      let r = s .some lower lower (z - 1) (a - 1) (omega arith, omega arith) (omega arith, omega arith) in
-      let C : Blend = r .0 in
-      let o = r .1 in
-      let rx = s .x .rises X (last .live) in
-      let at = last .at in
-      let n = neighbours Q s (omega arith, omega arith) (omega arith, omega arith)
-      (record { live = last .live; column = (omega arith, omega arith); row = last .row }) o in
-      let ends = last .ends in
-      let ry = s .y .rises C (o .live) in
-      let c = o .column in
-      let ne : Q .across C .m ≡ z → ⊥ = λ e. past C (o .live) e (omega arith) (omega arith) in
-      record { blend = C; live = o .live; over = (omega arith, omega arith); anchored = omega arith; begins = n .0 }
+      let rise = s .y .rises C (o .live) in
+      record {
+        blend = C;
+        live = o .live;
+        over = past-column x z (Q .across C) (omega arith) (o .column) (λ e. past C (o .live) e (omega arith) (omega arith));
+        anchored = omega arith;
+        begins = n .0;
+      }
 
   ended-above : Ended Q upper z a
   ended-above =

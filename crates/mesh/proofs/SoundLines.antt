@@ -13,7 +13,7 @@ use Rattle.axis.proofs.Tests.{either, true-not-false, false-of, and-both, every
 use Rattle.axis.proofs.Triples.{Rise, Inside, Knots, half-rises, half-within, half-knots, triple-eq}
 use Rattle.axis.proofs.Parts.{OnSide, lies, beside}
 use Rattle.axis.proofs.Counts.{one-at-most}
-use Rattle.axis.proofs.Runs.{Compared, less, equal, more, compare, Downward, throughout, until, downward}
+use Rattle.axis.proofs.Runs.{Downward, throughout, until, downward, neither}
 use Rattle.axis.proofs.Sides.{KnotIn, opposite, from, to, knot-step, lies-at, halves-of, kept, kept-is, kept-in, kept-away, one-part, part-of, inside-of, StepIn}
 use Rattle.mesh.specs.Lines.{Direction, upright, level, other, side, Mesh, Layout, meshOf}
 use Rattle.mesh.specs.Blends.{crossed, along, cuts, halve, live}
@@ -450,26 +450,10 @@ module _ (P : Layout) (b : Built P) (s : Split) (d : Direction) (r : Ranged (P .
     same-level : (q : Side) (u w v a e f : ℕ) → StepIn q k (triple u w v) → StepIn q k (triple a e f) → (u < w) × (w < v) → (a < e) × (e < f) →
         ((i : ℕ) → u < i → i < v → Q .levels i z ≡ true → i ≡ w) → ((i : ℕ) → a < i → i < f → Q .levels i z ≡ true → i ≡ e) →
         Q .levels w z ≡ true → Q .levels e z ≡ true → w ≡ e
-    same-level lower u w v a e f i o r p alone other won eon = by (compare w e)
-      where
-        by : Compared w e → w ≡ e
-        by (equal q) = q
-        by (less lt) = let same = other w (omega arith) (omega arith) won in omega arith
-        by (more gt) = let same = alone e (omega arith) (omega arith) eon in omega arith
-    same-level upper u w v a e f i o r p alone other won eon = by (compare w e)
-      where
-        by : Compared w e → w ≡ e
-        by (equal q) = q
-        by (less lt) = let same = alone e (omega arith) (omega arith) eon in omega arith
-        by (more gt) = let same = other w (omega arith) (omega arith) won in omega arith
-
-    same-end : (w v f : ℕ) → w < v → w < f → (v < f → ⊥) → (f < v → ⊥) → v ≡ f
-    same-end w v f a b c e = by (compare v f)
-      where
-        by : Compared v f → v ≡ f
-        by (equal q) = q
-        by (less lt) = absurd (c lt)
-        by (more gt) = absurd (e gt)
+    same-level lower u w v a e f i o r p alone other won eon =
+        neither w e (λ lt. let same = other w (omega arith) (omega arith) won in omega arith) (λ gt. let same = alone e (omega arith) (omega arith) eon in omega arith)
+    same-level upper u w v a e f i o r p alone other won eon =
+        neither w e (λ lt. let same = alone e (omega arith) (omega arith) eon in omega arith) (λ gt. let same = other w (omega arith) (omega arith) won in omega arith)
 
     pieces : (B C : Blend) (x y : Side) (X Y : Blend) → Piece Q z (N d z) x X (along d B .l) (along d B .m) (along d B .r) →
         crossed d B ≡ triple (from x (crossed d X)) z (to x (crossed d X)) → Knots (λ (v : ℕ). Q .levels v z ≡ true) (along d B) →
@@ -492,24 +476,14 @@ module _ (P : Layout) (b : Built P) (s : Split) (d : Direction) (r : Ranged (P .
         low w =
             let rp = p .rises in
             let ro = o .rises in
-            same-start (along d B .m) (along d B .l) (along d C .l) (rp .0) (omega arith)
-            (λ lt. let is = p .alone-right (along d C .l) lt (omega arith) (m .l) in omega arith)
+            neither (along d B .l) (along d C .l) (λ lt. let is = p .alone-right (along d C .l) lt (omega arith) (m .l) in omega arith)
             (λ lt. let is = o .alone-right (along d B .l) lt (omega arith) (n .l) in omega arith)
-          where
-            same-start : (w v f : ℕ) → v < w → f < w → (v < f → ⊥) → (f < v → ⊥) → v ≡ f
-            same-start w v f a b c e = by (compare v f)
-              where
-                by : Compared v f → v ≡ f
-                by (equal q) = q
-                by (less lt) = absurd (c lt)
-                by (more gt) = absurd (e gt)
 
         high : along d B .m ≡ along d C .m → along d B .r ≡ along d C .r
         high w =
             let rp = p .rises in
             let ro = o .rises in
-            same-end (along d B .m) (along d B .r) (along d C .r) (rp .1) (omega arith)
-            (λ lt. let is = o .alone-right (along d B .r) (omega arith) lt (n .r) in omega arith)
+            neither (along d B .r) (along d C .r) (λ lt. let is = o .alone-right (along d B .r) (omega arith) lt (n .r) in omega arith)
             (λ lt. let is = p .alone-right (along d C .r) (omega arith) lt (m .r) in omega arith)
 
     kinds : (B C : Blend) → Kind B → Kind C → Sits B → Sits C → B ≡ C

@@ -10,7 +10,8 @@ use Rattle.axis.specs.Triple.{Side, lower, upper}
 use Rattle.axis.proofs.Tests.{either, true-not-false}
 use Rattle.axis.proofs.Parts.{OnSide}
 use Rattle.axis.proofs.Runs.{Downward, throughout, until, downward}
-use Rattle.axis.proofs.Sides.{StepIn, KnotIn, opposite, mirror, in-mirror}
+use Rattle.axis.proofs.Sides.{column, StepIn, KnotIn, opposite, mirror, in-mirror, inside-of, own-column, past-column, on-column}
+use Rattle.axis.proofs.Triples.{rise-of}
 use Rattle.mesh.specs.declared.Blend.{Blend}
 use Rattle.mesh.proofs.View.{View, turn, flip, Live, Knot, SoundView, flip-sound}
 use Rattle.mesh.proofs.Neighbours.{neighbours, grid-at}
@@ -59,27 +60,21 @@ module _ (Q : View) (s : SoundView Q) (z : ℕ) (hz : (1 < z) × (z ≤ Q .w)) (
       ends : Q .up blend .r ≡ Q .up (Y .blend) .m
 
     under : (x : Side) → Used Q z (v - 1) ⊎ Under x
-    under upper =
-        let r = s .some upper upper z v (omega arith, omega arith) inRow in
+    under x =
+        let on-side = on-column x z (Q .w) hz in
+        let r = s .some x upper (column x z) v on-side inRow in
         let o = r .1 in
-        let at = Y .at in
-        let ry = s .x .rises (Y .blend) (Y .live) in
-        let n = neighbours Q s (omega arith, omega arith) inRow o (record { live = Y .live; column = (omega arith, omega arith); row = Y .column }) in
-        let c = o .column in
+        let n = neighbours Q s on-side inRow o
+        (record { live = Y .live; column = own-column x z (Q .across (Y .blend)) (rise-of (s .x .rises (Y .blend) (Y .live))) (Y .at); row = Y .column }) in
         ⊎-elim (λ e. inl (below-it (record { blend = r .0; live = o .live; column = o .row; at = eqb-true _ _ e })))
-        (λ e. let ne = eqb-false (Q .across (r .0) .m) z e in
-        inr (record { blend = r .0; live = o .live; over = (omega arith, omega arith); anchored = omega arith; ends = n .1 }))
-        (either (eqb (Q .across (r .0) .m) z))
-    under lower =
-        let r = s .some lower upper (z - 1) v (omega arith, omega arith) inRow in
-        let o = r .1 in
-        let at = Y .at in
-        let ry = s .x .rises (Y .blend) (Y .live) in
-        let n = neighbours Q s (omega arith, omega arith) inRow o (record { live = Y .live; column = (omega arith, omega arith); row = Y .column }) in
-        let c = o .column in
-        ⊎-elim (λ e. inl (below-it (record { blend = r .0; live = o .live; column = o .row; at = eqb-true _ _ e })))
-        (λ e. let ne = eqb-false (Q .across (r .0) .m) z e in
-        inr (record { blend = r .0; live = o .live; over = (omega arith, omega arith); anchored = omega arith; ends = n .1 }))
+        (λ e. inr
+        (record {
+          blend = r .0;
+          live = o .live;
+          over = past-column x z (Q .across (r .0)) (omega arith) (o .column) (eqb-false _ _ e);
+          anchored = omega arith;
+          ends = n .1;
+        }))
         (either (eqb (Q .across (r .0) .m) z))
 
     -- the upright would cut one, if it covered the rows below
@@ -87,14 +82,10 @@ module _ (Q : View) (s : SoundView Q) (z : ℕ) (hz : (1 < z) × (z ≤ Q .w)) (
     bare {x} u below =
         let ends = u .ends in
         let ry = s .y .rises (Y .blend) (Y .live) in
-        s .x .clear (u .blend) (u .live) z (inside x (u .over))
+        s .x .clear (u .blend) (u .live) z (inside-of x z (Q .across (u .blend)) (rise-of (s .x .rises (u .blend) (u .live))) (u .over))
         (λ k lo hi.
         ⊎-elim (λ e. below k lo (ltb-true k v e))
         (λ e. let le = ltb-false k v e in grid-at Q s (Y .blend) (Y .live) (Y .at) (omega arith) (omega arith)) (either (ltb k v)))
-      where
-        inside : (x : Side) → KnotIn x z (Q .across (u .blend)) → Rattle.axis.proofs.Triples.Inside z (Q .across (u .blend))
-        inside lower p = let r = s .x .rises (u .blend) (u .live) in record { lo = omega arith; hi = omega arith; off = omega arith }
-        inside upper p = let r = s .x .rises (u .blend) (u .live) in record { lo = omega arith; hi = omega arith; off = omega arith }
 
     beside : (x : Side) (j : ℕ) (t : Rattle.axis.specs.declared.Triple.Triple) → (j ≡ z) ⊎ (j + 1 ≡ z) → KnotIn x z t → StepIn x j t
     beside lower j t (inl e) p = (omega arith, omega arith)
