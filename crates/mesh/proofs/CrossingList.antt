@@ -40,9 +40,9 @@ use Rattle.mesh.proofs.TightMaps.{Built, Gridded, viewOf, soundOf, tigh
 module _ (P : Layout) (m n : ℕ) where
   crosses-says : (1 ≤ m) × (m ≤ P .w + 1) → (1 ≤ n) × (n ≤ P .h + 1) → crosses (meshOf P) m n ≡ true → Crossing (viewOf upright P) m n
   crosses-says hm hn e =
-      let a = and-both (passes (meshOf P) upright m n) (passes (meshOf P) level n m) e in
-      let u = and-both (meshOf P upright m (n - 1)) (meshOf P upright m n) (a .0) in
-      let v = and-both (meshOf P level n (m - 1)) (meshOf P level n m) (a .1) in
+      let a = and-both _ _ e in
+      let u = and-both _ _ (a .0) in
+      let v = and-both _ _ (a .1) in
       record { across = hm; up = hn; below = u .0; above = u .1; left = v .0; right = v .1 }
 
   crosses-of : Crossing (viewOf upright P) m n → crosses (meshOf P) m n ≡ true

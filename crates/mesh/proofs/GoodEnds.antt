@@ -36,10 +36,10 @@ module _ (P : Layout) (d : Direction) (z : ℕ) (e : Side) (k : ℕ) where
 
   abreast-says : (A B : Blend) → List·Memᴰ A (liveOf P) → List·Memᴰ B (liveOf P) → abreast d z e k A B ≡ true → Abreast Q e z k
   abreast-says A B mA mB t =
-      let a = and-both (knotIn upper z (crossed d A) && knotIn lower z (crossed d B) && eqb (along d A .m) k && eqb (along d B .m) k) (eqb (back e (along d A)) (back e (along d B))) t in
-      let b = and-both (knotIn upper z (crossed d A) && knotIn lower z (crossed d B) && eqb (along d A .m) k) (eqb (along d B .m) k) (a .0) in
-      let c = and-both (knotIn upper z (crossed d A) && knotIn lower z (crossed d B)) (eqb (along d A .m) k) (b .0) in
-      let f = and-both (knotIn upper z (crossed d A)) (knotIn lower z (crossed d B)) (c .0) in
+      let a = and-both _ _ t in
+      let b = and-both _ _ (a .0) in
+      let c = and-both _ _ (b .0) in
+      let f = and-both _ _ (c .0) in
       record {
         reach = back e (along d A);
         at = at;
@@ -88,8 +88,8 @@ inner-room P d z upper k r ne = (omega arith, omega arith)
 
 -- a gap's end: the domain's edge, or a line that goes on
 pub gap-either : (P : Layout) (d : Direction) (z : ℕ) (e : Side) (k : ℕ) → gapEnds P d z e k ≡ true → (k ≡ edgeOf (viewOf d P) e) ⊎ (meshOf P d z (outward e k) ≡ true)
-gap-either P d z lower k t = ⊎-elim (λ q. inl (eqb-true _ _ q)) inr (or-either (eqb k 1) (meshOf P d z (k - 1)) t)
-gap-either P d z upper k t = ⊎-elim (λ q. inl (eqb-true _ _ q)) inr (or-either (eqb k (side (other d) (P .w) (P .h) + 1)) (meshOf P d z k) t)
+gap-either P d z lower k t = ⊎-elim (λ q. inl (eqb-true _ _ q)) inr (or-either _ _ t)
+gap-either P d z upper k t = ⊎-elim (λ q. inl (eqb-true _ _ q)) inr (or-either _ _ t)
 
 pub gap-edge : (P : Layout) (d : Direction) (z : ℕ) (e : Side) (k : ℕ) → k ≡ edgeOf (viewOf d P) e → gapEnds P d z e k ≡ true
 gap-edge P d z lower k q = or-left _ _ (eq-eqb _ _ q)
