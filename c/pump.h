@@ -17,8 +17,14 @@
  *
  * A map is sound when inside every unit square exactly four blends are above 0; then all blends add up to one at
  * every point, no two have one anchor, and the reading at an anchor is its value. Every map here is sound: a line
- * that would leave another one is refused. Which lines those are cannot be seen at a glance; ask, and lengthen what
- * is refused with 8.
+ * that would leave another one is refused with 8.
+ *
+ * The anchors are exactly the points where an upright and a level both pass; a line that ends on another adds none
+ * there. A line that passes the other checks leaves a sound map exactly when both its ends are good. The far end of
+ * an upright line at level p is good at speed q where q is the edge, or a line goes on there at level p, or where
+ * two blends have their anchors at speed q, one with m < p < r and one with l < p < m, and the same b. Its near end
+ * is good likewise, with the same t; a level line likewise, with the axes changed round. The ends of a whole gap are
+ * good, so a line that is refused with 8 can always be lengthened.
  *
  * Maps are bytes
  * --------------
@@ -70,7 +76,7 @@ enum {
     PUMP_SHARED = 5,        /* the split shares more than one point with a line of its direction at its position */
     PUMP_LOOSE_END = 6,     /* an end of the split lies on no line of the other direction */
     PUMP_CUTS_NOTHING = 7,  /* the split, joined with lines that it touches, cuts no blend */
-    PUMP_UNSOUND = 8,       /* the exact split leaves a map that is not sound, or no lengthened line exists */
+    PUMP_UNSOUND = 8,       /* the exact split leaves a map that is not sound: one of its ends is not good */
     PUMP_NO_ANCHOR = 9,     /* no blend has the anchor, or the table place, asked about */
     PUMP_OUTSIDE = 10,      /* the point, row or column lies outside the domain, 0 to w by 0 to h */
     PUMP_NO_FILE = 11,      /* the bytes are not a map file, *used is above size, or no whole record is at the place */
@@ -125,9 +131,10 @@ size_t pump_set(uint8_t *buffer, size_t size, size_t *used, size_t m, size_t n, 
 size_t pump_exact_split(uint8_t *buffer, size_t size, size_t *used, size_t direction, size_t position, size_t from,
                         size_t to);
 
-/* Draws, of all lines that contain the given one and would be accepted as exact splits, the shortest; of several the
-   one that starts lowest. It is the last split of the file. Refusals 3 to 7 look at the line as given.
-   Refused with 11, 3 to 8, or 12. */
+/* Draws, of all lines that contain the given one and would be accepted as exact splits, the shortest: the one between
+   the nearest good ends, which lies in all the others. It is the last split of the file. Refusals 3 to 7 look at the
+   line as given; 8 does not come, since there always is such a line.
+   Refused with 11, 3 to 7, or 12. */
 size_t pump_lengthened_split(uint8_t *buffer, size_t size, size_t *used, size_t direction, size_t position, size_t from,
                              size_t to);
 

@@ -139,10 +139,10 @@ pub record DemandFrom (P : Plain) (cs : List Call) : Type 0 where
   pub same-blends : (Q : Plain) → Start Q → Q .lines .w ≡ P .lines .w → Q .lines .h ≡ P .lines .h → (ds : List Call) →
       Coarser (meshBy P cs) (meshBy Q ds) → Coarser (meshBy Q ds) (meshBy P cs) →
       (bs : List Blend) → Tabled (leftBy Q ds) bs → bs ≡ blends
-  -- Report 000, "one blend for each crossing": the anchors of the blends that the table calls give are the points where an upright and a level pass
-  -- through each other, run-out counted, in the same order; so there are as many.
+  -- Report 000, "there is one basis function for each cross vertex in the mesh": the anchors of the blends that the table calls give are the points
+  -- where an upright and a level pass through each other, run-out counted, in the same order; so there are as many.
   pub are-crossings : anchors blends ≡ crossings (P .lines .w) (P .lines .h) (meshBy P cs)
-  -- Document 02, L9: no line goes on past the grids of these blends inside the domain, and the grids lie on lines; so any two lists on equal sides
+  -- Document 02, L9: inside the domain no line goes on past the grids of these blends, and the grids lie on lines. So any two lists on equal sides
   -- that end with the same blends have lines that cover the same points.
   pub are-grids : Tight (P .lines .w) (P .lines .h) (meshBy P cs) blends
   pub same-lines : (Q : Plain) → Start Q → Q .lines .w ≡ P .lines .w → Q .lines .h ≡ P .lines .h → (ds : List Call) → Tabled (leftBy Q ds) blends →

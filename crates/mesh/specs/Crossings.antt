@@ -1,4 +1,5 @@
--- Where lines cross, and the grids that lines lie on: report 000, "one blend for each crossing"; document 02, L9, a line "that cuts nothing past its end".
+-- Where lines cross, and the grids that lines lie on: report 000, "there is one basis function for each cross vertex in the mesh"; document 02, L9, "a
+-- line that cuts nothing past its end".
 use Prim.Native.Nat.{ℕ, _+_, _-_, _≤_}
 use mathlib.Core.Path.{_≡_}
 use mathlib.Core.Bool.{Bool, cond, _&&_}
