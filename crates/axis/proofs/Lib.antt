@@ -3,14 +3,14 @@ pub mod Members
 pub mod Entries
 pub mod Distinct
 pub mod Counts
+pub mod Runs
 pub mod Turns
 pub mod Padding
 pub mod Triples
 pub mod Nearest
 pub mod Parts
+pub mod Sides
 pub mod Scale
 pub mod Hats
 pub mod Sums
 pub mod Gaps
-pub mod Runs
-pub mod Sides

@@ -116,6 +116,21 @@ module _ (P : Layout) (b : Built P) (s : Split) (fits : inRange (P .w) (P .h) s 
       let in-side = ends-in P s fits in
       fails-some (line .from + 1) (line .to - line .from) (meshOf P way at) (λ k lo hi. in-gap k lo (omega (arith, low-end .0, high-end .0)))
 
+  -- so it is a candidate, if the ends are good ones.
+  pub between-candidate : ((e : Side) (k : ℕ) → ends e k ≡ true → goodEnd P way at e k ≡ true) → candidate P line ≡ true
+  unfolding goodEnds
+  between-candidate good =
+      good-candidate P b line (contains-fits P s line fits contains) shares-none (and-of _ _ (good lower _ (low-end .1)) (good upper _ (high-end .2)))
+
+-- The whole gap is a candidate, also where nothing is cut.
+pub gap-sound : (P : Layout) (b : Built P) (s : Split) → inRange (P .w) (P .h) s ≡ true → shares (meshOf P) s ≡ false →
+    Contains P s (gap P s) × (candidate P (gap P s) ≡ true)
+unfolding gap
+gap-sound P b s fits apart =
+    let d = direction (s .direction) in
+    let ends = gapEnds P d (s .position + 1) in
+    (contains P b s fits apart ends (λ e k t. t), between-candidate P b s fits apart ends (λ e k t. t) (gap-good P d (s .position + 1)))
+
 -- A split that passes 3 to 7:
 module _ (P : Layout) (b : Built P) (s : Split) (e : given P s ≡ 0) where
   g : Given P s
@@ -148,34 +163,19 @@ module _ (P : Layout) (b : Built P) (s : Split) (e : given P s ≡ 0) where
   unfolding exactNumber
   refused-is = rw (eq-eqb _ _ e, exact-is)
 
-  abbrev all-gaps : (k : Side) (n : ℕ) → gapEnds P (direction (s .direction)) (s .position + 1) k n ≡ true → goodEnd P (direction (s .direction)) (s .position + 1) k n ≡ true
-  all-gaps k n t = gap-good P (direction (s .direction)) (s .position + 1) k n t
+  abbrev gaps : Side → ℕ → Bool
+  gaps = gapEnds P (direction (s .direction)) (s .position + 1)
 
-  -- the two lines between nearest ends: the whole gap, and the one between the nearest good ends
-  module _ (ends : Side → ℕ → Bool)
-      (gaps : (k : Side) (n : ℕ) → gapEnds P (direction (s .direction)) (s .position + 1) k n ≡ true → ends k n ≡ true)
-      (good : (k : Side) (n : ℕ) → ends k n ≡ true → goodEnd P (direction (s .direction)) (s .position + 1) k n ≡ true) where
-    between-candidate : candidate P (between ends P s) ≡ true
-    unfolding goodEnds
-    between-candidate =
-        let i = contains P b s (g .fits) (g .apart) ends gaps in
-        good-candidate P b (between ends P s) (contains-fits P s (between ends P s) (g .fits) i) (shares-none P b s (g .fits) (g .apart) ends gaps)
-        (and-of _ _ (good lower _ (low-end P b s (g .fits) (g .apart) ends gaps .1)) (good upper _ (high-end P b s (g .fits) (g .apart) ends gaps .2)))
-
-  gap-is : Contains P s (gap P s) × (candidate P (gap P s) ≡ true)
-  unfolding gap
-  gap-is =
-      let ends = gapEnds P (direction (s .direction)) (s .position + 1) in
-      (contains P b s (g .fits) (g .apart) ends (λ k n t. t), between-candidate ends (λ k n t. t) all-gaps)
+  all-gaps : (k : Side) (n : ℕ) → gaps k n ≡ true → goodEnd P (direction (s .direction)) (s .position + 1) k n ≡ true
+  all-gaps = gap-good P (direction (s .direction)) (s .position + 1)
 
   -- a candidate lies in the gap, and a line there between good ends is one
   in-whole-gap : (c : Split) → Contains P s c → candidate P c ≡ true → Contains P c (gap P s)
   unfolding gap shares
   in-whole-gap c i t =
       let f = candidate-says c t in
-      let ends = gapEnds P (direction (s .direction)) (s .position + 1) in
-      let low = low-end P b s (g .fits) (g .apart) ends (λ k n t. t) in
-      let high = high-end P b s (g .fits) (g .apart) ends (λ k n t. t) in
+      let low = low-end P b s (g .fits) (g .apart) gaps (λ k n t. t) in
+      let high = high-end P b s (g .fits) (g .apart) gaps (λ k n t. t) in
       let begins = i .begins in
       let reaches = i .ends in
       let within = i .within in
@@ -186,27 +186,26 @@ module _ (P : Layout) (b : Built P) (s : Split) (e : given P s ≡ 0) where
         same-way = sym (i .same-way);
         same-place = sym (i .same-place);
         begins = ⊎-elim (λ q. leb-true _ _ q)
-            (λ q. let gt = leb-false (between ends P s .from) (c .from) q in
+            (λ q. let gt = leb-false (between gaps P s .from) (c .from) q in
             absurd (⊎-elim (λ one. omega arith) (λ on. true-not-false _ on (rows _ (omega arith) (omega (arith, low .0))))
-            (gap-either P (direction (s .direction)) (s .position + 1) lower (between ends P s .from + 1) (low .1))))
-            (either (leb (between ends P s .from) (c .from)));
+            (gap-either P (direction (s .direction)) (s .position + 1) lower (between gaps P s .from + 1) (low .1))))
+            (either (leb (between gaps P s .from) (c .from)));
         ends = ⊎-elim (λ q. leb-true _ _ q)
-            (λ q. let gt = leb-false (c .to) (between ends P s .to) q in
+            (λ q. let gt = leb-false (c .to) (between gaps P s .to) q in
             absurd (⊎-elim (λ last. omega (arith, high .1)) (λ on. true-not-false _ on (rows _ (omega (arith, high .0)) (omega arith)))
-            (gap-either P (direction (s .direction)) (s .position + 1) upper (between ends P s .to + 1) (high .2))))
-            (either (leb (c .to) (between ends P s .to)));
+            (gap-either P (direction (s .direction)) (s .position + 1) upper (between gaps P s .to + 1) (high .2))))
+            (either (leb (c .to) (between gaps P s .to)));
         within = rw (i .same-way) (high .1);
       }
 
   gap-candidate : (c : Split) → Contains P s c → Contains P c (gap P s) → goodEnds P c ≡ true → candidate P c ≡ true
   unfolding gap shares
   gap-candidate c i o t =
-      let ends = gapEnds P (direction (s .direction)) (s .position + 1) in
       let begins = o .begins in
       let reaches = o .ends in
       good-candidate P b c (contains-fits P s c (g .fits) i)
       (rw (i .same-way, i .same-place)
-      (fails-some (c .from + 1) (c .to - c .from) _ (λ k lo hi. in-gap P b s (g .fits) (g .apart) ends (λ k n t. t) k (omega arith) (omega arith)))) t
+      (fails-some (c .from + 1) (c .to - c .from) _ (λ k lo hi. in-gap P b s (g .fits) (g .apart) gaps (λ k n t. t) k (omega arith) (omega arith)))) t
 
   abbrev good-ends : Side → ℕ → Bool
   good-ends = goodEnd P (direction (s .direction)) (s .position + 1)
@@ -217,7 +216,7 @@ module _ (P : Layout) (b : Built P) (s : Split) (e : given P s ≡ 0) where
 
   nearest-candidate : candidate P (nearestGood P s) ≡ true
   unfolding nearestGood
-  nearest-candidate = between-candidate good-ends all-gaps (λ k n t. t)
+  nearest-candidate = between-candidate P b s (g .fits) (g .apart) good-ends all-gaps (λ k n t. t)
 
   nearest-in : (c : Split) → Contains P s c → candidate P c ≡ true → Contains P (nearestGood P s) c
   unfolding nearestGood goodEnds
@@ -267,7 +266,7 @@ module _ (P : Layout) (b : Built P) (s : Split) (e : given P s ≡ 0) where
       record {
         exact = exact-is;
         refused = refused-is;
-        whole-gap = gap-is;
+        whole-gap = gap-sound P b s (g .fits) (g .apart);
         taken = taken-is;
         in-all = nearest-in;
         candidates = λ c i. (λ t. (in-whole-gap c i t, candidate-good c i t), λ f. gap-candidate c i (f .0) (f .1));

@@ -40,7 +40,8 @@ unfoldable pub goodEnds : Layout → Split → Bool
 goodEnds P s =
     let good = goodEnd P (direction (s .direction)) (s .position + 1) in good lower (s .from + 1) && good upper (s .to + 1)
 
--- the line through a given one, between the nearest ends of a kind at or before its start and at or after its end
+-- The line through a given one, between the nearest ends of a kind at or before its start and at or after its end: the last of the numbers 1 to `from`
+-- that is one, else 0, and the first of the numbers `to` to the side that is one. (0 and the side are ends of every kind.)
 abbrev pub between : (Side → ℕ → Bool) → Layout → Split → Split
 between ends P s =
     record {
