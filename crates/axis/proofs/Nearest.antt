@@ -154,6 +154,7 @@ above-first test r (suc n) pos le last =
     (λ z. let more = eqb-false n 0 z in
     let rest = above-first test r n (omega arith) (omega arith) last in
     (omega (arith, rest .0), rest .1, rest .2,
-    λ k lo hi. ⊎-elim (λ q. rw (eqb-true k (r - suc n) q) t) (λ q. let ne = eqb-false k (r - suc n) q in rest .3 k (omega arith) hi) (either (eqb k (r - suc n)))))
+    λ k lo hi. ⊎-elim (λ q. rw (eqb-true k (r - suc n) q) t) (λ q. let ne = eqb-false k (r - suc n) q in rest .3 k (omega arith) hi)
+        (either (eqb k (r - suc n)))))
     (either (eqb n 0))))
     (either (test (r - suc n)))

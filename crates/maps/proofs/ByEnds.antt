@@ -30,7 +30,8 @@ module _ (P : Plain) (at : Reached P) where
     looks : TwoLooks (P .lines) s
     looks = two-looks (P .lines) built s e
 
-    by-number : (n : ℕ) (b : Bool) → n ≡ cond b 0 8 → (o : Outcome Plain) → o .answer ≡ number 0 → cond (eqb n 0) o (outcome (number n) P) .answer ≡ number (cond b 0 8)
+    by-number : (n : ℕ) (b : Bool) → n ≡ cond b 0 8 → (o : Outcome Plain) → o .answer ≡ number 0 →
+        cond (eqb n 0) o (outcome (number n) P) .answer ≡ number (cond b 0 8)
     by-number n true q o a = rw q a
     by-number n false q o a = rw q
 

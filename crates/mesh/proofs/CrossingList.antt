@@ -87,9 +87,11 @@ module _ (P : Layout) (b : Built P) where
           (λ B C mB mC e f.
           let i = anchored-at m n B e in
           let j = anchored-at m n C f in
-          own-anchors (P .w) (P .h) (b .wide) (b .high) (meshOf P) is-sound B C (listed B mB (i .0) (i .1)) (listed C mC (j .0) (j .1)) (i .0 ∙ sym (j .0)) (i .1 ∙ sym (j .1))))
+          own-anchors (P .w) (P .h) (b .wide) (b .high) (meshOf P) is-sound B C (listed B mB (i .0) (i .1)) (listed C mC (j .0) (j .1)) (i .0 ∙ sym (j .0))
+          (i .1 ∙ sym (j .1))))
           (λ e. let a = crossing-anchored (viewOf upright P) (tight-view P b upright) m n (crosses-says P m n hm hn e) in
-          (a .blend, mem-only (anchored m n) bs (a .blend) (order-mem (P .w) (P .h) bs (a .blend) (a .live) .0) (and-of _ _ (eq-eqb _ _ (a .across)) (eq-eqb _ _ (a .up)))))
+          (a .blend, mem-only (anchored m n) bs (a .blend) (order-mem (P .w) (P .h) bs (a .blend) (a .live) .0)
+          (and-of _ _ (eq-eqb _ _ (a .across)) (eq-eqb _ _ (a .up)))))
           (λ e B k. let o = only-mem (anchored m n) bs B k in
           let i = anchored-at m n B (o .1) in
           true-not-false _
@@ -156,7 +158,8 @@ unfolding mesh freshMesh
 step-says P ok d z k on =
     ⊎-elim
     (λ f. fresh-step (fresh-positions (P .w) (P .h) d z k (or-left (freshMesh (P .w) (P .h) d z k) false f))
-    (ltb-true _ _ (and-both (eqb z 0 || eqb z 1 || eqb z (side d (P .w) (P .h) + 1) || eqb z (side d (P .w) (P .h) + 2)) (ltb k (side (other d) (P .w) (P .h) + 2)) f .1)))
+    (ltb-true _ _ (and-both (eqb z 0 || eqb z 1 || eqb z (side d (P .w) (P .h) + 1) || eqb z (side d (P .w) (P .h) + 2))
+    (ltb k (side (other d) (P .w) (P .h) + 2)) f .1)))
     (λ a. let t = any-at (draws (P .w) (P .h) d z k) (P .splits) a in
     let r = ranged (P .w) (P .h) (t .0) (all-at (inRange (P .w) (P .h)) (P .splits) ok (t .0) (t .1)) in
     let q = draws-says (P .w) (P .h) (direction (t .0 .direction)) (t .0) r d z k (t .2) in
@@ -168,18 +171,22 @@ split-on : (P : Layout) (d : Direction) (s : Split) → List·Memᴰ s (P .split
     meshOf P d (s .position + 1) k ≡ true
 unfolding mesh
 split-on P d s m r k row =
-    or-right (freshMesh (P .w) (P .h) d (s .position + 1) k) _ (any-of (draws (P .w) (P .h) d (s .position + 1) k) (P .splits) s m (draws-of (P .w) (P .h) d s r k row))
+    or-right (freshMesh (P .w) (P .h) d (s .position + 1) k) _
+    (any-of (draws (P .w) (P .h) d (s .position + 1) k) (P .splits) s m (draws-of (P .w) (P .h) d s r k row))
 
 -- Two such maps of equal sides with the same blends have lines that cover the same points.
-module _ (P R : Layout) (b : Built P) (c : Built R) (ok : Ranges P) (fine : Ranges R) (wide : R .w ≡ P .w) (high : R .h ≡ P .h) (same : liveOf R ≡ liveOf P) where
+module _ (P R : Layout) (b : Built P) (c : Built R) (ok : Ranges P) (fine : Ranges R) (wide : R .w ≡ P .w) (high : R .h ≡ P .h)
+    (same : liveOf R ≡ liveOf P) where
   sides : (d : Direction) → side d (R .w) (R .h) ≡ side d (P .w) (P .h)
   sides upright = wide
   sides level = high
 
   -- inside the domain, by the grids
-  inside-told : (d : Direction) (z k : ℕ) → 1 ≤ z → z ≤ side d (P .w) (P .h) + 1 → 1 ≤ k → k ≤ side (other d) (P .w) (P .h) → meshOf P d z k ≡ true → meshOf R d z k ≡ true
+  inside-told : (d : Direction) (z k : ℕ) → 1 ≤ z → z ≤ side d (P .w) (P .h) + 1 → 1 ≤ k → k ≤ side (other d) (P .w) (P .h) → meshOf P d z k ≡ true →
+      meshOf R d z k ≡ true
   inside-told d z k lz hz lk hk on =
-      lines-are-grids R c d z k lz (omega (arith, sides d)) lk (omega (arith, sides (other d))) ∙ ap (any (onGrid d z k)) same ∙ sym (lines-are-grids P b d z k lz hz lk hk) ∙ on
+      lines-are-grids R c d z k lz (omega (arith, sides d)) lk (omega (arith, sides (other d))) ∙ ap (any (onGrid d z k)) same ∙
+      sym (lines-are-grids P b d z k lz hz lk hk) ∙ on
 
   -- past its edge, by the step beside it
   module _ (d : Direction) (z : ℕ) (inner : (1 < z) × (z ≤ side d (P .w) (P .h))) where

@@ -44,7 +44,8 @@ left-on-grid M d z k =
 
 -- So a step on the grid of a live blend stays on that of one when lines are added,
 module _ (w h : ℕ) (hw : 1 ≤ w) (hh : 1 ≤ h) (M N : Mesh) (finer : Coarser M N) where
-  pub stays-on-grid : (d : Direction) (z k : ℕ) (B : Blend) → List·Memᴰ B (live w h M) → OnGrid d z k B → (C : Blend) × List·Memᴰ C (live w h N) × OnGrid d z k C
+  pub stays-on-grid : (d : Direction) (z k : ℕ) (B : Blend) → List·Memᴰ B (live w h M) → OnGrid d z k B →
+      (C : Blend) × List·Memᴰ C (live w h N) × OnGrid d z k C
   stays-on-grid d z k B m g =
       let r = left-on-grid N d z k B (proper-rises w h B (live-proper w h hw hh M B m)) g in
       let l = live-left w h hw hh M B .0 m in

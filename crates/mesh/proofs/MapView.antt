@@ -100,7 +100,8 @@ module _ (w h : ℕ) (hw : 1 ≤ w) (hh : 1 ≤ h) (splits : List Split) where
             let r = crossed-in d (facts w h hw hh splits B m) in
             ⊎-elim (λ q. eqb-true _ _ q)
             (λ q. let ne = eqb-false (crossed d B .m) (side d w h + 1) q in
-            absurd (fresh-clear w h hw hh splits B m d (side d w h + 1) (inr refl) (record { lo = omega arith; hi = omega arith; off = λ f. ne (omega arith) })))
+            absurd (fresh-clear w h hw hh splits B m d (side d w h + 1) (inr refl)
+                (record { lo = omega arith; hi = omega arith; off = λ f. ne (omega arith) })))
             (either (eqb (crossed d B .m) (side d w h + 1)));
         grid = λ B m k lo hi. live-grid B m d k lo hi;
         clear = λ B m z i c.

@@ -79,14 +79,16 @@ module _ (w h : ℕ) (d : Direction) (s : Split) (r : Ranged w h d s) where
               ⊎-elim
               (λ p. let last = eqb-true (s .to) run p in
               let lt : k < run + 2 = rw p at hi in
-              ⊎-elim (λ q. inr (inr (eqb-true k (run + 1) q, omega arith))) (λ q. let ne = eqb-false k (run + 1) q in inl (le, omega arith)) (either (eqb k (run + 1))))
+              ⊎-elim (λ q. inr (inr (eqb-true k (run + 1) q, omega arith))) (λ q. let ne = eqb-false k (run + 1) q in inl (le, omega arith))
+                  (either (eqb k (run + 1))))
               (λ p. inl (le, rw p at hi))
               (either (eqb (s .to) run))
 
   pub draws-of : (k : ℕ) → Row run s k → draws w h d (s .position + 1) k s ≡ true
   unfolding draws
   draws-of k o =
-      and-of _ _ (and-of _ _ (and-of _ _ (eq-eqb _ _ (r .way)) (eq-eqb (s .position + 1) (s .position + 1) refl)) (le-leb _ _ (first k o))) (lt-ltb _ _ (last k o))
+      and-of _ _ (and-of _ _ (and-of _ _ (eq-eqb _ _ (r .way)) (eq-eqb (s .position + 1) (s .position + 1) refl)) (le-leb _ _ (first k o)))
+      (lt-ltb _ _ (last k o))
     where
       first : (k : ℕ) → Row run s k → start s ≤ k
       first k (inl i) = ⊎-elim (λ p. rw p (omega arith)) (λ p. rw p (i .0)) (either (eqb (s .from) 0))
@@ -105,7 +107,8 @@ pub more-steps : (P : Layout) (s : Split) (e : Direction) (z k : ℕ) → meshOf
 unfolding mesh
 more-steps P s e z k =
     let test = draws (P .w) (P .h) e z k in
-    ap (λ (b : Bool). freshMesh (P .w) (P .h) e z k || b) (any-append test (P .splits) (s ∷ []) ∙ ap (λ (b : Bool). any test (P .splits) || b) (or-false (test s))) ∙
+    ap (λ (b : Bool). freshMesh (P .w) (P .h) e z k || b)
+    (any-append test (P .splits) (s ∷ []) ∙ ap (λ (b : Bool). any test (P .splits) || b) (or-false (test s))) ∙
     sym (or-assoc (freshMesh (P .w) (P .h) e z k) (any test (P .splits)) (test s))
 
 module _ (P : Layout) (s : Split) where
@@ -119,4 +122,5 @@ module _ (P : Layout) (s : Split) where
     pub step-either : (e : Direction) (z k : ℕ) → meshOf (withLine P s) e z k ≡ true →
         (meshOf P e z k ≡ true) ⊎ ((e ≡ d) × (z ≡ s .position + 1) × Row (side (other d) (P .w) (P .h)) s k)
     step-either e z k on =
-        ⊎-elim inl (λ t. inr (draws-says (P .w) (P .h) d s r e z k t)) (or-either (meshOf P e z k) (draws (P .w) (P .h) e z k s) (sym (more-steps P s e z k) ∙ on))
+        ⊎-elim inl (λ t. inr (draws-says (P .w) (P .h) d s r e z k t))
+        (or-either (meshOf P e z k) (draws (P .w) (P .h) e z k s) (sym (more-steps P s e z k) ∙ on))

@@ -101,12 +101,14 @@ module _ (P : Layout) (b : Built P) (s : Split) (fits : inRange (P .w) (P .h) s 
           ⊎-elim
           (λ e. let le = leb-true k (s .from) e in
           let step : k + 1 - 1 ≡ k = omega arith in
-          true-not-false _ (gaps lower (k + 1) (gap-line P way at lower (k + 1) (subst (λ (n : ℕ). meshOf P way at n ≡ true) (sym step) on))) (low-end .2 k (omega arith) le))
+          true-not-false _ (gaps lower (k + 1) (gap-line P way at lower (k + 1) (subst (λ (n : ℕ). meshOf P way at n ≡ true) (sym step) on)))
+          (low-end .2 k (omega arith) le))
           (λ e. let gt = leb-false k (s .from) e in
           ⊎-elim (λ f. let lt = leb-true k (s .to) f in true-not-false _ on (free P b s fits apart k (omega arith) (omega arith)))
           (λ f. let past = leb-false k (s .to) f in
           let step : k - 1 + 1 ≡ k = omega arith in
-          true-not-false _ (subst (λ (n : ℕ). ends upper n ≡ true) (sym step) (gaps upper k (gap-line P way at upper k on))) (high-end .3 (k - 1) (omega arith) (omega arith)))
+          true-not-false _ (subst (λ (n : ℕ). ends upper n ≡ true) (sym step) (gaps upper k (gap-line P way at upper k on)))
+          (high-end .3 (k - 1) (omega arith) (omega arith)))
           (either (leb k (s .to))))
           (either (leb k (s .from)))
 
