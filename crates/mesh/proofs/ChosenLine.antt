@@ -3,15 +3,15 @@ use Prim.Native.Nat.{ℕ, _+_, _-_, _≤_}
 use native.Mathlib.Omega.{arith}
 use mathlib.Core.Path.{_≡_, refl, subst}
 use mathlib.Core.Logic.{⊎-elim}
-use mathlib.Core.Bool.{true, false, _&&_, not}
+use mathlib.Core.Bool.{true, false, _&&_}
 use mathlib.Core.List.{List, [], _∷_, _++_, List·Memᴰ, List·Memᴰ·eq-of-singleton, List·Memᴰ·append-cases, Memᴰ·append-left, Memᴰ·append-right}
-use borrow.Author.Tests.{eqb-true, eqb-false, ltb-true, leb-true, le-leb, lt-leb, lt-ltb, eq-eqb, ne-eqb, not-true}
+use borrow.Author.Tests.{eqb-true, eqb-false, ltb-true, leb-true, le-leb, lt-leb, lt-ltb, eq-eqb, ne-eqb}
 use lib.Dec.{leb, ltb, eqb}
 use lib.ListN.{length}
 use Rattle.mesh.specs.declared.Split.{Split}
 use Rattle.mesh.specs.declared.Blend.{Blend}
 use Rattle.axis.specs.Range.{any}
-use Rattle.mesh.specs.Lines.{Layout, Mesh, Direction, upright, level, number, side, other, mesh, freshMesh, draws, inRange, start, end, shares, ended, meshOf}
+use Rattle.mesh.specs.Lines.{Layout, Mesh, Direction, upright, level, number, side, other, mesh, freshMesh, draws, inRange, start, end, meshOf}
 use Rattle.mesh.specs.Blends.{isCut}
 use Rattle.mesh.specs.Order.{Coarser}
 use Rattle.axis.proofs.Tests.{either, and-both, and-of, or-either, or-left, or-right, any-at, any-of}
@@ -19,8 +19,8 @@ use Rattle.mesh.proofs.Cuts.{RiseB, cut-exactly, proper-rises}
 use Rattle.mesh.proofs.Order.{finer-cuts}
 use Rattle.mesh.proofs.SoundMaps.{live-proper}
 use Rattle.mesh.proofs.Containing.{contains-reaching, chosen-least}
-use Rattle.mesh.specs.Splits.{liveOf, withLine, soundWith, given, exactNumber, run, Contains, stepsOf, candidate, chosen}
-use Rattle.mesh.proofs.Passing.{given-says, reaching-fits, ends-in}
+use Rattle.mesh.specs.Splits.{liveOf, withLine, given, exactNumber, run, Contains, stepsOf, chosen}
+use Rattle.mesh.proofs.Passing.{given-says, candidate-says, reaching-fits, ends-in}
 
 -- A finer mesh cuts what a coarser one cuts.
 pub finer-cut : (M N : Mesh) → Coarser M N → (B : Blend) → RiseB B → isCut M B ≡ true → isCut N B ≡ true
@@ -95,12 +95,11 @@ contains-cuts P hw hh s c holds e =
 -- So the line that a lengthened split takes passes every check of an exact one.
 pub chosen-exact : (P : Layout) → 1 ≤ P .w → 1 ≤ P .h → (s c : Split) (cs : List Split) → given P s ≡ 0 → chosen P s ≡ c ∷ cs →
     exactNumber P c ≡ 0
-unfolding chosen candidate exactNumber given
+unfolding chosen exactNumber given
 chosen-exact P hw hh s c cs e first =
     let g = given-says P s e in
     let ends = ends-in P s (g .fits) in
     let f = chosen-least P s (omega arith) .taken c (rw first (List·Memᴰ.List·Memᴰ·head refl)) in
-    let a = and-both (ended (meshOf P) c && not (shares (meshOf P) c)) (soundWith P c) (f .1) in
-    let b = and-both (ended (meshOf P) c) (not (shares (meshOf P) c)) (a .0) in
+    let a = candidate-says P c (f .1) in
     let room : leb 60 (length (P .splits)) ≡ false = lt-leb _ _ (g .room) in
-    rw (contains-fits P s c (g .fits) (f .0), room, not-true (shares (meshOf P) c) (b .1), b .0, contains-cuts P hw hh s c (f .0) (g .cut), a .1)
+    rw (contains-fits P s c (g .fits) (f .0), room, a .apart, a .ends, contains-cuts P hw hh s c (f .0) (g .cut), a .is-sound)

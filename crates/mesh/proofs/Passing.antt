@@ -6,11 +6,11 @@ use mathlib.Core.Logic.{⊎-elim}
 use mathlib.Core.Bool.{Bool, true, false, cond, _&&_, not}
 use lib.Dec.{leb, ltb, eqb}
 use lib.ListN.{length}
-use borrow.Author.Tests.{leb-false, le-leb, lt-ltb, ne-eqb, eqb-true, not-false}
+use borrow.Author.Tests.{leb-false, le-leb, lt-ltb, ne-eqb, eqb-true, not-true, not-false}
 use Rattle.axis.specs.Range.{any}
 use Rattle.mesh.specs.Lines.{Layout, meshOf, upright, level, fits, inRange, shares, ended}
 use Rattle.mesh.specs.Blends.{isCut}
-use Rattle.mesh.specs.Splits.{liveOf, withLine, soundWith, given, exactNumber, run, reaching}
+use Rattle.mesh.specs.Splits.{liveOf, withLine, soundWith, candidate, given, exactNumber, run, reaching}
 use Rattle.mesh.specs.declared.Split.{Split}
 use Rattle.axis.proofs.Tests.{either, and-both, and-of, cond-true, cond-false}
 use Rattle.mesh.proofs.Ranges.{in-range-says}
@@ -52,6 +52,19 @@ exact-says P s e = let r = both-pass (given P s) (soundWith P s) e in (given-say
     both-pass zero true e = (refl, refl)
     both-pass zero false e = absurd (omega arith)
     both-pass (suc g) b e = absurd (omega (arith, rw (ne-eqb (suc g) 0 (omega arith)) at e))
+
+-- and that a line is a candidate
+pub record Candidate (P : Layout) (c : Split) : Type 0 where
+  pub ends : ended (meshOf P) c ≡ true
+  pub apart : shares (meshOf P) c ≡ false
+  pub is-sound : soundWith P c ≡ true
+
+pub candidate-says : (P : Layout) (c : Split) → candidate P c ≡ true → Candidate P c
+unfolding candidate
+candidate-says P c e =
+    let a = and-both (ended (meshOf P) c && not (shares (meshOf P) c)) (soundWith P c) e in
+    let f = and-both (ended (meshOf P) c) (not (shares (meshOf P) c)) (a .0) in
+    record { ends = f .0; apart = not-true _ (f .1); is-sound = a .1 }
 
 -- a line in range keeps to its ranges with other ends within the side that it runs along
 pub reaching-fits : (P : Layout) (s : Split) (from n : ℕ) → inRange (P .w) (P .h) s ≡ true → 0 < n → from + n ≤ run P s →

@@ -6,7 +6,7 @@ use mathlib.Core.Logic.{_⊎_, ⊎-elim}
 use mathlib.Core.Bool.{Bool, true, false, cond, _&&_, not}
 use mathlib.Core.List.{[], _∷_, List·Memᴰ}
 use lib.Dec.{leb}
-use borrow.Author.Tests.{eq-eqb, leb-true, leb-false, not-true}
+use borrow.Author.Tests.{eq-eqb, leb-true, leb-false}
 use Rattle.axis.specs.Range.{any, some}
 use Rattle.axis.specs.Triple.{Side, lower, upper}
 use Rattle.axis.proofs.Tests.{either, true-not-false, false-of, and-both, and-of, same-test, some-fails, fails-some}
@@ -18,7 +18,7 @@ use Rattle.mesh.specs.Splits.{liveOf, withLine, soundWith, given, exactN
 use Rattle.mesh.specs.Ends.{gapEnds, goodEnd, goodEnds, between, gap, nearestGood, TwoLooks}
 use Rattle.mesh.specs.declared.Split.{Split}
 use Rattle.mesh.proofs.Containing.{chosen-least}
-use Rattle.mesh.proofs.Passing.{Given, given-says, ends-in}
+use Rattle.mesh.proofs.Passing.{Given, given-says, candidate-says, ends-in}
 use Rattle.mesh.proofs.ChosenLine.{contains-fits, contains-cuts}
 use Rattle.mesh.proofs.OneLineMore.{Ranged, ranged, endOf}
 use Rattle.mesh.proofs.TightMaps.{Built}
@@ -138,28 +138,15 @@ module _ (P : Layout) (b : Built P) (s : Split) (e : given P s ≡ 0) where
   g : Given P s
   g = given-says P s e
 
-  -- a line that contains it, by the tests of a candidate
-  record Candidate (c : Split) : Type 0 where
-    ends : ended (meshOf P) c ≡ true
-    apart : shares (meshOf P) c ≡ false
-    sound : soundWith P c ≡ true
-
-  candidate-says : (c : Split) → candidate P c ≡ true → Candidate c
-  unfolding candidate
-  candidate-says c t =
-      let a = and-both (ended (meshOf P) c && not (shares (meshOf P) c)) (soundWith P c) t in
-      let f = and-both (ended (meshOf P) c) (not (shares (meshOf P) c)) (a .0) in
-      record { ends = f .0; apart = not-true _ (f .1); sound = a .1 }
-
   candidate-good : (c : Split) → Contains P s c → candidate P c ≡ true → goodEnds P c ≡ true
   candidate-good c i t =
-      let f = candidate-says c t in
-      sound-ends P b c (contains-fits P s c (g .fits) i) (f .apart) (f .ends) (contains-cuts P (b .wide) (b .high) s c i (g .cut)) (f .sound)
+      let f = candidate-says P c t in
+      sound-ends P b c (contains-fits P s c (g .fits) i) (f .apart) (f .ends) (contains-cuts P (b .wide) (b .high) s c i (g .cut)) (f.is-sound)
 
   exact-is : soundWith P s ≡ goodEnds P s
   exact-is =
       same-test _ _ (sound-ends P b s (g .fits) (g .apart) (g .ends) (g .cut))
-      (λ t. candidate-says s (good-candidate P b s (g .fits) (g .apart) t) .sound)
+      (λ t. candidate-says P s (good-candidate P b s (g .fits) (g .apart) t) .is-sound)
 
   refused-is : exactNumber P s ≡ cond (goodEnds P s) 0 8
   unfolding exactNumber
@@ -175,7 +162,7 @@ module _ (P : Layout) (b : Built P) (s : Split) (e : given P s ≡ 0) where
   in-whole-gap : (c : Split) → Contains P s c → candidate P c ≡ true → Contains P c (gap P s)
   unfolding gap shares
   in-whole-gap c i t =
-      let f = candidate-says c t in
+      let f = candidate-says P c t in
       let low = low-end P b s (g .fits) (g .apart) gaps (λ k n t. t) in
       let high = high-end P b s (g .fits) (g .apart) gaps (λ k n t. t) in
       let begins = i .begins in
