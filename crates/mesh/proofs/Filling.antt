@@ -4,11 +4,11 @@ use native.Mathlib.Omega.{arith}
 use mathlib.Core.Path.{_≡_, sym, ap, subst, _∙_}
 use mathlib.Core.Logic.{_⊎_, inl, inr, ⊎-elim}
 use mathlib.Core.Bool.{Bool, true, false}
-use lib.Dec.{leb, ltb, eqb}
-use borrow.Author.Tests.{leb-true, leb-false, ltb-true, ltb-false, eqb-true, eqb-false}
+
 use Rattle.axis.specs.Triple.{triple, Side, lower, upper, RisesIn}
-use Rattle.axis.proofs.Tests.{either, true-not-false}
+use Rattle.axis.proofs.Tests.{true-not-false}
 use Rattle.axis.proofs.Parts.{OnSide}
+use Rattle.axis.proofs.Runs.{if-at-most, if-below, if-equal}
 use Rattle.axis.proofs.Triples.{Inside}
 use Rattle.axis.proofs.Sides.{StepIn, KnotIn, opposite, from, to, knot-step, mirror, in-mirror}
 use Rattle.mesh.specs.declared.Blend.{Blend}
@@ -23,13 +23,11 @@ module _ (Q : View) (t : TightView Q) where
   pub astride : (x : Side) (B : Blend) (z k : ℕ) → Live Q B → StepIn x z (Q .across B) → Q .up B .l ≤ k → k < Q .up B .r → Q .uprights z k ≡ false →
       KnotIn x z (Q .across B)
   astride lower B z k m i lo hi off =
-      (⊎-elim (λ e. let same = eqb-true (Q .across B .l) z e in
-      absurd (true-not-false _ (subst (λ (n : ℕ). Q .uprights n k ≡ true) same (s .x .grid B m k lo hi .l)) off))
-      (λ e. let ne = eqb-false (Q .across B .l) z e in omega arith) (either (eqb (Q .across B .l) z)), i .1)
+      (if-equal (Q .across B .l) z
+      (λ same. absurd (true-not-false _ (subst (λ (n : ℕ). Q .uprights n k ≡ true) same (s .x .grid B m k lo hi .l)) off)) (λ ne. omega arith), i .1)
   astride upper B z k m i lo hi off =
-      (⊎-elim (λ e. let same = eqb-true (Q .across B .m) z e in
-      absurd (true-not-false _ (subst (λ (n : ℕ). Q .uprights n k ≡ true) same (s .x .grid B m k lo hi .m)) off))
-      (λ e. let ne = eqb-false (Q .across B .m) z e in omega arith) (either (eqb (Q .across B .m) z)), i .1)
+      (if-equal (Q .across B .m) z
+      (λ same. absurd (true-not-false _ (subst (λ (n : ℕ). Q .uprights n k ≡ true) same (s .x .grid B m k lo hi .m)) off)) (λ ne. omega arith), i .1)
 
   -- Blends over one square, with their anchors both above it or both below it, have one part there, whichever it is.
   abbrev pub Agree : Side → Side → Blend → Blend → Type 0
@@ -65,9 +63,8 @@ module _ (Q : View) (t : TightView Q) where
         let r = s .y .rises B (b .live) in
         let lo = b .lo in
         let hi = b .hi in (
-          ⊎-elim (λ e. ltb-true 1 w e) (λ e. let le = ltb-false 1 w e in let n = s .y .near B (b .live) (omega arith) in absurd (off (omega arith))) (either (ltb 1 w)),
-          ⊎-elim (λ e. ltb-true w (Q .h + 1) e)
-          (λ e. let le = ltb-false w (Q .h + 1) e in let n = s .y .far B (b .live) (omega arith) in absurd (off (omega arith))) (either (ltb w (Q .h + 1))),
+          if-below 1 w (λ lt. lt) (λ le. let n = s .y .near B (b .live) (omega arith) in absurd (off (omega arith))),
+          if-below w (Q .h + 1) (λ lt. lt) (λ le. let n = s .y .far B (b .live) (omega arith) in absurd (off (omega arith))),
         )
 
     both-below : (x u : Side) (B C : Blend) → Holding z w x B → Holding z w u C → Q .up B .m ≤ w → Q .up C .m ≤ w → w ≤ Q .h → Agree x u B C
@@ -111,16 +108,13 @@ module _ (Q : View) (t : TightView Q) where
     to-standing : (x : Side) (B : Blend) → Holding z w x B → (o : Standing) → (1 < w) × (w < Q .h + 1) → Agree x (o .part) B (o .blend)
     to-standing x B b o inner =
         let at = o .at in
-        ⊎-elim (λ e. both-below x (o .part) B (o .blend) b (o .holds) (leb-true _ _ e) (omega arith) (omega arith))
-        (λ e. let gt = leb-false (Q .up B .m) w e in both-above x (o .part) B (o .blend) b (o .holds) (omega arith) (omega arith) (omega arith))
-        (either (leb (Q .up B .m) w))
+        if-at-most (Q .up B .m) w (λ le. both-below x (o .part) B (o .blend) b (o .holds) le (omega arith) (omega arith))
+        (λ gt. both-above x (o .part) B (o .blend) b (o .holds) (omega arith) (omega arith) (omega arith))
 
     -- Any two blends over the column that hold the level have one part there;
     pub agree : Q .levels w z ≡ true → (x u : Side) (B C : Blend) → Holding z w x B → Holding z w u C → Agree x u B C
     agree on x u B C b c =
-        ⊎-elim (λ e. ⊎-elim (λ f. same (eqb-true _ _ e) (eqb-true _ _ f)) (λ f. through (inner-level c (eqb-false _ _ f))) (either (eqb (Q .up C .m) w)))
-        (λ e. through (inner-level b (eqb-false _ _ e)))
-        (either (eqb (Q .up B .m) w))
+        if-equal (Q .up B .m) w (λ e. if-equal (Q .up C .m) w (same e) (λ ne. through (inner-level c ne))) (λ ne. through (inner-level b ne))
       where
         through : (1 < w) × (w < Q .h + 1) → Agree x u B C
         through inner =
@@ -132,21 +126,19 @@ module _ (Q : View) (t : TightView Q) where
         same : Q .up B .m ≡ w → Q .up C .m ≡ w → Agree x u B C
         same e f =
             let rise = s .y .rises B (b .live) in
-            ⊎-elim (λ g. both-below x u B C b c (omega arith) (omega arith) (leb-true w (Q .h) g))
-            (λ g. let gt = leb-false w (Q .h) g in let high = s .y .wide in both-above x u B C b c (omega arith) (omega arith) (omega arith))
-            (either (leb w (Q .h)))
+            if-at-most w (Q .h) (both-below x u B C b c (omega arith) (omega arith))
+            (λ gt. let high = s .y .wide in both-above x u B C b c (omega arith) (omega arith) (omega arith))
 
     -- and the level covers it.
     pub level-covers : Q .levels w z ≡ true → (x : Side) (B : Blend) → Holding z w x B → (j : ℕ) → from x (Q .across B) ≤ j → j < to x (Q .across B) →
         Q .levels w j ≡ true
     level-covers on x B b j lo hi =
-        ⊎-elim (λ e. level-at Q s B (b .live) (eqb-true _ _ e) (low x lo) (high x hi))
-        (λ e. let inner = inner-level b (eqb-false _ _ e) in
+        if-equal (Q .up B .m) w (λ e. level-at Q s B (b .live) e (wide-low x B (b .live) lo) (wide-high x B (b .live) hi))
+        (λ ne. let inner = inner-level b ne in
         let o = standing on inner in
         let a = to-standing x B b o inner in
-        level-at Q s (o .blend) (o .holds .live) (o .at)
-        (wide-low (o .part) (o .blend) (o .holds .live) (subst (λ (n : ℕ). n ≤ j) (a .0) lo)) (wide-high (o .part) (o .blend) (o .holds .live) (subst (λ (n : ℕ). j < n) (a .1) hi)))
-        (either (eqb (Q .up B .m) w))
+        level-at Q s (o .blend) (o .holds .live) (o .at) (wide-low (o .part) (o .blend) (o .holds .live) (subst (λ (n : ℕ). n ≤ j) (a .0) lo))
+        (wide-high (o .part) (o .blend) (o .holds .live) (subst (λ (n : ℕ). j < n) (a .1) hi)))
       where
         wide-low : (x : Side) (C : Blend) → Live Q C → from x (Q .across C) ≤ j → Q .across C .l ≤ j
         wide-low lower C m le = le
@@ -156,11 +148,7 @@ module _ (Q : View) (t : TightView Q) where
         wide-high lower C m lt = let r = s .x .rises C m in omega arith
         wide-high upper C m lt = lt
 
-        low : (x : Side) → from x (Q .across B) ≤ j → Q .across B .l ≤ j
-        low x = wide-low x B (b .live)
 
-        high : (x : Side) → j < to x (Q .across B) → j < Q .across B .r
-        high x = wide-high x B (b .live)
 
   -- Two blends abreast of the upright z at level a:
   module _ (z a : ℕ) (hz : OnSide (Q .w) z) (ha : (1 < a) × (a < Q .h + 1)) (e : Abreast Q upper z a) where
@@ -176,14 +164,12 @@ module _ (Q : View) (t : TightView Q) where
         let at = e .anchored x in
         let start = e .reaches x in
         let rise = s .y .rises (e .at x) (e .live x) in
-        ⊎-elim
-        (λ f. let le = leb-true a (Q .up B .m) f in
-        s .one x lower z (a - 1) B (e .at x) hz (omega arith, omega arith)
+        if-at-most a (Q .up B .m)
+        (λ le. s .one x lower z (a - 1) B (e .at x) hz (omega arith, omega arith)
         (record { live = m; column = knot-step x z _ p; row = (omega arith, omega arith) }) (under x (a - 1) (omega arith) (omega arith)))
-        (λ f. let lt = leb-false a (Q .up B .m) f in
-        let n = neighbours Q s hz (omega arith, omega arith) (record { live = m; column = knot-step x z _ p; row = (omega arith, omega arith) }) (under x (a - 1) (omega arith) (omega arith)) in
+        (λ lt. let n = neighbours Q s hz (omega arith, omega arith) (record { live = m; column = knot-step x z _ p; row = (omega arith, omega arith) })
+        (under x (a - 1) (omega arith) (omega arith)) in
         absurd (omega arith))
-        (either (leb a (Q .up B .m)))
 
     -- and no level has a step beside it between their start and their anchors.
     pub between-none : (w : ℕ) → Q .levels w z ≡ true → e .reach < w → w < a → ⊥
@@ -191,9 +177,7 @@ module _ (Q : View) (t : TightView Q) where
         let first = e .reaches upper in
         let anchored = e .anchored upper in
         let inside : 1 ≤ e .reach =
-        ⊎-elim (λ f. leb-true 1 (e .reach) f)
-        (λ f. let none = leb-false 1 (e .reach) f in let n = s .y .near (e .at upper) (e .live upper) (omega arith) in absurd (omega arith))
-        (either (leb 1 (e .reach))) in
+        if-at-most 1 (e .reach) (λ le. le) (λ none. let n = s .y .near (e .at upper) (e .live upper) (omega arith) in absurd (omega arith)) in
         let r = t .x w z (omega arith) (omega arith) hz on in
         let k = r .1 in
         let at = k .at in
@@ -286,6 +270,16 @@ pub record Drawn (Q : View) (z a b : ℕ) (drawn : ℕ → Bool) : Type 0 where
   pub low-end : Good Q lower z a
   pub high-end : Good Q upper z b
 
+-- a row that is drawn, below a line that does not start at the edge or above one that does not end there, was on before
+was-on : (Q : View) {z a b : ℕ} {drawn : ℕ → Bool} → Drawn Q z a b drawn → (k : ℕ) → ((1 < a) × (k < a)) ⊎ ((b ≤ k) × (k ≤ Q .h)) → drawn k ≡ true →
+    Q .uprights z k ≡ true
+was-on Q d k (inl off) on =
+    let range = d .range in
+    ⊎-elim (λ q. q) (λ o. absurd (⊎-elim (λ q. omega arith) (λ o. ⊎-elim (λ q. omega arith) (λ q. omega arith) o) o)) (d .only k (omega arith) on)
+was-on Q d k (inr off) on =
+    let range = d .range in
+    ⊎-elim (λ q. q) (λ o. absurd (⊎-elim (λ q. omega arith) (λ o. ⊎-elim (λ q. omega arith) (λ q. omega arith) o) o)) (d .only k (omega arith) on)
+
 -- the line cuts a blend that it enters
 abbrev pub CutBy : View → (ℕ → Bool) → Blend → Type 0
 CutBy Q drawn B = (k : ℕ) → Q .up B .l ≤ k → k < Q .up B .r → drawn k ≡ true
@@ -305,30 +299,19 @@ module _ (Q : View) (t : TightView Q) (z a b : ℕ) (drawn : ℕ → Bool) (d : 
   level-low : (x : Side) (B : Blend) → Live Q B → KnotIn x z (Q .across B) → CutBy Q drawn B → (w : ℕ) → Q .levels w z ≡ true →
       Q .up B .l < w → w < Q .up B .r → a ≤ w
   level-low x B m p c w on lo hi =
-      ⊎-elim (λ e. leb-true a w e) (λ e. absurd (under (leb-false a w e))) (either (leb a w))
+      if-at-most a w (λ le. le) (λ lt. absurd (under lt))
     where
       reach : w < a → a < Q .up B .r
       reach lt =
-          ⊎-elim (λ e. ltb-true _ _ e)
-          (λ e. let le = ltb-false a (Q .up B .r) e in
-          absurd (sound .x .clear B m z (entered x B m p)
-          (λ k klo khi.
-          let range = d .range in
-          let rise = sound .y .rises B m in
-          ⊎-elim (λ q. q)
-          (λ o. absurd (⊎-elim (λ q. omega arith)
-          (λ o. ⊎-elim (λ q. omega arith) (λ q. omega arith) o) o))
-          (d .only k (omega arith) (c k klo khi)))))
-          (either (ltb a (Q .up B .r)))
+          if-below a (Q .up B .r) (λ lt. lt)
+          (λ le. absurd (sound .x .clear B m z (entered x B m p) (λ k klo khi. was-on Q d k (inl (omega arith, omega arith)) (c k klo khi))))
 
       under : w < a → ⊥
       under lt =
           let range = d .range in
           let up = reach lt in
           let inner : (1 < a) × (a < Q .h + 1) = (omega arith, omega arith) in
-          let on-below : Q .uprights z (a - 1) ≡ true =
-          ⊎-elim (λ q. q) (λ o. absurd (⊎-elim (λ q. omega arith) (λ o. ⊎-elim (λ q. omega arith) (λ q. omega arith) o) o))
-          (d .only (a - 1) (omega arith) (c (a - 1) (omega arith) (omega arith))) in
+          let on-below = was-on Q d (a - 1) (inl (omega arith, omega arith)) (c (a - 1) (omega arith) (omega arith)) in
           let i = d .inner in
           let e = line-ends Q t z a (omega arith, omega arith) inner upper on-below (d .free a (omega arith) (omega arith)) in
           let is = met-at Q t z a column inner upper (e .abreast) x B m p (omega arith) up in
@@ -478,15 +461,11 @@ module _ (Q : View) (t : TightView Q) (z a b : ℕ) (drawn : ℕ → Bool) (d : 
             record {
               astride = par;
               cut = λ k klo khi.
-                  ⊎-elim
-                  (λ f. let lt = ltb-true k b f in
-                  ⊎-elim (λ g. let le = leb-true a k g in d .new k le lt)
-                  (λ g. let below = leb-false a k g in
-                  rows-below upper B (o .live) par (omega arith) (omega arith)
-                  (λ i e off same. let at = ap (λ (D : Blend). Q .up D .m) same in let an = e .anchored upper in omega arith) k klo below)
-                  (either (leb a k)))
-                  (λ f. let le = ltb-false k b f in d .old k (r .covered k (omega arith, omega arith)))
-                  (either (ltb k b));
+                  if-below k b
+                  (λ lt. if-at-most a k (λ le. d .new k le lt)
+                  (λ below. rows-below upper B (o .live) par (omega arith) (omega arith)
+                  (λ i e off same. let at = ap (λ (D : Blend). Q .up D .m) same in let an = e .anchored upper in omega arith) k klo below))
+                  (λ le. d .old k (r .covered k (omega arith, omega arith)));
             }
 
     at-end : (B : Blend) → Over Q upper upper z w B → w ≡ b → Entered B
@@ -494,9 +473,7 @@ module _ (Q : View) (t : TightView Q) (z a b : ℕ) (drawn : ℕ → Bool) (d : 
         let range = d .range in
         let in-side = d .inner in
         let inner : (1 < b) × (b < Q .h + 1) = (omega arith, omega arith) in
-        let going : Q .uprights z b ≡ true =
-        ⊎-elim (λ q. q) (λ o. absurd (⊎-elim (λ q. omega arith) (λ o. ⊎-elim (λ q. omega arith) (λ q. omega arith) o) o))
-        (d .only b (omega arith) (c b (omega arith) (omega arith))) in
+        let going = was-on Q d b (inr (omega arith, omega arith)) (c b (omega arith) (omega arith)) in
         beside B o e inner (line-ends Q t z b (omega arith, omega arith) inner lower going (d .free (b - 1) (omega arith) (omega arith)))
 
     -- where it lies along the line
@@ -509,14 +486,8 @@ module _ (Q : View) (t : TightView Q) (z a b : ℕ) (drawn : ℕ → Bool) (d : 
         record {
           astride = par;
           cut = λ k klo khi.
-              ⊎-elim
-              (λ f. let below = ltb-true k a f in
-              rows-below upper B (o .live) par (omega arith) (omega arith) (apart par) k klo below)
-              (λ f. let from-a = ltb-false k a f in
-              ⊎-elim (λ g. d .new k from-a (ltb-true k b g))
-              (λ g. let past = ltb-false k b g in rows-above upper B (o .live) par (omega arith) k past khi)
-              (either (ltb k b)))
-              (either (ltb k a));
+              if-below k a (λ below. rows-below upper B (o .live) par (omega arith) (omega arith) (apart par) k klo below)
+              (λ le. if-below k b (d .new k le) (λ past. rows-above upper B (o .live) par (omega arith) k past khi));
         }
       where
         -- a blend abreast of the lower end has no level beside the line above its anchor
@@ -529,19 +500,14 @@ module _ (Q : View) (t : TightView Q) (z a b : ℕ) (drawn : ℕ → Bool) (d : 
             let middle = ap (λ (D : Blend). Q .up D .m) is in
             let at = e .anchored upper in
             let rb = sound Q t z a b drawn d .y .rises B (o .live) in
-            ⊎-elim
-            (λ f. let gt = ltb-true a w f in above-none Q t z a side i e w on gt (omega arith))
-            (λ f. let is-a = ltb-false a w f in
-            let before = c (a - 1) (omega arith) (omega arith) in
-            true-not-false (Q .uprights z (a - 1))
-            (⊎-elim (λ q. q) (λ o. absurd (⊎-elim (λ q. omega arith) (λ o. ⊎-elim (λ q. omega arith) (λ q. omega arith) o) o)) (d .only (a - 1) (omega arith) before)) off)
-            (either (ltb a w))
+            if-below a w (λ gt. above-none Q t z a side i e w on gt (omega arith))
+            (λ is-a. true-not-false (Q .uprights z (a - 1)) (was-on Q d (a - 1) (inl (omega arith, omega arith)) (c (a - 1) (omega arith) (omega arith))) off)
 
     entered-there : Entered Y
     entered-there =
         let low = level-low Q t z a b drawn d x X m p c w on lo hi in
         let high = level-high x X m p c w on lo hi in
-        ⊎-elim (λ e. along-line Y over low (ltb-true w b e)) (λ e. let le = ltb-false w b e in at-end Y over (omega arith)) (either (ltb w b))
+        if-below w b (along-line Y over low) (λ le. at-end Y over (omega arith))
 
     pub also-cut : (next : ℕ) → ((v : ℕ) → w < v → v < next → Q .levels v z ≡ true → ⊥) →
         (j k : ℕ) → z ≤ j → j < to x (Q .across X) → w ≤ k → k < next → OnSide (Q .w) j → OnSide (Q .h) k →
@@ -558,9 +524,8 @@ module _ (Q : View) (t : TightView Q) (z a b : ℕ) (drawn : ℕ → Bool) (d : 
         (record { live = over .live; column = over .column; lo = omega arith; hi = over .row .1 }) in
         let end = same .1 in
         let above : k < Q .up Y .r =
-        ⊎-elim (λ e. ltb-true _ _ e)
-        (λ e. let le = ltb-false k (Q .up Y .r) e in absurd (none (Q .up Y .r) (over .row .1) (omega arith) (v .y .grid Y (over .live) z (omega arith) (omega arith) .r)))
-        (either (ltb k (Q .up Y .r))) in
+        if-below k (Q .up Y .r) (λ lt. lt)
+        (λ le. absurd (none (Q .up Y .r) (over .row .1) (omega arith) (v .y .grid Y (over .live) z (omega arith) (omega arith) .r))) in
         let is = v .one upper upper j k B Y hj hk o (record { live = over .live; column = (omega arith, omega arith); row = (omega arith, above) }) in
         (subst (λ (C : Blend). KnotIn upper z (Q .across C)) (sym is) par, subst (CutBy Q drawn) (sym is) (in-there .cut))
 
