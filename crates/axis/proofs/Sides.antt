@@ -6,12 +6,13 @@ use mathlib.Core.Path.{_≡_, refl, _∙_}
 use mathlib.Core.Logic.{_⊎_, inl, inr, ⊎-elim}
 use mathlib.Core.Bool.{true, _||_}
 use lib.Dec.{ltb, eqb}
-use borrow.Author.Tests.{eqb-true, eq-eqb, ltb-true, ltb-false, lt-ltb}
+use borrow.Author.Tests.{eqb-true, eq-eqb, ltb-true, lt-ltb}
 use Rattle.axis.specs.Triple.{triple, Side, lower, upper, half, isKnot, knotIn, RisesIn}
 use Rattle.axis.specs.declared.Triple.{Triple}
-use Rattle.axis.proofs.Tests.{either, and-both, and-of, or-either, or-left, or-right, within-of, within-at}
+use Rattle.axis.proofs.Tests.{and-both, and-of, or-either, or-left, or-right, within-of, within-at}
 use Rattle.axis.proofs.Triples.{Rise, Inside, keeps-middle, half-below, half-above}
 use Rattle.axis.proofs.Parts.{OnSide, lies}
+use Rattle.axis.proofs.Runs.{if-below, neither}
 
 -- the unit step from knot j lies in the lower or the upper part of a triple
 abbrev pub StepIn : Side → ℕ → Triple → Type 0
@@ -97,8 +98,7 @@ half-knot z y t (inr (inr e)) = (upper, inr (inr e))
 
 pub half-step : (k y : ℕ) (t : Triple) → t .l ≤ k → k < t .r → (s : Side) × (half s y t .l ≤ k) × (k < half s y t .r)
 unfolding half
-half-step k y t lo hi =
-    ⊎-elim (λ e. (lower, lo, ltb-true _ _ e)) (λ e. let le = ltb-false k (max y (t .m)) e in (upper, omega arith, hi)) (either (ltb k (max y (t .m))))
+half-step k y t lo hi = if-below k (max y (t .m)) (λ lt. (lower, lo, lt)) (λ le. (upper, omega arith, hi))
 
 -- The halves of a triple by a line inside one of its parts: one has that part for its own, about the line; the other keeps the middle.
 pub halves-of : (x : Side) (z : ℕ) (t : Triple) → KnotIn x z t → half x z t ≡ triple (from x t) z (to x t)
@@ -135,7 +135,7 @@ part-of z t i =
     let lo = i .lo in
     let hi = i .hi in
     let off = i .off in
-    ⊎-elim (λ e. (lower, (lo, ltb-true _ _ e))) (λ e. let le = ltb-false z (t .m) e in (upper, (omega arith, hi))) (either (ltb z (t .m)))
+    if-below z (t .m) (λ lt. (lower, (lo, lt))) (λ le. (upper, (omega arith, hi)))
 
 pub inside-of : (x : Side) (z : ℕ) (t : Triple) → Rise t → KnotIn x z t → Inside z t
 inside-of lower z t r p = record { lo = omega arith; hi = omega arith; off = omega arith }
@@ -157,11 +157,7 @@ unfolding half
 still-clear s y z t r i c x p = by s x p
   where
     outside : (t .l < z) × (z < t .r) → z ≡ t .m
-    outside o =
-        ⊎-elim (λ e. absurd (c lower (o .0, ltb-true _ _ e)))
-        (λ e. let le = ltb-false z (t .m) e in
-        ⊎-elim (λ f. absurd (c upper (ltb-true _ _ f, o .1))) (λ f. let ge = ltb-false (t .m) z f in omega arith) (either (ltb (t .m) z)))
-        (either (ltb z (t .m)))
+    outside o = neither z (t .m) (λ lt. c lower (o .0, lt)) (λ gt. c upper (gt, o .1))
 
     by : (s x : Side) → KnotIn x z (half s y t) → ⊥
     by lower lower p = let lo = i .lo in let hi = i .hi in let o = outside (omega arith, omega arith) in omega arith

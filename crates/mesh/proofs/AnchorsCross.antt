@@ -2,13 +2,12 @@
 use Prim.Native.Nat.{ℕ, _+_, _-_, _≤_, _<_}
 use native.Mathlib.Omega.{arith}
 use mathlib.Core.Path.{_≡_, refl, sym, ap, subst}
-use mathlib.Core.Logic.{⊎-elim}
+
 use mathlib.Core.Bool.{true}
-use lib.Dec.{leb, ltb, eqb}
-use borrow.Author.Tests.{leb-true, leb-false, ltb-true, ltb-false, eqb-true, eqb-false}
+
 use Rattle.axis.specs.Triple.{Side, lower, upper}
-use Rattle.axis.proofs.Tests.{either}
 use Rattle.axis.proofs.Parts.{OnSide}
+use Rattle.axis.proofs.Runs.{if-at-most, if-below, if-equal}
 use Rattle.mesh.specs.declared.Blend.{Blend}
 use Rattle.mesh.proofs.View.{View, turn, flip, Live, Over, Knot, SoundView, TightView, turn-sound, turn-tight, flip-tight}
 use Rattle.mesh.proofs.Neighbours.{neighbours, grid-at, level-at}
@@ -106,9 +105,8 @@ module _ (Q : View) (t : TightView Q) (z v : ℕ) (i : Inner Q z v) (c : Crossin
         let rp = s .y .rises (p .blend) (p .live) in
         s .x .clear B (k .live) z (record { lo = omega arith; hi = omega arith; off = λ q. off (omega arith) })
         (λ r lo hi.
-        ⊎-elim (λ f. let lt = ltb-true r v f in grid-at Q s (p .blend) (p .live) (p .at) (omega arith) (omega arith))
-        (λ f. let le = ltb-false r v f in grid-at Q s (n .blend) (n .live) (n .at) (omega arith) (omega arith))
-        (either (ltb r v)))
+        if-below r v (λ lt. grid-at Q s (p .blend) (p .live) (p .at) (omega arith) (omega arith))
+        (λ le. grid-at Q s (n .blend) (n .live) (n .at) (omega arith) (omega arith)))
 
     no : (y u : Side) → Knot (turn Q) y v z → Knot (turn Q) u (v - 1) z → ⊥
     no upper u n p = differ over n at-over
@@ -123,8 +121,7 @@ module _ (Q : View) (t : TightView Q) (z v : ℕ) (i : Inner Q z v) (c : Crossin
 
   beside-crossing : Anchor Q z v
   beside-crossing =
-      ⊎-elim (λ e. record { blend = B; live = k .live; across = eqb-true _ _ e; up = k .at }) (λ e. absurd (refuted (eqb-false _ _ e)))
-      (either (eqb (Q .across B .m) z))
+      if-equal (Q .across B .m) z (λ e. record { blend = B; live = k .live; across = e; up = k .at }) (λ off. absurd (refuted off))
 
 -- A crossing inside the domain:
 module _ (Q : View) (t : TightView Q) (z v : ℕ) (i : Inner Q z v) (c : Crossing Q z v) where
@@ -167,8 +164,7 @@ module _ (Q : View) (t : TightView Q) (z v : ℕ) (i : Inner Q z v) (c : Crossin
 
       by : (x : Side) → Knot Q x z v → Anchor Q z v
       by upper k = beside-crossing Q t z v i c k
-      by lower k =
-          ⊎-elim (λ e. swapped k (ltb-true _ _ e)) (λ e. turned k (ltb-false _ _ e)) (either (ltb (Q .across (k .blend) .l) z))
+      by lower k = if-below (Q .across (k .blend) .l) z (swapped k) (turned k)
 
 -- One on the left edge:
 module _ (Q : View) (t : TightView Q) (v : ℕ) (i : (1 < v) × (v ≤ Q .h)) (c : Crossing Q 1 v) where
@@ -197,14 +193,11 @@ module _ (Q : View) (t : TightView Q) (v : ℕ) (i : (1 < v) × (v ≤ Q .h)) (c
           let n = neighbours (turn Q) (turn-sound Q s) {x = upper} {j = v} {k = 1} (omega arith, omega arith) (omega arith, omega arith)
           (record { live = o .live; column = o .row; row = o .column })
           (record { live = k .live; column = (omega arith, omega arith); row = k .column }) in
-          ⊎-elim (λ q. record { blend = Z; live = o .live; across = omega arith; up = eqb-true _ _ q })
-          (λ q. let off = eqb-false (Q .up Z .m) v q in
-          absurd (s .y .clear Z (o .live) v (record { lo = omega arith; hi = omega arith; off = λ same. off (sym same) })
+          if-equal (Q .up Z .m) v (λ at. record { blend = Z; live = o .live; across = omega arith; up = at })
+          (λ off. absurd (s .y .clear Z (o .live) v (record { lo = omega arith; hi = omega arith; off = λ same. off (sym same) })
           (λ j lo hi.
-          ⊎-elim (λ f. let zero = eqb-true j 0 f in subst (λ (u : ℕ). Q .levels v u ≡ true) (sym zero) (c .left))
-          (λ f. let pos = eqb-false j 0 f in level-at Q s (k .blend) (k .live) (k .at) (omega arith) (omega arith))
-          (either (eqb j 0)))))
-          (either (eqb (Q .up Z .m) v))
+          if-equal j 0 (λ zero. subst (λ (u : ℕ). Q .levels v u ≡ true) (sym zero) (c .left))
+          (λ pos. level-at Q s (k .blend) (k .live) (k .at) (omega arith) (omega arith)))))
 
       by : (x : Side) → Knot Q x 1 v → Anchor Q 1 v
       by upper k =
@@ -218,51 +211,40 @@ low-crossing : (Q : View) (t : TightView Q) (z v : ℕ) → z ≤ Q .w → v ≤
 low-crossing Q t z v hz hv c =
     let a = c .across in
     let u = c .up in
-    ⊎-elim
-    (λ e. let two = leb-true 2 z e in
-    ⊎-elim (λ f. let dos = leb-true 2 v f in inner-crossing Q t z v (omega arith, hz, omega arith, hv) c)
-    (λ f. let one = leb-false 2 v f in
-    let is : v ≡ 1 = omega arith in
+    if-below 1 z
+    (λ right. if-below 1 v (λ over. inner-crossing Q t z v (right, hz, over, hv) c)
+    (λ low. let is : v ≡ 1 = omega arith in
     turn-anchor (subst (λ (n : ℕ). Anchor (turn Q) n z) (sym is)
-    (edge-crossing (turn Q) (turn-tight Q t) z (omega arith, hz) (turn-crossing (subst (Crossing Q z) is c)))))
-    (either (leb 2 v)))
-    (λ e. let one = leb-false 2 z e in
-    let is : z ≡ 1 = omega arith in
+    (edge-crossing (turn Q) (turn-tight Q t) z (right, hz) (turn-crossing (subst (Crossing Q z) is c))))))
+    (λ first. let is : z ≡ 1 = omega arith in
     subst (λ (n : ℕ). Anchor Q n v) (sym is)
-    (⊎-elim (λ f. let dos = leb-true 2 v f in edge-crossing Q t v (omega arith, hv) (subst (λ (n : ℕ). Crossing Q n v) is c))
-    (λ f. let uno = leb-false 2 v f in
-    let s = t .is-sound in
+    (if-below 1 v (λ over. edge-crossing Q t v (over, hv) (subst (λ (n : ℕ). Crossing Q n v) is c))
+    (λ low. let s = t .is-sound in
     let r = s .some upper upper 1 1 (omega arith, omega arith) (omega arith, omega arith) in
     let o = r .1 in
     let rx = s .x .rises (r .0) (o .live) in
     let ry = s .y .rises (r .0) (o .live) in
     let col = o .column in
     let row = o .row in
-    record { blend = r .0; live = o .live; across = omega arith; up = omega arith })
-    (either (leb 2 v))))
-    (either (leb 2 z))
+    record { blend = r .0; live = o .live; across = omega arith; up = omega arith })))
 
 left-crossing : (Q : View) (t : TightView Q) (z v : ℕ) → z ≤ Q .w → Crossing Q z v → Anchor Q z v
 left-crossing Q t z v hz c =
     let u = c .up in
     let high = t .is-sound .y .wide in
-    ⊎-elim (λ e. low-crossing Q t z v hz (leb-true _ _ e) c)
-    (λ e. let far = leb-false v (Q .h) e in
-    flip-anchor Q (t .is-sound) (u .1) (low-crossing (flip Q) (flip-tight Q t) z (Q .h + 2 - v) hz (omega arith) (flip-crossing Q c)))
-    (either (leb v (Q .h)))
+    if-at-most v (Q .h) (λ le. low-crossing Q t z v hz le c)
+    (λ far. flip-anchor Q (t .is-sound) (u .1) (low-crossing (flip Q) (flip-tight Q t) z (Q .h + 2 - v) hz (omega arith) (flip-crossing Q c)))
 
 pub crossing-anchored : (Q : View) (t : TightView Q) (z v : ℕ) → Crossing Q z v → Anchor Q z v
 crossing-anchored Q t z v c =
     let a = c .across in
     let wide = t .is-sound .x .wide in
-    ⊎-elim (λ e. left-crossing Q t z v (leb-true _ _ e) c)
-    (λ e. let far = leb-false z (Q .w) e in
-    turn-anchor
+    if-at-most z (Q .w) (λ le. left-crossing Q t z v le c)
+    (λ far. turn-anchor
     (flip-anchor (turn Q) (turn-sound Q (t .is-sound)) (a .1)
     (turn-anchor
     (left-crossing (turn (flip (turn Q))) (turn-tight (flip (turn Q)) (flip-tight (turn Q) (turn-tight Q t))) (Q .w + 2 - z) v (omega arith)
     (turn-crossing (flip-crossing (turn Q) (turn-crossing c)))))))
-    (either (leb z (Q .w)))
 
 -- An anchor is a crossing by its blend's grid.
 pub anchor-crosses : (Q : View) (s : SoundView Q) (B : Blend) → Live Q B → Crossing Q (Q .across B .m) (Q .up B .m)

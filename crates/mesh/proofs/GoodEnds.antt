@@ -6,11 +6,12 @@ use mathlib.Core.Logic.{_⊎_, inl, inr, ⊎-elim}
 use mathlib.Core.Bool.{true, false, _&&_}
 use mathlib.Core.List.{List·Memᴰ}
 use lib.Dec.{eqb}
-use borrow.Author.Tests.{eqb-true, eqb-false, eq-eqb}
+use borrow.Author.Tests.{eqb-true, eq-eqb}
 use Rattle.axis.specs.Range.{any}
 use Rattle.axis.specs.Triple.{Side, lower, upper, knotIn}
 use Rattle.axis.proofs.Tests.{either, true-not-false, false-of, and-both, and-of, or-either, or-left, or-right, any-at, any-of}
-use Rattle.axis.proofs.Sides.{KnotIn, from, to, part-says, part-test, Clear, half-clear, still-clear}
+use Rattle.axis.proofs.Runs.{if-equal}
+use Rattle.axis.proofs.Sides.{KnotIn, part-says, part-test, Clear, half-clear, still-clear}
 use Rattle.mesh.specs.Lines.{Direction, upright, level, other, side, Mesh, Layout, meshOf, onLine}
 use Rattle.mesh.specs.Blends.{crossed, along, cuts, halve, isCut}
 use Rattle.mesh.specs.Order.{Comes, here, cut}
@@ -106,16 +107,15 @@ gap-good P d z e k t = or-left _ _ t
 pub good-says : (P : Layout) (d : Direction) (z : ℕ) (e : Side) (k : ℕ) → Room P d e k → goodEnd P d z e k ≡ true → Good (viewOf d P) e z k
 unfolding goodEnd
 good-says P d z e k room t =
-    ⊎-elim (λ q. edge (eqb-true _ _ q))
-    (λ q. let inner = inner-room P d z e k room (eqb-false _ _ q) in
+    if-equal k (edgeOf (viewOf d P) e) edge
+    (λ ne. let inner = inner-room P d z e k room ne in
     ⊎-elim (λ on. line inner on)
-    (λ off. ⊎-elim (λ g. absurd (⊎-elim (λ i. eqb-false _ _ q i) (λ on. true-not-false _ on off) (gap-either P d z e k g)))
+    (λ off. ⊎-elim (λ g. absurd (⊎-elim ne (λ on. true-not-false _ on off) (gap-either P d z e k g)))
     (λ g. let a = any-at (λ A. any (abreast d z e k A) (liveOf P)) (liveOf P) g in
     let c = any-at (abreast d z e k (a .0)) (liveOf P) (a .2) in
     blends inner off (abreast-says P d z e k (a .0) (c .0) (a .1) (c .1) (c .2)))
     (or-either (gapEnds P d z e k) (any (λ A. any (abreast d z e k A) (liveOf P)) (liveOf P)) t))
     (either (meshOf P d z (outward e k))))
-    (either (eqb k (edgeOf (viewOf d P) e)))
 
 pub good-of : (P : Layout) (d : Direction) (z : ℕ) (e : Side) (k : ℕ) → Good (viewOf d P) e z k → goodEnd P d z e k ≡ true
 unfolding goodEnd
@@ -241,12 +241,11 @@ module _ (P : Layout) (b : Built P) (s : Split) (d : Direction) (r : Ranged (P .
 
         by : (e : Side) → Good (viewOf d P) e z (endOf e s)
         by e =
-            ⊎-elim (λ q. edge (eqb-true _ _ q))
-            (λ q. let inner = inner-room P d z e (endOf e s) (end-room e) (eqb-false _ _ q) in
+            if-equal (endOf e s) (edgeOf (viewOf d P) e) edge
+            (λ ne. let inner = inner-room P d z e (endOf e s) (end-room e) ne in
             ⊎-elim (λ on. line inner on)
             (λ off. blends inner off (abreast-before e (endOf e s) (ends e inner off)))
             (either (meshOf P d z (outward e (endOf e s)))))
-            (either (eqb (endOf e s) (edgeOf (viewOf d P) e)))
           where
             ends : (e : Side) → (1 < endOf e s) × (endOf e s < run + 1) → meshOf P d z (outward e (endOf e s)) ≡ false → Abreast (viewOf d (withLine P s)) e z (endOf e s)
             ends e inner off =

@@ -5,15 +5,14 @@ use mathlib.Core.Path.{_≡_, refl, sym, ap, subst, _∙_}
 use mathlib.Core.Logic.{_⊎_, inl, inr, ⊎-elim}
 use mathlib.Core.Bool.{true, false}
 use mathlib.Core.List.{List·Memᴰ}
-use lib.Dec.{eqb}
-use borrow.Author.Tests.{eqb-true, eqb-false, eq-eqb}
+use borrow.Author.Tests.{eq-eqb}
 use Rattle.axis.specs.Triple.{triple, Side, lower, upper, half}
 use Rattle.axis.specs.declared.Triple.{Triple}
 use Rattle.axis.proofs.Tests.{either, true-not-false, false-of, and-both, every-of}
 use Rattle.axis.proofs.Triples.{Rise, Inside, Knots, half-rises, half-within, half-knots, triple-eq}
 use Rattle.axis.proofs.Parts.{OnSide, lies, beside}
 use Rattle.axis.proofs.Counts.{one-at-most}
-use Rattle.axis.proofs.Runs.{Downward, throughout, until, downward, neither}
+use Rattle.axis.proofs.Runs.{if-equal, Downward, throughout, until, downward, neither}
 use Rattle.axis.proofs.Sides.{KnotIn, opposite, from, to, knot-step, lies-at, halves-of, kept, kept-is, kept-in, kept-away, one-part, part-of, inside-of, StepIn}
 use Rattle.mesh.specs.Lines.{Direction, upright, level, other, side, Mesh, Layout, meshOf}
 use Rattle.mesh.specs.Blends.{crossed, along, cuts, halve, live}
@@ -338,13 +337,12 @@ module _ (P : Layout) (b : Built P) (s : Split) (d : Direction) (r : Ranged (P .
         alone i lo hi step =
             let ql = q .lo in
             let qh = q .hi in
-            ⊎-elim (λ e. eqb-true _ _ e)
-            (λ e. absurd (true-not-false _
-            (level-cuts N d i C (record { lo = lo; hi = hi; off = eqb-false i (along d C .m) e })
+            if-equal i (along d C .m) (λ e. e)
+            (λ off. absurd (true-not-false _
+            (level-cuts N d i C (record { lo = lo; hi = hi; off = off })
             (λ j jlo jhi. more-finer P s (other d) i j
             (covers i j (omega arith) (omega arith) step (subst (λ (T : Triple). T .l ≤ j) (q .across) jlo) (subst (λ (T : Triple). j < T .r) (q .across) jhi))))
             (u (other d) i)))
-            (either (eqb i (along d C .m)))
 
         beside-line : (i : ℕ) → along d C .l < i → i < along d C .r → Q .levels i (z - 1) ≡ true → Q .levels i z ≡ true
         beside-line i lo hi step =

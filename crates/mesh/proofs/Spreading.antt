@@ -2,14 +2,13 @@
 use Prim.Native.Nat.{ℕ, zero, suc, _+_, _-_, _≤_, _<_}
 use native.Mathlib.Omega.{arith}
 use mathlib.Core.Path.{_≡_, sym, ap, subst}
-use mathlib.Core.Logic.{_⊎_, inl, inr, ⊎-elim}
+use mathlib.Core.Logic.{_⊎_, inl, inr}
 use mathlib.Core.Bool.{true, false}
-use lib.Dec.{leb, ltb, eqb}
-use borrow.Author.Tests.{leb-true, leb-false, ltb-true, ltb-false, eqb-true, eqb-false}
 use Rattle.axis.specs.Triple.{Side, lower, upper}
-use Rattle.axis.proofs.Tests.{either, true-not-false}
+use Rattle.axis.specs.declared.Triple.{Triple}
+use Rattle.axis.proofs.Tests.{true-not-false}
 use Rattle.axis.proofs.Parts.{OnSide}
-use Rattle.axis.proofs.Runs.{Downward, throughout, until, downward}
+use Rattle.axis.proofs.Runs.{if-at-most, if-below, if-equal, Downward, throughout, until, downward}
 use Rattle.axis.proofs.Sides.{column, StepIn, KnotIn, opposite, mirror, in-mirror, inside-of, own-column, past-column, on-column}
 use Rattle.axis.proofs.Triples.{rise-of}
 use Rattle.mesh.specs.declared.Blend.{Blend}
@@ -42,9 +41,8 @@ module _ (Q : View) (s : SoundView Q) (z : ℕ) (hz : (1 < z) × (z ≤ Q .w)) (
   below-it k =
       let c = k .column in
       let r = s .y .rises (k .blend) (k .live) in
-      ⊎-elim (λ e. let lt = ltb-true (Q .up (k .blend) .m) v e in (upper, record { blend = k .blend; live = k .live; column = (omega arith, omega arith); at = k .at }))
-      (λ e. let le = ltb-false (Q .up (k .blend) .m) v e in (lower, record { blend = k .blend; live = k .live; column = (omega arith, omega arith); at = k .at }))
-      (either (ltb (Q .up (k .blend) .m) v))
+      if-below (Q .up (k .blend) .m) v (λ lt. (upper, record { blend = k .blend; live = k .live; column = (omega arith, omega arith); at = k .at }))
+      (λ le. (lower, record { blend = k .blend; live = k .live; column = (omega arith, omega arith); at = k .at }))
 
   -- a blend that begins at the row, with its anchor on the upright
   module _ (Y : Knot (turn Q) lower v z) (starts : Q .up (Y .blend) .l ≡ v) where
@@ -66,16 +64,15 @@ module _ (Q : View) (s : SoundView Q) (z : ℕ) (hz : (1 < z) × (z ≤ Q .w)) (
         let o = r .1 in
         let n = neighbours Q s on-side inRow o
         (record { live = Y .live; column = own-column x z (Q .across (Y .blend)) (rise-of (s .x .rises (Y .blend) (Y .live))) (Y .at); row = Y .column }) in
-        ⊎-elim (λ e. inl (below-it (record { blend = r .0; live = o .live; column = o .row; at = eqb-true _ _ e })))
-        (λ e. inr
+        if-equal (Q .across (r .0) .m) z (λ e. inl (below-it (record { blend = r .0; live = o .live; column = o .row; at = e })))
+        (λ ne. inr
         (record {
           blend = r .0;
           live = o .live;
-          over = past-column x z (Q .across (r .0)) (omega arith) (o .column) (eqb-false _ _ e);
+          over = past-column x z (Q .across (r .0)) (omega arith) (o .column) ne;
           anchored = omega arith;
           ends = n .1;
         }))
-        (either (eqb (Q .across (r .0) .m) z))
 
     -- the upright would cut one, if it covered the rows below
     bare : {x : Side} (u : Under x) → ((k : ℕ) → Q .up (u .blend) .l ≤ k → k < v → Q .uprights z k ≡ true) → ⊥
@@ -83,11 +80,9 @@ module _ (Q : View) (s : SoundView Q) (z : ℕ) (hz : (1 < z) × (z ≤ Q .w)) (
         let ends = u .ends in
         let ry = s .y .rises (Y .blend) (Y .live) in
         s .x .clear (u .blend) (u .live) z (inside-of x z (Q .across (u .blend)) (rise-of (s .x .rises (u .blend) (u .live))) (u .over))
-        (λ k lo hi.
-        ⊎-elim (λ e. below k lo (ltb-true k v e))
-        (λ e. let le = ltb-false k v e in grid-at Q s (Y .blend) (Y .live) (Y .at) (omega arith) (omega arith)) (either (ltb k v)))
+        (λ k lo hi. if-below k v (below k lo) (λ le. grid-at Q s (Y .blend) (Y .live) (Y .at) (omega arith) (omega arith)))
 
-    beside : (x : Side) (j : ℕ) (t : Rattle.axis.specs.declared.Triple.Triple) → (j ≡ z) ⊎ (j + 1 ≡ z) → KnotIn x z t → StepIn x j t
+    beside : (x : Side) (j : ℕ) (t : Triple) → (j ≡ z) ⊎ (j + 1 ≡ z) → KnotIn x z t → StepIn x j t
     beside lower j t (inl e) p = (omega arith, omega arith)
     beside lower j t (inr e) p = (omega arith, omega arith)
     beside upper j t (inl e) p = (omega arith, omega arith)
@@ -104,20 +99,16 @@ module _ (Q : View) (s : SoundView Q) (z : ℕ) (hz : (1 < z) × (z ≤ Q .w)) (
         let low = s .y .rises (u upper .blend) (u upper .live) in
         let anchor = u upper .anchored in
         let below : e < v - 1 =
-        ⊎-elim (λ q. let is = eqb-true e (v - 1) q in absurd (true-not-false _ (subst (λ (k : ℕ). Q .uprights z k ≡ true) (sym is) on) off))
-        (λ q. let ne = eqb-false e (v - 1) q in omega arith) (either (eqb e (v - 1))) in
+        if-equal e (v - 1) (λ is. absurd (true-not-false _ (subst (λ (k : ℕ). Q .uprights z k ≡ true) (sym is) on) off)) (λ ne. omega arith) in
         let domain : 1 ≤ e =
-        ⊎-elim (λ q. leb-true 1 e q) (λ q. let none = leb-false 1 e q in let n = s .y .near (u upper .blend) (u upper .live) (omega arith) in absurd (omega arith))
-        (either (leb 1 e)) in
+        if-at-most 1 e (λ le. le) (λ none. let n = s .y .near (u upper .blend) (u upper .live) (omega arith) in absurd (omega arith)) in
         let r = rests (e + 1) (omega arith) (omega arith) (subst (λ (k : ℕ). Q .uprights z k ≡ false) (let q : e ≡ e + 1 - 1 = omega arith in q) off)
         (covered (e + 1) (omega arith) (omega arith)) in
         clash r (r .part) (u (r .part)) (r .knot) (reaches (r .part)) below domain
       where
         reaches : (x : Side) → Q .up (u x .blend) .l ≤ e
         reaches x =
-            ⊎-elim (λ q. leb-true _ _ q)
-            (λ q. let gt = leb-false (Q .up (u x .blend) .l) e q in absurd (bare (u x) (λ k a b. covered k (omega arith) b)))
-            (either (leb (Q .up (u x .blend) .l) e))
+            if-at-most (Q .up (u x .blend) .l) e (λ le. le) (λ gt. absurd (bare (u x) (λ k a b. covered k (omega arith) b)))
 
         clash : (r : Rests Q z (e + 1)) (x : Side) (w : Under x) → Knot Q x (r .column) (e + 1) → Q .up (w .blend) .l ≤ e → e < v - 1 → 1 ≤ e → ⊥
         clash r x w k le lt one =
@@ -153,9 +144,8 @@ module _ (Q : View) (s : SoundView Q) (z : ℕ) (hz : (1 < z) × (z ≤ Q .w)) (
       by upper k = below-it k
       by lower k =
           let c = k .column in
-          ⊎-elim (λ e. starts-above k (eqb-true _ _ e))
-          (λ e. let ne = eqb-false (Q .up (k .blend) .l) v e in (lower, record { blend = k .blend; live = k .live; column = (omega arith, omega arith); at = k .at }))
-          (either (eqb (Q .up (k .blend) .l) v))
+          if-equal (Q .up (k .blend) .l) v (starts-above k)
+          (λ ne. (lower, record { blend = k .blend; live = k .live; column = (omega arith, omega arith); at = k .at }))
 
 -- Down to any row, up to any row, and so anywhere along the line.
 all-down : (Q : View) (s : SoundView Q) (z : ℕ) (hz : (1 < z) × (z ≤ Q .w)) → RestsBelow Q z → (n k : ℕ) → 1 ≤ k → k + n ≤ Q .h →
@@ -201,13 +191,10 @@ flip-rests Q s z rests a lo hi off on =
 pub used-along : (Q : View) (s : SoundView Q) (z : ℕ) (hz : (1 < z) × (z ≤ Q .w)) → RestsBelow Q z → RestsAbove Q z → (a b : ℕ) → 1 ≤ a → b ≤ Q .h + 1 →
     ((k : ℕ) → a ≤ k → k < b → Q .uprights z k ≡ true) → (i : ℕ) → a ≤ i → i < b → Used Q z i → (k : ℕ) → a ≤ k → k < b → Used Q z k
 used-along Q s z hz below above a b one le on i lo hi u k klo khi =
-    ⊎-elim
-    (λ e. let down = leb-true k i e in
-    all-down Q s z hz below (i - k) k (omega arith) (omega arith) (λ n nlo nhi. on n (omega arith) (omega arith))
+    if-at-most k i
+    (λ down. all-down Q s z hz below (i - k) k (omega arith) (omega arith) (λ n nlo nhi. on n (omega arith) (omega arith))
     (subst (Used Q z) (let e : i ≡ k + (i - k) = omega arith in e) u))
-    (λ e. let up = leb-false k i e in
-    used-flip Q s z k (omega arith, omega arith)
+    (λ up. used-flip Q s z k (omega arith, omega arith)
     (all-down (flip Q) (flip-sound Q s) z hz (flip-rests Q s z above) (k - i) (Q .h + 1 - k) (omega arith) (omega arith)
     (λ n nlo nhi. on (Q .h + 1 - n) (omega arith) (omega arith))
     (subst (Used (flip Q) z) (let e : Q .h + 1 - i ≡ Q .h + 1 - k + (k - i) = omega arith in e) (flip-used Q s z i (omega arith, omega arith) u))))
-    (either (leb k i))

@@ -5,14 +5,13 @@ use mathlib.Core.Path.{_≡_, refl, sym, subst}
 use mathlib.Core.Logic.{_⊎_, inl, inr, ⊎-elim}
 use mathlib.Core.Bool.{true, false, _&&_}
 use mathlib.Core.List.{List, [], List·Memᴰ}
-use lib.Dec.{ltb, eqb}
-use borrow.Author.Tests.{eqb-true, eqb-false, ltb-true, ltb-false}
+use lib.Dec.{ltb}
 use Rattle.axis.specs.Triple.{Side, lower, upper, half}
 use Rattle.axis.specs.declared.Triple.{Triple}
-use Rattle.axis.proofs.Tests.{either, true-not-false, false-of, and-both, or-either}
+use Rattle.axis.proofs.Tests.{true-not-false, false-of, and-both, or-either}
 use Rattle.axis.proofs.Parts.{OnSide}
-use Rattle.axis.proofs.Runs.{throughout, until, downward, Downward}
-use Rattle.axis.proofs.Sides.{from, to, KnotOf}
+use Rattle.axis.proofs.Runs.{if-below, if-equal, throughout, until, downward, Downward}
+use Rattle.axis.proofs.Sides.{KnotOf}
 use Rattle.mesh.specs.Lines.{Direction, upright, level, other, side, onLine, Layout, layout, meshOf}
 use Rattle.mesh.specs.Blends.{along, cuts, isCut, halve, live}
 use Rattle.mesh.specs.Sound.{fourEverywhere, sound}
@@ -133,14 +132,12 @@ module _ (P : Layout) (b : Built P) (s : Split) (d : Direction) (r : Ranged (P .
         own-end lower off row =
             let range = r .range in
             ⊎-elim
-            (λ i. ⊎-elim (λ q. eqb-true v (s .from + 1) q)
-            (λ q. let ne = eqb-false v (s .from + 1) q in absurd (true-not-false _ (step-drawn P s d r (v - 1) (inl (omega arith, omega arith))) off)) (either (eqb v (s .from + 1))))
+            (λ i. if-equal v (s .from + 1) (λ e. e) (λ ne. absurd (true-not-false _ (step-drawn P s d r (v - 1) (inl (omega arith, omega arith))) off)))
             (λ o. absurd (⊎-elim (λ i. omega arith) (λ i. omega arith) o)) row
         own-end upper off row =
             let range = r .range in
             ⊎-elim
-            (λ i. ⊎-elim (λ q. eqb-true v (s .to + 1) q)
-            (λ q. let ne = eqb-false v (s .to + 1) q in absurd (true-not-false _ (step-drawn P s d r v (inl (omega arith, omega arith))) off)) (either (eqb v (s .to + 1))))
+            (λ i. if-equal v (s .to + 1) (λ e. e) (λ ne. absurd (true-not-false _ (step-drawn P s d r v (inl (omega arith, omega arith))) off)))
             (λ o. absurd (⊎-elim (λ i. omega arith) (λ i. omega arith) o)) row
 
         own-in : (e : Side) → meshOf N d z (outward e v) ≡ false → Row run s (inward e v) → (1 < endOf e s) × (endOf e s ≤ run)
@@ -220,7 +217,7 @@ module _ (P : Layout) (b : Built P) (s : Split) (d : Direction) (r : Ranged (P .
           upright-used N (b .wide) (b .high) four d z k (omega arith, r .inner .1) (omega arith, omega arith) g
         where
           knot : (t : Triple) → KnotOf z (half lower z t)
-          knot t = ⊎-elim (λ e. let lt = ltb-true z (t .m) e in inr (inl (omega arith))) (λ e. let le = ltb-false z (t .m) e in inr (inr (omega arith))) (either (ltb z (t .m)))
+          knot t = if-below z (t .m) (λ lt. inr (inl (omega arith))) (λ le. inr (inr (omega arith)))
 
           cut-on-grid : (d : Direction) (k : ℕ) → (along d B .l ≤ k) × (k < along d B .r) → OnGrid d z k (halve d lower z B)
           cut-on-grid upright k i = record { knot = knot (B .across); lo = i .0; hi = i .1 }
