@@ -103,9 +103,7 @@ turn-sound Q s =
 pub turn-tight : (Q : View) → TightView Q → TightView (turn Q)
 turn-tight Q t = record { is-sound = turn-sound Q (t .is-sound); x = t .y; y = t .x }
 
--- what is true at a number is true at one that equals it
-carry : (P : ℕ → Type 0) {a b : ℕ} → a ≡ b → P a → P b
-carry P e p = subst P e p
+
 
 module _ (Q : View) (s : SoundView Q) where
   rising : (B : Blend) → Live Q B → RisesIn (Q .h) (Q .up B)
@@ -122,7 +120,7 @@ module _ (Q : View) (s : SoundView Q) where
         clear = λ B m z i c.
             let r = rising B m in
             s .x .clear B m z i
-            (λ k lo hi. carry (λ (n : ℕ). Q .uprights z n ≡ true) (let e : Q .h + 1 - (Q .h + 1 - k) ≡ k = omega arith in e) (c (Q .h + 1 - k) (omega arith) (omega arith)));
+            (λ k lo hi. subst (λ (n : ℕ). Q .uprights z n ≡ true) {x = Q .h + 1 - (Q .h + 1 - k)} (omega arith) (c (Q .h + 1 - k) (omega arith) (omega arith)));
       }
 
   flip-up : OneWay (turn (flip Q))
@@ -136,9 +134,9 @@ module _ (Q : View) (s : SoundView Q) where
             let r = rising B m in
             let g = s .y .grid B m k lo hi in
             record {
-              l = carry (λ (n : ℕ). Q .levels n k ≡ true) (let e : Q .up B .r ≡ Q .h + 2 - (Q .h + 2 - Q .up B .r) = omega arith in e) (g .r);
-              m = carry (λ (n : ℕ). Q .levels n k ≡ true) (let e : Q .up B .m ≡ Q .h + 2 - (Q .h + 2 - Q .up B .m) = omega arith in e) (g .m);
-              r = carry (λ (n : ℕ). Q .levels n k ≡ true) (let e : Q .up B .l ≡ Q .h + 2 - (Q .h + 2 - Q .up B .l) = omega arith in e) (g .l);
+              l = subst (λ (n : ℕ). Q .levels n k ≡ true) (omega arith) (g .r);
+              m = subst (λ (n : ℕ). Q .levels n k ≡ true) (omega arith) (g .m);
+              r = subst (λ (n : ℕ). Q .levels n k ≡ true) (omega arith) (g .l);
             };
         clear = λ B m z i c.
             let r = rising B m in
@@ -195,7 +193,7 @@ module _ (Q : View) (t : TightView Q) where
                 blend = B;
                 live = r .1 .live;
                 column =
-                    carry (λ (n : ℕ). StepIn (opposite (r .0)) n (mirror (Q .h) (Q .up B))) (let q : Q .h + 1 - (Q .h + 1 - j) ≡ j = omega arith in q)
+                    subst (λ (n : ℕ). StepIn (opposite (r .0)) n (mirror (Q .h) (Q .up B))) {x = Q .h + 1 - (Q .h + 1 - j)} (omega arith)
                     (in-mirror (Q .h) (r .0) (Q .h + 1 - j) (Q .up B) (t .is-sound .y .rises B (r .1 .live)) (omega arith, omega arith) (r .1 .column));
                 at = r .1 .at;
               },
