@@ -224,14 +224,14 @@ pub flip-good : (Q : View) (e : Side) (z a : ℕ) → (1 ≤ a) × (a ≤ Q .h +
 flip-good Q lower z a ha (edge q) = edge (omega arith)
 flip-good Q upper z a ha (edge q) = edge (omega arith)
 flip-good Q lower z a ha (line i on) =
-    line (omega arith, omega arith) (subst (λ (n : ℕ). Q .uprights z n ≡ true) (let q : a - 1 ≡ Q .h + 1 - (Q .h + 2 - a) = omega arith in q) on)
+    line (omega arith, omega arith) (subst (λ (n : ℕ). Q .uprights z n ≡ true) (omega arith) on)
 flip-good Q upper z a ha (line i on) =
-    line (omega arith, omega arith) (subst (λ (n : ℕ). Q .uprights z n ≡ true) (let q : a ≡ Q .h + 1 - (Q .h + 2 - a - 1) = omega arith in q) on)
+    line (omega arith, omega arith) (subst (λ (n : ℕ). Q .uprights z n ≡ true) (omega arith) on)
 flip-good Q lower z a ha (blends i off b) =
-    blends (omega arith, omega arith) (subst (λ (n : ℕ). Q .uprights z n ≡ false) (let q : a - 1 ≡ Q .h + 1 - (Q .h + 2 - a) = omega arith in q) off)
+    blends (omega arith, omega arith) (subst (λ (n : ℕ). Q .uprights z n ≡ false) (omega arith) off)
     (flip-abreast Q lower z a b)
 flip-good Q upper z a ha (blends i off b) =
-    blends (omega arith, omega arith) (subst (λ (n : ℕ). Q .uprights z n ≡ false) (let q : a ≡ Q .h + 1 - (Q .h + 2 - a - 1) = omega arith in q) off)
+    blends (omega arith, omega arith) (subst (λ (n : ℕ). Q .uprights z n ≡ false) (omega arith) off)
     (flip-abreast Q upper z a b)
 
 pub swap-good : (Q : View) (s : SoundView Q) (e : Side) (z a : ℕ) → z ≤ Q .w + 2 → Good Q e z a → Good (swap Q) e (Q .w + 2 - z) a
@@ -241,9 +241,9 @@ swap-good Q s e z a hz (edge q) = edge (by e q)
     by lower q = q
     by upper q = q
 swap-good Q s e z a hz (line i on) =
-    line i (subst (λ (n : ℕ). Q .uprights n (outward e a) ≡ true) (let q : z ≡ Q .w + 2 - (Q .w + 2 - z) = omega arith in q) on)
+    line i (subst (λ (n : ℕ). Q .uprights n (outward e a) ≡ true) (omega arith) on)
 swap-good Q s e z a hz (blends i off b) =
-    blends i (subst (λ (n : ℕ). Q .uprights n (outward e a) ≡ false) (let q : z ≡ Q .w + 2 - (Q .w + 2 - z) = omega arith in q) off)
+    blends i (subst (λ (n : ℕ). Q .uprights n (outward e a) ≡ false) (omega arith) off)
     (record {
       reach = b .reach;
       at = λ x. b .at (opposite x);
@@ -329,8 +329,8 @@ flip-drawn Q z a b drawn d =
       free = λ k lo hi. d .free (Q .h + 1 - k) (omega arith) (omega arith);
       old = λ k. d .old (Q .h + 1 - k);
       new = λ k lo hi. d .new (Q .h + 1 - k) (omega arith) (omega arith);
-      out-below = λ e. subst (λ (n : ℕ). drawn n ≡ true) (let q : Q .h + 1 ≡ Q .h + 1 - 0 = omega arith in q) (d .out-above (omega arith));
-      out-above = λ e. subst (λ (n : ℕ). drawn n ≡ true) (let q : 0 ≡ Q .h + 1 - (Q .h + 1) = omega arith in q) (d .out-below (omega arith));
+      out-below = λ e. subst (λ (n : ℕ). drawn n ≡ true) (omega arith) (d .out-above (omega arith));
+      out-above = λ e. subst (λ (n : ℕ). drawn n ≡ true) (omega arith) (d .out-below (omega arith));
       only = λ k le e.
           ⊎-elim inl
           (λ o. inr (⊎-elim (λ q. inl (omega arith, omega arith))
@@ -363,7 +363,7 @@ flip-cut Q s drawn B m c k lo hi = let r = s .y .rises B m in c (Q .h + 1 - k) (
 cut-flip : (Q : View) (s : SoundView Q) (drawn : ℕ → Bool) (B : Blend) → Live Q B → CutBy (flip Q) (λ k. drawn (Q .h + 1 - k)) B → CutBy Q drawn B
 cut-flip Q s drawn B m c k lo hi =
     let r = s .y .rises B m in
-    subst (λ (n : ℕ). drawn n ≡ true) (let q : Q .h + 1 - (Q .h + 1 - k) ≡ k = omega arith in q) (c (Q .h + 1 - k) (omega arith) (omega arith))
+    subst (λ (n : ℕ). drawn n ≡ true) (omega arith) (c (Q .h + 1 - k) (omega arith) (omega arith))
 
 module _ (Q : View) (t : TightView Q) (z a b : ℕ) (drawn : ℕ → Bool) (d : Drawn Q z a b drawn) where
   -- nor above it.
@@ -383,7 +383,7 @@ module _ (Q : View) (t : TightView Q) (z a b : ℕ) (drawn : ℕ → Bool) (d : 
   rows-below x B m p lo hi apart k klo khi = by (d .low-end)
     where
       by : Good Q lower z a → drawn k ≡ true
-      by (edge e) = subst (λ (n : ℕ). drawn n ≡ true) (let q : 0 ≡ k = omega arith in q) (d .out-below e)
+      by (edge e) = subst (λ (n : ℕ). drawn n ≡ true) (omega arith) (d .out-below e)
       by (line i on) =
           let range = d .range in
           let in-side = d .inner in
@@ -414,7 +414,7 @@ module _ (Q : View) (t : TightView Q) (z a b : ℕ) (drawn : ℕ → Bool) (d : 
       by : Good Q upper z b → drawn k ≡ true
       by (edge e) =
           let r = t .is-sound .y .rises B m in
-          subst (λ (n : ℕ). drawn n ≡ true) (let q : Q .h + 1 ≡ k = omega arith in q) (d .out-above e)
+          subst (λ (n : ℕ). drawn n ≡ true) (omega arith) (d .out-above e)
       by (line i on) =
           let range = d .range in
           let in-side = d .inner in

@@ -102,7 +102,7 @@ module _ (Q : View) (s : SoundView Q) (z : ℕ) (hz : (1 < z) × (z ≤ Q .w)) (
         if-equal e (v - 1) (λ is. absurd (true-not-false _ (subst (λ (k : ℕ). Q .uprights z k ≡ true) (sym is) on) off)) (λ ne. omega arith) in
         let domain : 1 ≤ e =
         if-at-most 1 e (λ le. le) (λ none. let n = s .y .near (u upper .blend) (u upper .live) (omega arith) in absurd (omega arith)) in
-        let r = rests (e + 1) (omega arith) (omega arith) (subst (λ (k : ℕ). Q .uprights z k ≡ false) (let q : e ≡ e + 1 - 1 = omega arith in q) off)
+        let r = rests (e + 1) (omega arith) (omega arith) (subst (λ (k : ℕ). Q .uprights z k ≡ false) (omega arith) off)
         (covered (e + 1) (omega arith) (omega arith)) in
         clash r (r .part) (u (r .part)) (r .knot) (reaches (r .part)) below domain
       where
@@ -150,10 +150,10 @@ module _ (Q : View) (s : SoundView Q) (z : ℕ) (hz : (1 < z) × (z ≤ Q .w)) (
 -- Down to any row, up to any row, and so anywhere along the line.
 all-down : (Q : View) (s : SoundView Q) (z : ℕ) (hz : (1 < z) × (z ≤ Q .w)) → RestsBelow Q z → (n k : ℕ) → 1 ≤ k → k + n ≤ Q .h →
     ((i : ℕ) → k ≤ i → i < k + n → Q .uprights z i ≡ true) → Used Q z (k + n) → Used Q z k
-all-down Q s z hz rests zero k one le on u = subst (Used Q z) (let e : k + 0 ≡ k = omega arith in e) u
+all-down Q s z hz rests zero k one le on u = subst (Used Q z) (omega arith) u
 all-down Q s z hz rests (suc n) k one le on u =
     all-down Q s z hz rests n k one (omega arith) (λ i lo hi. on i lo (omega arith))
-    (subst (Used Q z) (let e : k + suc n - 1 ≡ k + n = omega arith in e)
+    (subst (Used Q z) (omega arith)
     (one-down Q s z hz rests (k + suc n) (omega arith, le) (on (k + suc n - 1) (omega arith) (omega arith)) u))
 
 flip-used : (Q : View) (s : SoundView Q) (z k : ℕ) → OnSide (Q .h) k → Used Q z k → Used (flip Q) z (Q .h + 1 - k)
@@ -193,8 +193,8 @@ pub used-along : (Q : View) (s : SoundView Q) (z : ℕ) (hz : (1 < z) × (z ≤ 
 used-along Q s z hz below above a b one le on i lo hi u k klo khi =
     if-at-most k i
     (λ down. all-down Q s z hz below (i - k) k (omega arith) (omega arith) (λ n nlo nhi. on n (omega arith) (omega arith))
-    (subst (Used Q z) (let e : i ≡ k + (i - k) = omega arith in e) u))
+    (subst (Used Q z) (omega arith) u))
     (λ up. used-flip Q s z k (omega arith, omega arith)
     (all-down (flip Q) (flip-sound Q s) z hz (flip-rests Q s z above) (k - i) (Q .h + 1 - k) (omega arith) (omega arith)
     (λ n nlo nhi. on (Q .h + 1 - n) (omega arith) (omega arith))
-    (subst (Used (flip Q) z) (let e : Q .h + 1 - i ≡ Q .h + 1 - k + (k - i) = omega arith in e) (flip-used Q s z i (omega arith, omega arith) u))))
+    (subst (Used (flip Q) z) (omega arith) (flip-used Q s z i (omega arith, omega arith) u))))

@@ -120,7 +120,7 @@ module _ (Q : View) (s : SoundView Q) where
         clear = λ B m z i c.
             let r = rising B m in
             s .x .clear B m z i
-            (λ k lo hi. subst (λ (n : ℕ). Q .uprights z n ≡ true) {x = Q .h + 1 - (Q .h + 1 - k)} (omega arith) (c (Q .h + 1 - k) (omega arith) (omega arith)));
+            (λ k lo hi. subst (λ (n : ℕ). Q .uprights z n ≡ true) (omega arith) (c (Q .h + 1 - k) (omega arith) (omega arith)));
       }
 
   flip-up : OneWay (turn (flip Q))
@@ -193,7 +193,7 @@ module _ (Q : View) (t : TightView Q) where
                 blend = B;
                 live = r .1 .live;
                 column =
-                    subst (λ (n : ℕ). StepIn (opposite (r .0)) n (mirror (Q .h) (Q .up B))) {x = Q .h + 1 - (Q .h + 1 - j)} (omega arith)
+                    subst (λ (n : ℕ). StepIn (opposite (r .0)) n (mirror (Q .h) (Q .up B))) (omega arith)
                     (in-mirror (Q .h) (r .0) (Q .h + 1 - j) (Q .up B) (t .is-sound .y .rises B (r .1 .live)) (omega arith, omega arith) (r .1 .column));
                 at = r .1 .at;
               },
