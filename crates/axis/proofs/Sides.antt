@@ -41,6 +41,24 @@ pub knot-step : (x : Side) (z : ℕ) (t : Triple) → KnotIn x z t → StepIn x 
 knot-step lower z t p = (omega arith, omega arith)
 knot-step upper z t p = (omega arith, omega arith)
 
+-- the steps beside the knot lie there too
+pub step-beside : (x : Side) (z j : ℕ) (t : Triple) → (j ≤ z) × (z ≤ j + 1) → KnotIn x z t → StepIn x j t
+step-beside lower z j t b p = (omega arith, omega arith)
+step-beside upper z j t b p = (omega arith, omega arith)
+
+-- a part lies within its triple
+pub part-within : (x : Side) (t : Triple) → Rise t → (t .l ≤ from x t) × (to x t ≤ t .r)
+part-within lower t r = (omega arith, omega arith)
+part-within upper t r = (omega arith, omega arith)
+
+pub step-within : (x : Side) (j : ℕ) (t : Triple) → Rise t → StepIn x j t → (t .l ≤ j) × (j < t .r)
+step-within lower j t r i = (omega arith, omega arith)
+step-within upper j t r i = (omega arith, omega arith)
+
+pub knot-between : (x : Side) (z : ℕ) (t : Triple) → KnotIn x z t → (from x t < z) × (z < to x t)
+knot-between lower z t p = p
+knot-between upper z t p = p
+
 -- The column beside knot z in which a triple with the middle z has that part; and one over it without z for its middle has z inside the part.
 abbrev pub column : Side → ℕ → ℕ
 column lower z = z - 1
@@ -119,6 +137,14 @@ kept-in lower z t a lower j i = (omega arith, omega arith)
 kept-in lower z t a upper j i = i
 kept-in upper z t a lower j i = i
 kept-in upper z t a upper j i = (omega arith, omega arith)
+
+pub kept-inside : (x : Side) (z y : ℕ) (t : Triple) → KnotIn x z t → Inside y (kept x z t) → Inside y t × (y ≡ z → ⊥)
+kept-inside lower z y t p i = let lo = i .lo in let hi = i .hi in (record { lo = omega arith; hi = hi; off = i .off }, omega arith)
+kept-inside upper z y t p i = let lo = i .lo in let hi = i .hi in (record { lo = lo; hi = omega arith; off = i .off }, omega arith)
+
+pub kept-rises : (x : Side) (z : ℕ) (t : Triple) → Rise t → KnotIn x z t → (kept x z t .l < t .m) × (t .m < kept x z t .r)
+kept-rises lower z t r p = (omega arith, omega arith)
+kept-rises upper z t r p = (omega arith, omega arith)
 
 pub kept-away : (x : Side) (z : ℕ) (t : Triple) (f g j : ℕ) → StepIn x j (kept x z t) → StepIn x j (triple f z g) → ⊥
 kept-away lower z t f g j i k = omega arith

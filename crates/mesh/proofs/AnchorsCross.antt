@@ -36,16 +36,14 @@ turn-anchor a = record { blend = a .blend; live = a .live; across = a .up; up = 
 flip-crossing : (Q : View) {z v : ℕ} → Crossing Q z v → Crossing (flip Q) z (Q .h + 2 - v)
 flip-crossing Q {z} {v} c =
     let u = c .up in
-    let e : v - 1 ≡ Q .h + 1 - (Q .h + 2 - v) = omega arith in
-    let f : v ≡ Q .h + 1 - (Q .h + 2 - v - 1) = omega arith in
-    let g : v ≡ Q .h + 2 - (Q .h + 2 - v) = omega arith in
+
     record {
       across = c .across;
       up = (omega arith, omega arith);
-      below = subst (λ (k : ℕ). Q .uprights z k ≡ true) f (c .above);
-      above = subst (λ (k : ℕ). Q .uprights z k ≡ true) e (c .below);
-      left = subst (λ (k : ℕ). Q .levels k (z - 1) ≡ true) g (c .left);
-      right = subst (λ (k : ℕ). Q .levels k z ≡ true) g (c .right);
+      below = subst (λ (k : ℕ). Q .uprights z k ≡ true) (omega arith) (c .above);
+      above = subst (λ (k : ℕ). Q .uprights z k ≡ true) (omega arith) (c .below);
+      left = subst (λ (k : ℕ). Q .levels k (z - 1) ≡ true) (omega arith) (c .left);
+      right = subst (λ (k : ℕ). Q .levels k z ≡ true) (omega arith) (c .right);
     }
 
 flip-anchor : (Q : View) → SoundView Q → {z v : ℕ} → v ≤ Q .h + 1 → Anchor (flip Q) z (Q .h + 2 - v) → Anchor Q z v

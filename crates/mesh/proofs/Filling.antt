@@ -9,8 +9,8 @@ use Rattle.axis.specs.Triple.{triple, Side, lower, upper, RisesIn}
 use Rattle.axis.proofs.Tests.{true-not-false}
 use Rattle.axis.proofs.Parts.{OnSide}
 use Rattle.axis.proofs.Runs.{if-at-most, if-below, if-equal}
-use Rattle.axis.proofs.Triples.{Inside}
-use Rattle.axis.proofs.Sides.{StepIn, KnotIn, opposite, from, to, knot-step, mirror, in-mirror}
+use Rattle.axis.proofs.Triples.{rise-of}
+use Rattle.axis.proofs.Sides.{StepIn, KnotIn, opposite, from, to, knot-step, part-within, inside-of, mirror, in-mirror}
 use Rattle.mesh.specs.declared.Blend.{Blend}
 use Rattle.mesh.proofs.View.{View, turn, flip, swap, Live, Over, SoundView, TightView, turn-sound, flip-tight, swap-tight, flipped, on-mirror}
 use Rattle.mesh.proofs.Neighbours.{neighbours, level-at, Abreast, Ended, line-ends, outward, flip-abreast}
@@ -133,20 +133,14 @@ module _ (Q : View) (t : TightView Q) where
     pub level-covers : Q .levels w z ≡ true → (x : Side) (B : Blend) → Holding z w x B → (j : ℕ) → from x (Q .across B) ≤ j → j < to x (Q .across B) →
         Q .levels w j ≡ true
     level-covers on x B b j lo hi =
-        if-equal (Q .up B .m) w (λ e. level-at Q s B (b .live) e (wide-low x B (b .live) lo) (wide-high x B (b .live) hi))
+        if-equal (Q .up B .m) w (λ e. part-on x B (b .live) e lo hi)
         (λ ne. let inner = inner-level b ne in
         let o = standing on inner in
         let a = to-standing x B b o inner in
-        level-at Q s (o .blend) (o .holds .live) (o .at) (wide-low (o .part) (o .blend) (o .holds .live) (subst (λ (n : ℕ). n ≤ j) (a .0) lo))
-        (wide-high (o .part) (o .blend) (o .holds .live) (subst (λ (n : ℕ). j < n) (a .1) hi)))
+        part-on (o .part) (o .blend) (o .holds .live) (o .at) (subst (λ (n : ℕ). n ≤ j) (a .0) lo) (subst (λ (n : ℕ). j < n) (a .1) hi))
       where
-        wide-low : (x : Side) (C : Blend) → Live Q C → from x (Q .across C) ≤ j → Q .across C .l ≤ j
-        wide-low lower C m le = le
-        wide-low upper C m le = let r = s .x .rises C m in omega arith
-
-        wide-high : (x : Side) (C : Blend) → Live Q C → j < to x (Q .across C) → j < Q .across C .r
-        wide-high lower C m lt = let r = s .x .rises C m in omega arith
-        wide-high upper C m lt = lt
+        part-on : (x : Side) (C : Blend) → Live Q C → Q .up C .m ≡ w → from x (Q .across C) ≤ j → j < to x (Q .across C) → Q .levels w j ≡ true
+        part-on x C m at lo hi = let p = part-within x (Q .across C) (rise-of (s .x .rises C m)) in level-at Q s C m at (omega arith) (omega arith)
 
 
 
@@ -205,9 +199,8 @@ module _ (Q : View) (t : TightView Q) (z a : ℕ) (hz : OnSide (Q .w) z) (ha : (
   above-none b w on lo hi =
       let end : Q .up (b .at upper) .r ≡ b .reach = b .reaches upper in
       let r = t .is-sound .y .rises (b .at upper) (b .live upper) in
-      let back : Q .h + 2 - (Q .h + 2 - w) ≡ w = omega arith in
       between-none (flip Q) (flip-tight Q t) z (Q .h + 2 - a) hz mirrored (flip-abreast Q lower z a b) (Q .h + 2 - w)
-      (subst (λ (n : ℕ). Q .levels n z ≡ true) (sym back) on) (omega arith) (omega arith)
+      (subst (λ (n : ℕ). Q .levels n z ≡ true) (omega arith) on) (omega arith) (omega arith)
 
 -- the edges of the domain
 abbrev pub edgeOf : View → Side → ℕ
@@ -235,11 +228,8 @@ flip-good Q upper z a ha (blends i off b) =
     (flip-abreast Q upper z a b)
 
 pub swap-good : (Q : View) (s : SoundView Q) (e : Side) (z a : ℕ) → z ≤ Q .w + 2 → Good Q e z a → Good (swap Q) e (Q .w + 2 - z) a
-swap-good Q s e z a hz (edge q) = edge (by e q)
-  where
-    by : (e : Side) → a ≡ edgeOf Q e → a ≡ edgeOf (swap Q) e
-    by lower q = q
-    by upper q = q
+swap-good Q s lower z a hz (edge q) = edge q
+swap-good Q s upper z a hz (edge q) = edge q
 swap-good Q s e z a hz (line i on) =
     line i (subst (λ (n : ℕ). Q .uprights n (outward e a) ≡ true) (omega arith) on)
 swap-good Q s e z a hz (blends i off b) =
@@ -291,9 +281,7 @@ module _ (Q : View) (t : TightView Q) (z a b : ℕ) (drawn : ℕ → Bool) (d : 
   abbrev column : OnSide (Q .w) z
   column = let i = d .inner in (omega arith, omega arith)
 
-  entered : (x : Side) (B : Blend) → Live Q B → KnotIn x z (Q .across B) → Inside z (Q .across B)
-  entered lower B m p = let r = sound .x .rises B m in record { lo = omega arith; hi = omega arith; off = omega arith }
-  entered upper B m p = let r = sound .x .rises B m in record { lo = omega arith; hi = omega arith; off = omega arith }
+
 
   -- A level strictly inside a cut blend does not lie below the line,
   level-low : (x : Side) (B : Blend) → Live Q B → KnotIn x z (Q .across B) → CutBy Q drawn B → (w : ℕ) → Q .levels w z ≡ true →
@@ -304,7 +292,8 @@ module _ (Q : View) (t : TightView Q) (z a b : ℕ) (drawn : ℕ → Bool) (d : 
       reach : w < a → a < Q .up B .r
       reach lt =
           if-below a (Q .up B .r) (λ lt. lt)
-          (λ le. absurd (sound .x .clear B m z (entered x B m p) (λ k klo khi. was-on Q d k (inl (omega arith, omega arith)) (c k klo khi))))
+          (λ le. absurd (sound .x .clear B m z (inside-of x z (Q .across B) (rise-of (sound .x .rises B m)) p)
+          (λ k klo khi. was-on Q d k (inl (omega arith, omega arith)) (c k klo khi))))
 
       under : w < a → ⊥
       under lt =
@@ -343,16 +332,16 @@ flip-drawn Q z a b drawn d =
 pub swap-drawn : (Q : View) (s : SoundView Q) (z a b : ℕ) (drawn : ℕ → Bool) → Drawn Q z a b drawn → Drawn (swap Q) (Q .w + 2 - z) a b drawn
 swap-drawn Q s z a b drawn d =
     let i = d .inner in
-    let back : Q .w + 2 - (Q .w + 2 - z) ≡ z = omega arith in
+
     record {
       inner = (omega arith, omega arith);
       range = d .range;
-      free = λ k lo hi. subst (λ (n : ℕ). Q .uprights n k ≡ false) (sym back) (d .free k lo hi);
-      old = λ k on. d .old k (subst (λ (n : ℕ). Q .uprights n k ≡ true) back on);
+      free = λ k lo hi. subst (λ (n : ℕ). Q .uprights n k ≡ false) (omega arith) (d .free k lo hi);
+      old = λ k on. d .old k (subst (λ (n : ℕ). Q .uprights n k ≡ true) (omega arith) on);
       new = d .new;
       out-below = d .out-below;
       out-above = d .out-above;
-      only = λ k le e. ⊎-elim (λ q. inl (subst (λ (n : ℕ). Q .uprights n k ≡ true) (sym back) q)) inr (d .only k le e);
+      only = λ k le e. ⊎-elim (λ q. inl (subst (λ (n : ℕ). Q .uprights n k ≡ true) (omega arith) q)) inr (d .only k le e);
       low-end = swap-good Q s lower z a (omega arith) (d .low-end);
       high-end = swap-good Q s upper z b (omega arith) (d .high-end);
     }
@@ -372,9 +361,8 @@ module _ (Q : View) (t : TightView Q) (z a b : ℕ) (drawn : ℕ → Bool) (d : 
   level-high x B m p c w on lo hi =
       let r = t .is-sound .y .rises B m in
       let range = d .range in
-      let back : w ≡ Q .h + 2 - (Q .h + 2 - w) = omega arith in
       let le = level-low (flip Q) (flip-tight Q t) z (Q .h + 2 - b) (Q .h + 2 - a) (λ k. drawn (Q .h + 1 - k)) (flip-drawn Q z a b drawn d) x B m p
-      (flip-cut Q (t .is-sound) drawn B m c) (Q .h + 2 - w) (subst (λ (n : ℕ). Q .levels n z ≡ true) back on) (omega arith) (omega arith) in
+      (flip-cut Q (t .is-sound) drawn B m c) (Q .h + 2 - w) (subst (λ (n : ℕ). Q .levels n z ≡ true) (omega arith) on) (omega arith) (omega arith) in
       omega arith
 
   -- A blend that the upright enters is covered below the line, unless it is one abreast of the line's lower end;
@@ -563,7 +551,6 @@ flip-piece Q s z drawn x X u w v p =
     let rx = s .y .rises X (p .live) in
     let lo = p .lo in
     let hi = p .hi in
-    let back : w ≡ Q .h + 2 - (Q .h + 2 - w) = omega arith in
     record {
       live = p .live;
       astride = p .astride;
@@ -571,8 +558,8 @@ flip-piece Q s z drawn x X u w v p =
       lo = omega arith;
       hi = omega arith;
       rises = (omega arith, omega arith, omega arith);
-      left = subst (λ (n : ℕ). Q .levels n (z - 1) ≡ true) back (p .left);
-      right = subst (λ (n : ℕ). Q .levels n z ≡ true) back (p .right);
+      left = subst (λ (n : ℕ). Q .levels n (z - 1) ≡ true) (omega arith) (p .left);
+      right = subst (λ (n : ℕ). Q .levels n z ≡ true) (omega arith) (p .right);
       alone-left = λ i a b on. let e = p .alone-left (Q .h + 2 - i) (omega arith) (omega arith) on in omega arith;
       alone-right = λ i a b on. let e = p .alone-right (Q .h + 2 - i) (omega arith) (omega arith) on in omega arith;
     }
@@ -580,8 +567,7 @@ flip-piece Q s z drawn x X u w v p =
 swap-piece : (Q : View) (s : SoundView Q) (z : ℕ) → (1 < z) × (z ≤ Q .w) → (drawn : ℕ → Bool) (x : Side) (X : Blend) (u w v : ℕ) →
     Piece Q z drawn x X u w v → Piece (swap Q) (Q .w + 2 - z) drawn (opposite x) X u w v
 swap-piece Q s z i drawn x X u w v p =
-    let l : z - 1 ≡ Q .w + 1 - (Q .w + 2 - z) = omega arith in
-    let r : z ≡ Q .w + 1 - (Q .w + 2 - z - 1) = omega arith in
+
     record {
       live = p .live;
       astride = by x (p .astride);
@@ -589,10 +575,10 @@ swap-piece Q s z i drawn x X u w v p =
       lo = p .lo;
       hi = p .hi;
       rises = p .rises;
-      left = subst (λ (n : ℕ). Q .levels w n ≡ true) r (p .right);
-      right = subst (λ (n : ℕ). Q .levels w n ≡ true) l (p .left);
-      alone-left = λ i a b on. p .alone-right i a b (subst (λ (n : ℕ). Q .levels i n ≡ true) (sym r) on);
-      alone-right = λ i a b on. p .alone-left i a b (subst (λ (n : ℕ). Q .levels i n ≡ true) (sym l) on);
+      left = subst (λ (n : ℕ). Q .levels w n ≡ true) (omega arith) (p .right);
+      right = subst (λ (n : ℕ). Q .levels w n ≡ true) (omega arith) (p .left);
+      alone-left = λ v a b on. p .alone-right v a b (subst (λ (n : ℕ). Q .levels v n ≡ true) (omega arith) on);
+      alone-right = λ v a b on. p .alone-left v a b (subst (λ (n : ℕ). Q .levels v n ≡ true) (omega arith) on);
     }
   where
     by : (x : Side) → KnotIn x z (Q .across X) → KnotIn (opposite x) (Q .w + 2 - z) (mirror (Q .w) (Q .across X))

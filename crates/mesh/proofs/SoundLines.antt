@@ -13,7 +13,7 @@ use Rattle.axis.proofs.Triples.{Rise, Inside, Knots, half-rises, half-within, h
 use Rattle.axis.proofs.Parts.{OnSide, lies, beside}
 use Rattle.axis.proofs.Counts.{one-at-most}
 use Rattle.axis.proofs.Runs.{if-equal, Downward, throughout, until, downward, neither}
-use Rattle.axis.proofs.Sides.{KnotIn, opposite, from, to, knot-step, lies-at, halves-of, kept, kept-is, kept-in, kept-away, one-part, part-of, inside-of, StepIn}
+use Rattle.axis.proofs.Sides.{KnotIn, opposite, from, to, knot-step, lies-at, step-beside, part-within, knot-between, halves-of, kept, kept-is, kept-in, kept-inside, kept-rises, kept-away, one-part, part-of, inside-of, StepIn}
 use Rattle.mesh.specs.Lines.{Direction, upright, level, other, side, Mesh, Layout, meshOf}
 use Rattle.mesh.specs.Blends.{crossed, along, cuts, halve, live}
 use Rattle.mesh.specs.Order.{Uncut, Comes, here, cut, Left}
@@ -165,11 +165,10 @@ module _ (P : Layout) (b : Built P) (s : Split) (d : Direction) (r : Ranged (P .
     G = to x (crossed d X)
 
     spans : (F < z) × (z < G) × (crossed d X .l ≤ F) × (G ≤ crossed d X .r)
-    spans = by x p
-      where
-        by : (x : Side) → KnotIn x z (crossed d X) → (from x (crossed d X) < z) × (z < to x (crossed d X)) × (crossed d X .l ≤ from x (crossed d X)) × (to x (crossed d X) ≤ crossed d X .r)
-        by lower p = let rx = known .x .rises X m in (p .0, p .1, omega arith, omega arith)
-        by upper p = let rx = known .x .rises X m in (p .0, p .1, omega arith, omega arith)
+    spans =
+        let k = knot-between x z (crossed d X) p in
+        let w = part-within x (crossed d X) (Rattle.axis.proofs.Triples.rise-of (known .x .rises X m)) in
+        (k .0, k .1, w .0, w .1)
 
     -- a crossing strictly inside it would be an anchor there
     no-crossing : (y v : ℕ) → (crossed d X .l < y) × (y < crossed d X .r) → (along d X .l < v) × (v < along d X .r) →
@@ -198,22 +197,16 @@ module _ (P : Layout) (b : Built P) (s : Split) (d : Direction) (r : Ranged (P .
         false-of _
         (λ q.
         ⊎-elim
-        (λ f. by-upright x p (subst (Inside y) H-across (f .1)) (subst (λ (T : Triple). (k : ℕ) → T .l ≤ k → k < T .r → N d y k ≡ true) up-is (f .2)))
-        (λ f. by-level x p (subst (Inside y) up-is (f .1)) (subst (λ (T : Triple). (j : ℕ) → T .l ≤ j → j < T .r → N (other d) y j ≡ true) H-across (f .2)))
+        (λ f. by-upright (subst (Inside y) H-across (f .1)) (subst (λ (T : Triple). (k : ℕ) → T .l ≤ k → k < T .r → N d y k ≡ true) up-is (f .2)))
+        (λ f. by-level (subst (Inside y) up-is (f .1)) (subst (λ (T : Triple). (j : ℕ) → T .l ≤ j → j < T .r → N (other d) y j ≡ true) H-across (f .2)))
         (cut-either N d e y H q))
       where
         up-is : along d H ≡ along d X
         up-is = halve-same d (opposite x) z X .1
 
-        by-upright : (x : Side) → KnotIn x z (crossed d X) → Inside y (kept x z (crossed d X)) → ((k : ℕ) → along d X .l ≤ k → k < along d X .r → N d y k ≡ true) → ⊥
-        by-upright lower p i f =
-            let lo = i .lo in
-            let hi = i .hi in
-            known .x .clear X m y (record { lo = omega arith; hi = hi; off = i .off }) (λ k klo khi. same-elsewhere y k (omega arith) (f k klo khi))
-        by-upright upper p i f =
-            let lo = i .lo in
-            let hi = i .hi in
-            known .x .clear X m y (record { lo = lo; hi = omega arith; off = i .off }) (λ k klo khi. same-elsewhere y k (omega arith) (f k klo khi))
+        by-upright : Inside y (kept x z (crossed d X)) → ((k : ℕ) → along d X .l ≤ k → k < along d X .r → N d y k ≡ true) → ⊥
+        by-upright i f =
+            let q = kept-inside x z y (crossed d X) p i in known .x .clear X m y (q .0) (λ k klo khi. same-elsewhere y k (q .1) (f k klo khi))
 
         passed : Inside y (along d X) → Q .levels y (crossed d X .m - 1) ≡ true → Q .levels y (crossed d X .m) ≡ true → ⊥
         passed i f g =
@@ -224,12 +217,9 @@ module _ (P : Layout) (b : Built P) (s : Split) (d : Direction) (r : Ranged (P .
             no-crossing (crossed d X .m) y (omega arith, omega arith) (lo, hi) (λ q. off (q .1)) (known .x .grid X m (y - 1) (omega arith) (omega arith) .m)
             (known .x .grid X m y (omega arith) (omega arith) .m) f g
 
-        by-level : (x : Side) → KnotIn x z (crossed d X) → Inside y (along d X) → ((j : ℕ) → kept x z (crossed d X) .l ≤ j → j < kept x z (crossed d X) .r → N (other d) y j ≡ true) → ⊥
-        by-level lower p i f =
-            let rx = known .x .rises X m in
-            passed i (same-across y _ (f (crossed d X .m - 1) (omega arith) (omega arith))) (same-across y _ (f (crossed d X .m) (omega arith) (omega arith)))
-        by-level upper p i f =
-            let rx = known .x .rises X m in
+        by-level : Inside y (along d X) → ((j : ℕ) → kept x z (crossed d X) .l ≤ j → j < kept x z (crossed d X) .r → N (other d) y j ≡ true) → ⊥
+        by-level i f =
+            let about = kept-rises x z (crossed d X) (Rattle.axis.proofs.Triples.rise-of (known .x .rises X m)) p in
             passed i (same-across y _ (f (crossed d X .m - 1) (omega arith) (omega arith))) (same-across y _ (f (crossed d X .m) (omega arith) (omega arith)))
 
     -- The other half is cut by levels only, those that have a step beside the line.
@@ -350,11 +340,7 @@ module _ (P : Layout) (b : Built P) (s : Split) (d : Direction) (r : Ranged (P .
             let qh = q .hi in
             let sp = spans in
             let inn = r .inner in
-            level-covers Q t (z - 1) i (omega arith, omega arith) step x X (record { live = m; column = before x p; lo = omega arith; hi = omega arith }) z (omega arith) (omega arith)
-          where
-            before : (x : Side) → KnotIn x z (crossed d X) → StepIn x (z - 1) (crossed d X)
-            before lower p = (omega arith, omega arith)
-            before upper p = (omega arith, omega arith)
+            level-covers Q t (z - 1) i (omega arith, omega arith) step x X (record { live = m; column = step-beside x z (z - 1) (crossed d X) (omega arith, omega arith) p; lo = omega arith; hi = omega arith }) z (omega arith) (omega arith)
 
   -- What the line leaves of the map before: a blend that it does not cut, the half with the anchor of one that it cuts, or a piece beside the line.
   data Kind (C : Blend) : Type 0 where

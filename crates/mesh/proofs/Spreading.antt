@@ -5,11 +5,11 @@ use mathlib.Core.Path.{_≡_, sym, ap, subst}
 use mathlib.Core.Logic.{_⊎_, inl, inr}
 use mathlib.Core.Bool.{true, false}
 use Rattle.axis.specs.Triple.{Side, lower, upper}
-use Rattle.axis.specs.declared.Triple.{Triple}
+
 use Rattle.axis.proofs.Tests.{true-not-false}
 use Rattle.axis.proofs.Parts.{OnSide}
 use Rattle.axis.proofs.Runs.{if-at-most, if-below, if-equal, Downward, throughout, until, downward}
-use Rattle.axis.proofs.Sides.{column, StepIn, KnotIn, opposite, mirror, in-mirror, inside-of, own-column, past-column, on-column}
+use Rattle.axis.proofs.Sides.{column, StepIn, KnotIn, opposite, mirror, in-mirror, inside-of, step-beside, own-column, past-column, on-column}
 use Rattle.axis.proofs.Triples.{rise-of}
 use Rattle.mesh.specs.declared.Blend.{Blend}
 use Rattle.mesh.proofs.View.{View, turn, flip, Live, Knot, SoundView, flip-sound}
@@ -82,15 +82,9 @@ module _ (Q : View) (s : SoundView Q) (z : ℕ) (hz : (1 < z) × (z ≤ Q .w)) (
         s .x .clear (u .blend) (u .live) z (inside-of x z (Q .across (u .blend)) (rise-of (s .x .rises (u .blend) (u .live))) (u .over))
         (λ k lo hi. if-below k v (below k lo) (λ le. grid-at Q s (Y .blend) (Y .live) (Y .at) (omega arith) (omega arith)))
 
-    beside : (x : Side) (j : ℕ) (t : Triple) → (j ≡ z) ⊎ (j + 1 ≡ z) → KnotIn x z t → StepIn x j t
-    beside lower j t (inl e) p = (omega arith, omega arith)
-    beside lower j t (inr e) p = (omega arith, omega arith)
-    beside upper j t (inl e) p = (omega arith, omega arith)
-    beside upper j t (inr e) p = (omega arith, omega arith)
-
-    side : (j : ℕ) → (j ≡ z) ⊎ (j + 1 ≡ z) → OnSide (Q .w) j
-    side j (inl e) = (omega arith, omega arith)
-    side j (inr e) = (omega arith, omega arith)
+    next-to : (j : ℕ) → (j ≡ z) ⊎ (j + 1 ≡ z) → (j ≤ z) × (z ≤ j + 1)
+    next-to j (inl e) = (omega arith, omega arith)
+    next-to j (inr e) = (omega arith, omega arith)
 
     -- so it begins between their start and the row, on a level that has no blend's anchor there
     begins : (u : (x : Side) → Under x) (e : ℕ) → Q .up (u upper .blend) .l ≤ e → e < v → Q .uprights z e ≡ false →
@@ -115,9 +109,10 @@ module _ (Q : View) (s : SoundView Q) (z : ℕ) (hz : (1 < z) × (z ≤ Q .w)) (
             let rise = s .y .rises (k .blend) (k .live) in
             let at = k .at in
             let anchor = w .anchored in
-            let is = s .one x lower (r .column) e (k .blend) (w .blend) (side (r .column) (r .near)) (omega arith, omega arith)
+            let near = next-to (r .column) (r .near) in
+            let is = s .one x lower (r .column) e (k .blend) (w .blend) (omega arith, omega arith) (omega arith, omega arith)
             (record { live = k .live; column = k .column; row = (omega arith, omega arith) })
-            (record { live = w .live; column = beside x (r .column) (Q .across (w .blend)) (r .near) (w .over); row = (omega arith, omega arith) }) in
+            (record { live = w .live; column = step-beside x z (r .column) (Q .across (w .blend)) near (w .over); row = (omega arith, omega arith) }) in
             let q = ap (λ (B : Blend). Q .up B .m) is in
             omega arith
 
@@ -176,9 +171,8 @@ used-flip Q s z k on u = (opposite (u .0), record { blend = u .1 .blend; live = 
 
 flip-rests : (Q : View) (s : SoundView Q) (z : ℕ) → RestsAbove Q z → RestsBelow (flip Q) z
 flip-rests Q s z rests a lo hi off on =
-    let e : Q .h + 1 - (a - 1) ≡ Q .h + 2 - a = omega arith in
-    let f : Q .h + 1 - a ≡ Q .h + 2 - a - 1 = omega arith in
-    let r = rests (Q .h + 2 - a) (omega arith) (omega arith) (subst (λ (k : ℕ). Q .uprights z k ≡ true) f on) (subst (λ (k : ℕ). Q .uprights z k ≡ false) e off) in
+
+    let r = rests (Q .h + 2 - a) (omega arith) (omega arith) (subst (λ (k : ℕ). Q .uprights z k ≡ true) (omega arith) on) (subst (λ (k : ℕ). Q .uprights z k ≡ false) (omega arith) off) in
     let k = r .knot in
     let at = k .at in
     record {

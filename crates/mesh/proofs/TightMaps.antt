@@ -11,7 +11,8 @@ use Rattle.axis.specs.declared.Triple.{Triple}
 use Rattle.axis.proofs.Tests.{true-not-false, false-of, and-both, or-either}
 use Rattle.axis.proofs.Parts.{OnSide}
 use Rattle.axis.proofs.Runs.{if-below, if-equal, throughout, until, downward, Downward}
-use Rattle.axis.proofs.Sides.{KnotOf}
+use Rattle.axis.proofs.Triples.{rise-of}
+use Rattle.axis.proofs.Sides.{step-within, KnotOf}
 use Rattle.mesh.specs.Lines.{Direction, upright, level, other, side, onLine, Layout, layout, meshOf}
 use Rattle.mesh.specs.Blends.{along, cuts, isCut, halve, live}
 use Rattle.mesh.specs.Sound.{fourEverywhere, sound}
@@ -233,14 +234,9 @@ module _ (P : Layout) (b : Built P) (s : Split) (d : Direction) (r : Ranged (P .
           by (u .0) (u .1)
         where
           by : (y : Side) → Knot (turn (viewOf d N)) y k z → Gridded N d z k
-          by lower n =
-              let rise = soundOf N (b .wide) (b .high) four d .y .rises (n .blend) (n .live) in
-              let c = n .column in
-              (n .blend, n .live, record { knot = inr (inl (sym (n .at))); lo = omega arith; hi = omega arith })
-          by upper n =
-              let rise = soundOf N (b .wide) (b .high) four d .y .rises (n .blend) (n .live) in
-              let c = n .column in
-              (n .blend, n .live, record { knot = inr (inl (sym (n .at))); lo = omega arith; hi = omega arith })
+          by y n =
+              let i = step-within y k (along d (n .blend)) (rise-of (soundOf N (b .wide) (b .high) four d .y .rises (n .blend) (n .live))) (n .column) in
+              (n .blend, n .live, record { knot = inr (inl (sym (n .at))); lo = i .0; hi = i .1 })
 
       -- So the map with the split is sound and tight again.
       pub still-built : Built N
