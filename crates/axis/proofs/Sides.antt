@@ -1,6 +1,6 @@
 -- A triple part by part: steps and knots in its lower and its upper part, what a cut there leaves of it, and the triple seen from the other end
 -- of its side. Nothing here knows how many axes there are.
-use Prim.Native.Nat.{ℕ, _+_, _-_, _≤_, _<_, min, max}
+use Prim.Native.Nat.{ℕ, _+_, _-_, _≤_, _<_, max}
 use native.Mathlib.Omega.{arith}
 use mathlib.Core.Path.{_≡_, refl, _∙_}
 use mathlib.Core.Logic.{_⊎_, inl, inr, ⊎-elim}

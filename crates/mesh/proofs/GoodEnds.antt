@@ -3,7 +3,7 @@ use Prim.Native.Nat.{ℕ, _+_, _-_, _≤_, _<_}
 use native.Mathlib.Omega.{arith}
 use mathlib.Core.Path.{_≡_, refl, sym, subst, _∙_}
 use mathlib.Core.Logic.{_⊎_, inl, inr, ⊎-elim}
-use mathlib.Core.Bool.{true, false, _&&_}
+use mathlib.Core.Bool.{true, false}
 use mathlib.Core.List.{List·Memᴰ}
 use lib.Dec.{eqb}
 use borrow.Author.Tests.{eqb-true, eq-eqb}
@@ -12,7 +12,7 @@ use Rattle.axis.specs.Triple.{Side, lower, upper, knotIn}
 use Rattle.axis.proofs.Tests.{either, true-not-false, false-of, and-both, and-of, or-either, or-left, or-right, any-at, any-of}
 use Rattle.axis.proofs.Runs.{if-equal}
 use Rattle.axis.proofs.Sides.{KnotIn, part-says, part-test, Clear, half-clear, still-clear}
-use Rattle.mesh.specs.Lines.{Direction, upright, level, other, side, Mesh, Layout, meshOf, onLine}
+use Rattle.mesh.specs.Lines.{Direction, other, side, Mesh, Layout, meshOf, onLine}
 use Rattle.mesh.specs.Blends.{crossed, along, cuts, halve, isCut}
 use Rattle.mesh.specs.Order.{Comes, here, cut}
 use Rattle.mesh.specs.Sound.{sound}
@@ -28,7 +28,7 @@ use Rattle.mesh.proofs.View.{View}
 use Rattle.mesh.proofs.Neighbours.{Abreast, line-ends, inward, outward, level-at}
 use Rattle.mesh.proofs.Filling.{Good, edge, line, blends, edgeOf, Drawn}
 use Rattle.mesh.proofs.OneLineMore.{Ranged, Row, endOf, more-finer, step-drawn, step-either}
-use Rattle.mesh.proofs.TightMaps.{Built, viewOf, tight-view, still-built}
+use Rattle.mesh.proofs.TightMaps.{Built, viewOf, tight-view, still-built, twice}
 use Rattle.mesh.proofs.SoundLines.{cut-either, halve-same, halve-cross, from-before, unless-cut, rise-of, line-four}
 
 module _ (P : Layout) (d : Direction) (z : ℕ) (e : Side) (k : ℕ) where
@@ -181,9 +181,7 @@ module _ (P : Layout) (b : Built P) (s : Split) (d : Direction) (r : Ranged (P .
           let rise = known .x .rises (q .at upper) (q .live upper) in
           level-at (viewOf d P) known (q .at upper) (q .live upper) (q .anchored upper) (omega arith) (omega arith)
 
-      twice : (d : Direction) → other (other d) ≡ d
-      twice upright = refl
-      twice level = refl
+
 
       inside : z < side (other (other d)) (P .w) (P .h) + 2
       inside = let i = r .inner in subst (λ (f : Direction). z < side f (P .w) (P .h) + 2) (sym (twice d)) (omega arith)

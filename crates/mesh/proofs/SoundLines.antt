@@ -12,7 +12,7 @@ use Rattle.axis.proofs.Tests.{either, true-not-false, false-of, and-both, every
 use Rattle.axis.proofs.Triples.{Rise, Inside, Knots, half-rises, half-within, half-knots, triple-eq}
 use Rattle.axis.proofs.Parts.{OnSide, lies, beside}
 use Rattle.axis.proofs.Counts.{one-at-most}
-use Rattle.axis.proofs.Runs.{if-equal, Downward, throughout, until, downward, neither}
+use Rattle.axis.proofs.Runs.{if-equal, neither}
 use Rattle.axis.proofs.Sides.{KnotIn, opposite, from, to, knot-step, lies-at, step-beside, part-within, knot-between, halves-of, kept, kept-is, kept-in, kept-inside, kept-rises, kept-away, one-part, part-of, inside-of, StepIn}
 use Rattle.mesh.specs.Lines.{Direction, upright, level, other, side, Mesh, Layout, meshOf}
 use Rattle.mesh.specs.Blends.{crossed, along, cuts, halve, live}
@@ -21,16 +21,16 @@ use Rattle.mesh.specs.Sound.{fourEverywhere}
 use Rattle.mesh.specs.Splits.{liveOf, withLine}
 use Rattle.mesh.specs.declared.Split.{Split}
 use Rattle.mesh.specs.declared.Blend.{Blend}
-use Rattle.mesh.proofs.Cuts.{RiseB, Cut, cut-fact, cut-test, proper-rises}
+use Rattle.mesh.proofs.Cuts.{RiseB, cut-fact, cut-test}
 use Rattle.mesh.proofs.Order.{some-half, left-uncut, finer}
 use Rattle.mesh.proofs.Fresh.{firstFour-rises}
-use Rattle.mesh.proofs.SoundMaps.{live-left, live-proper, live-distinct}
+use Rattle.mesh.proofs.SoundMaps.{live-left, live-distinct}
 use Rattle.mesh.proofs.Quadrants.{quadrant, four-of}
 use Rattle.mesh.proofs.View.{View, Live, Over, SoundView, TightView}
 use Rattle.mesh.proofs.AnchorsCross.{crossing-anchored}
 use Rattle.mesh.proofs.Filling.{Holding, agree, level-covers, Drawn, CutBy, Piece, taken-too}
 use Rattle.mesh.proofs.OneLineMore.{Ranged, more-finer, step-either}
-use Rattle.mesh.proofs.TightMaps.{Built, viewOf, tight-view}
+use Rattle.mesh.proofs.TightMaps.{Built, viewOf, tight-view, live-rises, only-there}
 
 -- No live blend's anchor lies strictly inside another's support, in the words of a view.
 pub unnested : (Q : View) (s : SoundView Q) (E X : Blend) → Live Q E → Live Q X → (Q .across X .l < Q .across E .m) × (Q .across E .m < Q .across X .r) →
@@ -113,7 +113,10 @@ module _ (P : Layout) (b : Built P) (s : Split) (d : Direction) (r : Ranged (P .
   known = t .is-sound
 
   pub rise-of : (B : Blend) → Live Q B → RiseB B
-  rise-of B m = proper-rises (P .w) (P .h) B (live-proper (P .w) (P .h) (b .wide) (b .high) (meshOf P) B m)
+  rise-of = live-rises P b
+
+  rise-across : (B : Blend) → Live Q B → Rise (crossed d B)
+  rise-across B m = let r = known .x .rises B m in omega arith
 
   -- elsewhere the steps are those of before
   same-elsewhere : (y k : ℕ) → (y ≡ z → ⊥) → N d y k ≡ true → meshOf P d y k ≡ true
@@ -130,24 +133,9 @@ module _ (P : Layout) (b : Built P) (s : Split) (d : Direction) (r : Ranged (P .
       apart upright e = let q : _≡_ {A = ℕ} 1 0 = ap number-of e in omega arith
       apart level e = let q : _≡_ {A = ℕ} 0 1 = ap number-of e in omega arith
 
-  -- a live blend of the map before that is cut is cut by the line
-  only-there : (X : Blend) → Live Q X → (e : Direction) (y : ℕ) → cuts N e y X ≡ true → cuts N d z X ≡ true
-  only-there X m e y c = search (downward (meshOf P e y) (along e X .l) (along e X .r))
-    where
-      f : Cut N e y X
-      f = cut-fact N e y X c
-
-      search : Downward (meshOf P e y) (along e X .l) (along e X .r) → cuts N d z X ≡ true
-      search (throughout g) =
-          absurd (true-not-false _ (cut-test (meshOf P) e y X (record { inside = f .inside; covered = g }))
-          (live-left (P .w) (P .h) (b .wide) (b .high) (meshOf P) X .0 m .2 .uncut e y))
-      search (until k lo hi off g) =
-          ⊎-elim (λ on. absurd (true-not-false _ on off))
-          (λ q. subst (λ (i : Direction). cuts N i z X ≡ true) (q .0) (subst (λ (n : ℕ). cuts N e n X ≡ true) (q .1) c))
-          (step-either P s d r e y k (f .covered k lo hi))
-
+  -- a live blend of the map before that the line does not cut is uncut
   pub unless-cut : (X : Blend) → Live Q X → cuts N d z X ≡ false → Uncut N X
-  unless-cut X m off e y = false-of _ (λ c. true-not-false _ (only-there X m e y c) off)
+  unless-cut X m off e y = false-of _ (λ c. true-not-false _ (only-there P b s d r X m e y c) off)
 
   -- what is left of the map before
   pub from-before : (C : Blend) → List·Memᴰ C (liveOf (withLine P s)) → (X : Blend) × Live Q X × Left N X C
@@ -167,7 +155,7 @@ module _ (P : Layout) (b : Built P) (s : Split) (d : Direction) (r : Ranged (P .
     spans : (F < z) × (z < G) × (crossed d X .l ≤ F) × (G ≤ crossed d X .r)
     spans =
         let k = knot-between x z (crossed d X) p in
-        let w = part-within x (crossed d X) (Rattle.axis.proofs.Triples.rise-of (known .x .rises X m)) in
+        let w = part-within x (crossed d X) (rise-across X m) in
         (k .0, k .1, w .0, w .1)
 
     -- a crossing strictly inside it would be an anchor there
@@ -219,7 +207,7 @@ module _ (P : Layout) (b : Built P) (s : Split) (d : Direction) (r : Ranged (P .
 
         by-level : Inside y (along d X) → ((j : ℕ) → kept x z (crossed d X) .l ≤ j → j < kept x z (crossed d X) .r → N (other d) y j ≡ true) → ⊥
         by-level i f =
-            let about = kept-rises x z (crossed d X) (Rattle.axis.proofs.Triples.rise-of (known .x .rises X m)) p in
+            let about = kept-rises x z (crossed d X) (rise-across X m) p in
             passed i (same-across y _ (f (crossed d X .m - 1) (omega arith) (omega arith))) (same-across y _ (f (crossed d X .m) (omega arith) (omega arith)))
 
     -- The other half is cut by levels only, those that have a step beside the line.
@@ -381,9 +369,7 @@ module _ (P : Layout) (b : Built P) (s : Split) (d : Direction) (r : Ranged (P .
   -- In one quadrant of a square lies one of them only.
   module _ (dr : Drawn Q z (s .from + 1) (s .to + 1) (N d z)) (g q : Side) (j k : ℕ) (hj : OnSide (Q .w) j) (hk : OnSide (Q .h) k) where
     cut-is : (x : Side) (X : Blend) → Live Q X → KnotIn x z (crossed d X) → CutBy Q (N d z) X → cuts N d z X ≡ true
-    cut-is x X m p c =
-        let rx = known .x .rises X m in
-        cut-test N d z X (record { inside = inside-of x z (crossed d X) (record { low = rx .low; high = rx .high }) p; covered = c })
+    cut-is x X m p c = cut-test N d z X (record { inside = inside-of x z (crossed d X) (rise-across X m) p; covered = c })
 
     record Sits (C : Blend) : Type 0 where
       column : StepIn g j (crossed d C)

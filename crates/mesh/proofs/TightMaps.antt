@@ -15,11 +15,12 @@ use Rattle.axis.proofs.Triples.{rise-of}
 use Rattle.axis.proofs.Sides.{step-within, KnotOf}
 use Rattle.mesh.specs.Lines.{Direction, upright, level, other, side, onLine, Layout, layout, meshOf}
 use Rattle.mesh.specs.Blends.{along, cuts, isCut, halve, live}
+use Rattle.mesh.specs.Order.{Uncut}
 use Rattle.mesh.specs.Sound.{fourEverywhere, sound}
 use Rattle.mesh.specs.Splits.{liveOf, withLine}
 use Rattle.mesh.specs.declared.Split.{Split}
 use Rattle.mesh.specs.declared.Blend.{Blend}
-use Rattle.mesh.proofs.Cuts.{Cut, cut-exactly, cut-fact, cut-test, proper-rises, halve-rises}
+use Rattle.mesh.proofs.Cuts.{RiseB, Cut, cut-exactly, cut-fact, cut-test, proper-rises, halve-rises}
 use Rattle.mesh.proofs.SoundMaps.{live-left, live-proper}
 use Rattle.mesh.proofs.Fresh.{fresh-positions, fresh-live, fresh-sound}
 use Rattle.mesh.proofs.View.{View, turn, Knot, SoundView, TightView, turn-sound}
@@ -73,6 +74,33 @@ tight-view P b level =
       y = λ v j lo hi hj on. level-knot P (b .wide) (b .high) (b .four) upright v j (lo, omega arith) hj (b .tight level v j (lo, omega arith) hj on);
     }
 
+pub live-rises : (P : Layout) (b : Built P) (B : Blend) → List·Memᴰ B (liveOf P) → RiseB B
+live-rises P b B m = proper-rises (P .w) (P .h) B (live-proper (P .w) (P .h) (b .wide) (b .high) (meshOf P) B m)
+
+pub live-uncut : (P : Layout) (b : Built P) (B : Blend) → List·Memᴰ B (liveOf P) → Uncut (meshOf P) B
+live-uncut P b B m = live-left (P .w) (P .h) (b .wide) (b .high) (meshOf P) B .0 m .2 .uncut
+
+pub twice : (d : Direction) → other (other d) ≡ d
+twice upright = refl
+twice level = refl
+
+-- With one split more, in range, a live blend that is cut is cut by its line.
+pub only-there : (P : Layout) (b : Built P) (s : Split) (d : Direction) (r : Ranged (P .w) (P .h) d s) (B : Blend) → List·Memᴰ B (liveOf P) →
+    (e : Direction) (y : ℕ) → cuts (meshOf (withLine P s)) e y B ≡ true → cuts (meshOf (withLine P s)) d (s .position + 1) B ≡ true
+only-there P b s d r B m e y c = search (downward (meshOf P e y) (along e B .l) (along e B .r))
+  where
+    f : Cut (meshOf (withLine P s)) e y B
+    f = cut-fact (meshOf (withLine P s)) e y B c
+
+    search : Downward (meshOf P e y) (along e B .l) (along e B .r) → cuts (meshOf (withLine P s)) d (s .position + 1) B ≡ true
+    search (throughout g) =
+        absurd (true-not-false _ (cut-test (meshOf P) e y B (record { inside = f .inside; covered = g })) (live-uncut P b B m e y))
+    search (until k lo hi off g) =
+        ⊎-elim (λ on. absurd (true-not-false _ on off))
+        (λ q. subst (λ (i : Direction). cuts (meshOf (withLine P s)) i (s .position + 1) B ≡ true) (q .0)
+        (subst (λ (n : ℕ). cuts (meshOf (withLine P s)) e n B ≡ true) (q .1) c))
+        (step-either P s d r e y k (f .covered k lo hi))
+
 -- One split more, in range, that leaves four over every square:
 module _ (P : Layout) (b : Built P) (s : Split) (d : Direction) (r : Ranged (P .w) (P .h) d s)
     (four : fourEverywhere (P .w) (P .h) (liveOf (withLine P s)) ≡ true) where
@@ -100,10 +128,6 @@ module _ (P : Layout) (b : Built P) (s : Split) (d : Direction) (r : Ranged (P .
       column : (j : ℕ) → (j ≡ z) ⊎ (j + 1 ≡ z) → OnSide (side d (P .w) (P .h)) j
       column j (inl e) = let i = r .inner in (omega arith, omega arith)
       column j (inr e) = let i = r .inner in (omega arith, omega arith)
-
-      twice : (d : Direction) → other (other d) ≡ d
-      twice upright = refl
-      twice level = refl
 
   rests-on : (v : ℕ) → (1 < v) × (v ≤ run) → onLine (meshOf P) (other d) v z ≡ true → Rests (viewOf d N) z v
   unfolding onLine
@@ -148,27 +172,7 @@ module _ (P : Layout) (b : Built P) (s : Split) (d : Direction) (r : Ranged (P .
     module _ (B : Blend) (m : List·Memᴰ B (liveOf P)) (c : isCut (meshOf N) B ≡ true) where
       -- the line that cuts it is the new one
       cut-there : cuts (meshOf N) d z B ≡ true
-      cut-there =
-          let rise = proper-rises (P .w) (P .h) B (live-proper (P .w) (P .h) (b .wide) (b .high) (meshOf P) B m) in
-          let f = cut-exactly (meshOf N) B rise .0 c in
-          by (f .0) (f .1) (f .2)
-        where
-          uncut : (e : Direction) (y : ℕ) → cuts (meshOf P) e y B ≡ false
-          uncut = live-left (P .w) (P .h) (b .wide) (b .high) (meshOf P) B .0 m .2 .uncut
-
-          by : (e : Direction) (y : ℕ) → cuts (meshOf N) e y B ≡ true → cuts (meshOf N) d z B ≡ true
-          by e y t =
-              let f = cut-fact (meshOf N) e y B t in
-              search e y t f (downward (meshOf P e y) (along e B .l) (along e B .r))
-            where
-              search : (e : Direction) (y : ℕ) → cuts (meshOf N) e y B ≡ true → Cut (meshOf N) e y B →
-                  Downward (meshOf P e y) (along e B .l) (along e B .r) → cuts (meshOf N) d z B ≡ true
-              search e y t f (throughout g) =
-                  absurd (true-not-false _ (cut-test (meshOf P) e y B (record { inside = f .inside; covered = g })) (uncut e y))
-              search e y t f (until k lo hi off g) =
-                  ⊎-elim (λ on. absurd (true-not-false _ on off))
-                  (λ q. subst (λ (i : Direction). cuts (meshOf N) i z B ≡ true) (q .0) (subst (λ (n : ℕ). cuts (meshOf N) e n B ≡ true) (q .1) t))
-                  (step-either P s d r e y k (f .covered k lo hi))
+      cut-there = let f = cut-exactly (meshOf N) B (live-rises P b B m) .0 c in only-there P b s d r B m (f .0) (f .1) (f .2)
 
       record Somewhere : Type 0 where
         row : ℕ
@@ -181,8 +185,7 @@ module _ (P : Layout) (b : Built P) (s : Split) (d : Direction) (r : Ranged (P .
           let f = cut-fact (meshOf N) d z B cut-there in
           search f (downward (meshOf P d z) (along d B .l) (along d B .r))
         where
-          uncut : cuts (meshOf P) d z B ≡ false
-          uncut = live-left (P .w) (P .h) (b .wide) (b .high) (meshOf P) B .0 m .2 .uncut d z
+
 
           known : SoundView (viewOf d P)
           known = soundOf P (b .wide) (b .high) (b .four) d
@@ -201,7 +204,7 @@ module _ (P : Layout) (b : Built P) (s : Split) (d : Direction) (r : Ranged (P .
               record { row = run; along-line = (omega arith, omega arith); along-blend = (omega arith, omega arith) }
 
           search : Cut (meshOf N) d z B → Downward (meshOf P d z) (along d B .l) (along d B .r) → Somewhere
-          search f (throughout g) = absurd (true-not-false _ (cut-test (meshOf P) d z B (record { inside = f .inside; covered = g })) uncut)
+          search f (throughout g) = absurd (true-not-false _ (cut-test (meshOf P) d z B (record { inside = f .inside; covered = g })) (live-uncut P b B m d z))
           search f (until k lo hi off g) =
               ⊎-elim (λ on. absurd (true-not-false _ on off)) (λ q. by k lo hi (q .2)) (step-either P s d r d z k (f .covered k lo hi))
 
@@ -212,9 +215,8 @@ module _ (P : Layout) (b : Built P) (s : Split) (d : Direction) (r : Ranged (P .
           let f = cut-fact (meshOf N) d z B cut-there in
           let k = somewhere .row in
           let on-line = somewhere .along-line in
-          let rise = proper-rises (P .w) (P .h) B (live-proper (P .w) (P .h) (b .wide) (b .high) (meshOf P) B m) in
           let g = half-on-grid (P .w) (P .h) (b .wide) (b .high) (meshOf P) (meshOf N) (more-finer P s) d d z k z lower B m cut-there
-          (halve-rises d lower z B rise (f .inside)) (cut-on-grid d k (somewhere .along-blend)) in
+          (halve-rises d lower z B (live-rises P b B m) (f .inside)) (cut-on-grid d k (somewhere .along-blend)) in
           upright-used N (b .wide) (b .high) four d z k (omega arith, r .inner .1) (omega arith, omega arith) g
         where
           knot : (t : Triple) → KnotOf z (half lower z t)
