@@ -35,7 +35,6 @@ turn-anchor a = record { blend = a .blend; live = a .live; across = a .up; up = 
 
 flip-crossing : (Q : View) {z v : ℕ} → Crossing Q z v → Crossing (flip Q) z (Q .h + 2 - v)
 flip-crossing Q {z} {v} c =
-    let u = c .up in
 
     record {
       across = c .across;
@@ -49,7 +48,6 @@ flip-crossing Q {z} {v} c =
 flip-anchor : (Q : View) → SoundView Q → {z v : ℕ} → v ≤ Q .h + 1 → Anchor (flip Q) z (Q .h + 2 - v) → Anchor Q z v
 flip-anchor Q s le a =
     let r = s .y .rises (a .blend) (a .live) in
-    let e = a .up in
     record { blend = a .blend; live = a .live; across = a .across; up = omega arith }
 
 abbrev Inner : View → ℕ → ℕ → Type 0
@@ -81,7 +79,6 @@ module _ (Q : View) (t : TightView Q) (z v : ℕ) (i : Inner Q z v) (c : Crossin
   standing : {y : Side} {j : ℕ} → (n : Knot (turn Q) y j z) → Over Q upper y z j (n .blend)
   standing n =
       let r = s .x .rises (n .blend) (n .live) in
-      let e = n .at in
       record { live = n .live; column = (omega arith, omega arith); row = n .column }
 
   module _ (off : Q .across B .m ≡ z → ⊥) where
@@ -89,15 +86,12 @@ module _ (Q : View) (t : TightView Q) (z v : ℕ) (i : Inner Q z v) (c : Crossin
     differ {y} {j} on n o =
         let is = s .one upper y z j B (n .blend) columns on o (standing n) in
         let q = ap (λ (C : Blend). Q .across C .m) is in
-        let e = n .at in
         off (omega arith)
 
     cut : (n : Knot (turn Q) lower v z) (p : Knot (turn Q) upper (v - 1) z) → ⊥
     cut n p =
         let a = neighbours Q s columns over at-over (standing n) in
         let b = neighbours Q s columns under (standing p) at-under in
-        let e = k .at in
-        let col = k .column in
         let rb = s .x .rises B (k .live) in
         let rn = s .y .rises (n .blend) (n .live) in
         let rp = s .y .rises (p .blend) (p .live) in
@@ -137,7 +131,6 @@ module _ (Q : View) (t : TightView Q) (z v : ℕ) (i : Inner Q z v) (c : Crossin
       swapped k lt =
           let P = flip (turn Q) in
           let r = s .x .rises (k .blend) (k .live) in
-          let col = k .column in
           turn-anchor
           (flip-anchor (turn Q) (turn-sound Q s) (omega arith)
           (turn-anchor
@@ -151,8 +144,6 @@ module _ (Q : View) (t : TightView Q) (z v : ℕ) (i : Inner Q z v) (c : Crossin
           let r = s .some upper upper z v (omega arith, omega arith) (omega arith, omega arith) in
           let o = r .1 in
           let rise = s .y .rises (k .blend) (k .live) in
-          let e = k .at in
-          let col = k .column in
           let n = neighbours (turn Q) (turn-sound Q s) {x = upper} {j = v} {k = z} (omega arith, omega arith) (omega arith, omega arith)
           (record { live = o .live; column = o .row; row = o .column })
           (record { live = k .live; column = (omega arith, omega arith); row = k .column }) in
@@ -180,13 +171,10 @@ module _ (Q : View) (t : TightView Q) (v : ℕ) (i : (1 < v) × (v ≤ Q .h)) (c
 
       right : Knot Q lower 1 v → (Z : Blend) → Over Q upper upper 1 v Z → Anchor Q 1 v
       right k Z o =
-          let wide = s .x .wide in
           let rz = s .x .rises Z (o .live) in
           let ru = s .y .rises Z (o .live) in
           let rk = s .y .rises (k .blend) (k .live) in
           let rx = s .x .rises (k .blend) (k .live) in
-          let e = k .at in
-          let col = o .column in
           let row = o .row in
           let n = neighbours (turn Q) (turn-sound Q s) {x = upper} {j = v} {k = 1} (omega arith, omega arith) (omega arith, omega arith)
           (record { live = o .live; column = o .row; row = o .column })
@@ -200,15 +188,12 @@ module _ (Q : View) (t : TightView Q) (v : ℕ) (i : (1 < v) × (v ≤ Q .h)) (c
       by : (x : Side) → Knot Q x 1 v → Anchor Q 1 v
       by upper k =
           let r = s .x .rises (k .blend) (k .live) in
-          let col = k .column in
           record { blend = k .blend; live = k .live; across = omega arith; up = k .at }
       by lower k = right k (corner .0) (corner .1)
 
 -- Anywhere but on the far edges; and then by flipping anywhere.
 low-crossing : (Q : View) (t : TightView Q) (z v : ℕ) → z ≤ Q .w → v ≤ Q .h → Crossing Q z v → Anchor Q z v
 low-crossing Q t z v hz hv c =
-    let a = c .across in
-    let u = c .up in
     if-below 1 z
     (λ right. if-below 1 v (λ over. inner-crossing Q t z v (right, hz, over, hv) c)
     (λ low. let is : v ≡ 1 = omega arith in
@@ -222,21 +207,17 @@ low-crossing Q t z v hz hv c =
     let o = r .1 in
     let rx = s .x .rises (r .0) (o .live) in
     let ry = s .y .rises (r .0) (o .live) in
-    let col = o .column in
-    let row = o .row in
     record { blend = r .0; live = o .live; across = omega arith; up = omega arith })))
 
 left-crossing : (Q : View) (t : TightView Q) (z v : ℕ) → z ≤ Q .w → Crossing Q z v → Anchor Q z v
 left-crossing Q t z v hz c =
     let u = c .up in
-    let high = t .is-sound .y .wide in
     if-at-most v (Q .h) (λ le. low-crossing Q t z v hz le c)
     (λ far. flip-anchor Q (t .is-sound) (u .1) (low-crossing (flip Q) (flip-tight Q t) z (Q .h + 2 - v) hz (omega arith) (flip-crossing Q c)))
 
 pub crossing-anchored : (Q : View) (t : TightView Q) (z v : ℕ) → Crossing Q z v → Anchor Q z v
 crossing-anchored Q t z v c =
     let a = c .across in
-    let wide = t .is-sound .x .wide in
     if-at-most z (Q .w) (λ le. left-crossing Q t z v le c)
     (λ far. turn-anchor
     (flip-anchor (turn Q) (turn-sound Q (t .is-sound)) (a .1)

@@ -61,7 +61,6 @@ module _ (Q : View) (t : TightView Q) where
     inner-level : {x : Side} {B : Blend} → Holding z w x B → (Q .up B .m ≡ w → ⊥) → (1 < w) × (w < Q .h + 1)
     inner-level {x} {B} b off =
         let r = s .y .rises B (b .live) in
-        let lo = b .lo in
         let hi = b .hi in (
           if-below 1 w (λ lt. lt) (λ le. let n = s .y .near B (b .live) (omega arith) in absurd (off (omega arith))),
           if-below w (Q .h + 1) (λ lt. lt) (λ le. let n = s .y .far B (b .live) (omega arith) in absurd (off (omega arith))),
@@ -69,18 +68,12 @@ module _ (Q : View) (t : TightView Q) where
 
     both-below : (x u : Side) (B C : Blend) → Holding z w x B → Holding z w u C → Q .up B .m ≤ w → Q .up C .m ≤ w → w ≤ Q .h → Agree x u B C
     both-below x u B C b c p q le =
-        let lo = b .lo in
-        let rb = b .hi in
-        let rc = c .hi in
         over-one x u upper z w B C hz (omega arith, omega arith)
         (record { live = b .live; column = b .column; row = (p, b .hi) }) (record { live = c .live; column = c .column; row = (q, c .hi) })
 
     both-above : (x u : Side) (B C : Blend) → Holding z w x B → Holding z w u C → w ≤ Q .up B .m → w ≤ Q .up C .m → 2 ≤ w → Agree x u B C
     both-above x u B C b c p q two =
         let rb = s .y .rises B (b .live) in
-        let lb = b .lo in
-        let lc = c .lo in
-        let hb = b .hi in
         over-one x u lower z (w - 1) B C hz (omega arith, omega arith)
         (record { live = b .live; column = b .column; row = (omega arith, omega arith) })
         (record { live = c .live; column = c .column; row = (omega arith, omega arith) })
@@ -107,7 +100,6 @@ module _ (Q : View) (t : TightView Q) where
 
     to-standing : (x : Side) (B : Blend) → Holding z w x B → (o : Standing) → (1 < w) × (w < Q .h + 1) → Agree x (o .part) B (o .blend)
     to-standing x B b o inner =
-        let at = o .at in
         if-at-most (Q .up B .m) w (λ le. both-below x (o .part) B (o .blend) b (o .holds) le (omega arith) (omega arith))
         (λ gt. both-above x (o .part) B (o .blend) b (o .holds) (omega arith) (omega arith) (omega arith))
 
@@ -174,7 +166,6 @@ module _ (Q : View) (t : TightView Q) where
         if-at-most 1 (e .reach) (λ le. le) (λ none. let n = s .y .near (e .at upper) (e .live upper) (omega arith) in absurd (omega arith)) in
         let r = t .x w z (omega arith) (omega arith) hz on in
         let k = r .1 in
-        let at = k .at in
         let anchor = e .anchored (r .0) in
         let rise = s .y .rises (k .blend) (k .live) in
         let is = s .one (r .0) lower z (w - 1) (k .blend) (e .at (r .0)) hz (omega arith, omega arith)
@@ -267,7 +258,6 @@ was-on Q d k (inl off) on =
     let range = d .range in
     ⊎-elim (λ q. q) (λ o. absurd (⊎-elim (λ q. omega arith) (λ o. ⊎-elim (λ q. omega arith) (λ q. omega arith) o) o)) (d .only k (omega arith) on)
 was-on Q d k (inr off) on =
-    let range = d .range in
     ⊎-elim (λ q. q) (λ o. absurd (⊎-elim (λ q. omega arith) (λ o. ⊎-elim (λ q. omega arith) (λ q. omega arith) o) o)) (d .only k (omega arith) on)
 
 -- the line cuts a blend that it enters
@@ -297,11 +287,9 @@ module _ (Q : View) (t : TightView Q) (z a b : ℕ) (drawn : ℕ → Bool) (d : 
 
       under : w < a → ⊥
       under lt =
-          let range = d .range in
           let up = reach lt in
           let inner : (1 < a) × (a < Q .h + 1) = (omega arith, omega arith) in
           let on-below = was-on Q d (a - 1) (inl (omega arith, omega arith)) (c (a - 1) (omega arith) (omega arith)) in
-          let i = d .inner in
           let e = line-ends Q t z a (omega arith, omega arith) inner upper on-below (d .free a (omega arith) (omega arith)) in
           let is = met-at Q t z a column inner upper (e .abreast) x B m p (omega arith) up in
           let start = ap (λ (C : Blend). Q .up C .l) is in
@@ -331,7 +319,6 @@ flip-drawn Q z a b drawn d =
 
 pub swap-drawn : (Q : View) (s : SoundView Q) (z a b : ℕ) (drawn : ℕ → Bool) → Drawn Q z a b drawn → Drawn (swap Q) (Q .w + 2 - z) a b drawn
 swap-drawn Q s z a b drawn d =
-    let i = d .inner in
 
     record {
       inner = (omega arith, omega arith);
@@ -360,7 +347,6 @@ module _ (Q : View) (t : TightView Q) (z a b : ℕ) (drawn : ℕ → Bool) (d : 
       Q .up B .l < w → w < Q .up B .r → w ≤ b
   level-high x B m p c w on lo hi =
       let r = t .is-sound .y .rises B m in
-      let range = d .range in
       let le = level-low (flip Q) (flip-tight Q t) z (Q .h + 2 - b) (Q .h + 2 - a) (λ k. drawn (Q .h + 1 - k)) (flip-drawn Q z a b drawn d) x B m p
       (flip-cut Q (t .is-sound) drawn B m c) (Q .h + 2 - w) (subst (λ (n : ℕ). Q .levels n z ≡ true) (omega arith) on) (omega arith) (omega arith) in
       omega arith
@@ -373,7 +359,6 @@ module _ (Q : View) (t : TightView Q) (z a b : ℕ) (drawn : ℕ → Bool) (d : 
       by : Good Q lower z a → drawn k ≡ true
       by (edge e) = subst (λ (n : ℕ). drawn n ≡ true) (omega arith) (d .out-below e)
       by (line i on) =
-          let range = d .range in
           let in-side = d .inner in
           let e = line-ends Q t z a (omega arith, omega arith) i upper on (d .free a (omega arith) (omega arith)) in
           let is = met-at Q t z a (omega arith, omega arith) i upper (e .abreast) x B m p lo hi in
@@ -381,7 +366,6 @@ module _ (Q : View) (t : TightView Q) (z a b : ℕ) (drawn : ℕ → Bool) (d : 
           let reach : Q .up (e .abreast .at x) .l ≡ e .abreast .reach = e .abreast .reaches x in
           d .old k (e .covered k (omega arith, khi))
       by (blends i off e) =
-          let in-side = d .inner in
           absurd (apart i e off (met-at Q t z a (omega arith, omega arith) i lower e x B m p lo hi))
 
   -- and above it, if its anchor lies below the upper end, only past the edge.
@@ -393,7 +377,6 @@ module _ (Q : View) (t : TightView Q) (z a b : ℕ) (drawn : ℕ → Bool) (d : 
 
       no : (e : Side) → (1 < b) × (b < Q .h + 1) → Abreast Q e z b → ⊥
       no e i r =
-          let in-side = d .inner in
           let is = met-at Q t z b (omega arith, omega arith) i e r x B m p (rise .0) (rise .1) in
           let q = ap (λ (C : Blend). Q .up C .m) is in
           let at = r .anchored x in
@@ -404,8 +387,6 @@ module _ (Q : View) (t : TightView Q) (z a b : ℕ) (drawn : ℕ → Bool) (d : 
           let r = t .is-sound .y .rises B m in
           subst (λ (n : ℕ). drawn n ≡ true) (omega arith) (d .out-above e)
       by (line i on) =
-          let range = d .range in
-          let in-side = d .inner in
           absurd (no lower i (line-ends Q t z b (omega arith, omega arith) i lower on (d .free (b - 1) (omega arith) (omega arith)) .abreast))
       by (blends i off r) = absurd (no upper i r)
 
@@ -440,7 +421,6 @@ module _ (Q : View) (t : TightView Q) (z a b : ℕ) (drawn : ℕ → Bool) (d : 
       where
         known : (B : Blend) → Over Q upper upper z w B → w ≡ b → B ≡ r .abreast .at upper → KnotIn upper z (Q .across B) → Entered B
         known B o e is par =
-            let range = d .range in
             let anchor = r .abreast .anchored upper in
             let reach : Q .up (r .abreast .at upper) .r ≡ r .abreast .reach = r .abreast .reaches upper in
             let middle = ap (λ (D : Blend). Q .up D .m) is in
@@ -458,8 +438,6 @@ module _ (Q : View) (t : TightView Q) (z a b : ℕ) (drawn : ℕ → Bool) (d : 
 
     at-end : (B : Blend) → Over Q upper upper z w B → w ≡ b → Entered B
     at-end B o e =
-        let range = d .range in
-        let in-side = d .inner in
         let inner : (1 < b) × (b < Q .h + 1) = (omega arith, omega arith) in
         let going = was-on Q d b (inr (omega arith, omega arith)) (c b (omega arith) (omega arith)) in
         beside B o e inner (line-ends Q t z b (omega arith, omega arith) inner lower going (d .free (b - 1) (omega arith) (omega arith)))
@@ -481,8 +459,6 @@ module _ (Q : View) (t : TightView Q) (z a b : ℕ) (drawn : ℕ → Bool) (d : 
         -- a blend abreast of the lower end has no level beside the line above its anchor
         apart : KnotIn upper z (Q .across B) → (1 < a) × (a < Q .h + 1) → (e : Abreast Q lower z a) → Q .uprights z (a - 1) ≡ false → B ≡ e .at upper → ⊥
         apart par i e off is =
-            let range = d .range in
-            let row-of = o .row in
             let reach : Q .up (e .at upper) .r ≡ e .reach = e .reaches upper in
             let top = ap (λ (D : Blend). Q .up D .r) is in
             let middle = ap (λ (D : Blend). Q .up D .m) is in
@@ -547,7 +523,6 @@ module _ (z a b u w v : ℕ) where
 flip-piece : (Q : View) (s : SoundView Q) (z : ℕ) (drawn : ℕ → Bool) (x : Side) (X : Blend) (u w v : ℕ) → Piece Q z drawn x X u w v →
     Piece (flip Q) z (λ k. drawn (Q .h + 1 - k)) x X (Q .h + 2 - v) (Q .h + 2 - w) (Q .h + 2 - u)
 flip-piece Q s z drawn x X u w v p =
-    let r = p .rises in
     let rx = s .y .rises X (p .live) in
     let lo = p .lo in
     let hi = p .hi in
@@ -590,7 +565,6 @@ module _ (Q : View) (t : TightView Q) (z a b : ℕ) (drawn : ℕ → Bool) (d : 
   upper-any : (q : Side) → StepIn upper j (triple (from x (Q .across X)) z (to x (Q .across X))) → StepIn q k (triple u w v) → Taken z a b u w v Q drawn upper q j k
   upper-any upper i e B o = upper-upper z a b u w v Q t drawn d x X p j k hj hk i e B o
   upper-any lower i e B o =
-      let r = p .rises in
       let s = t .is-sound in
       let got = upper-upper z (Q .h + 2 - b) (Q .h + 2 - a) (Q .h + 2 - v) (Q .h + 2 - w) (Q .h + 2 - u) (flip Q) (flip-tight Q t) (λ n. drawn (Q .h + 1 - n))
       (flip-drawn Q z a b drawn d) x X (flip-piece Q s z drawn x X u w v p) j (Q .h + 1 - k) hj (on-mirror Q s k hk) i (omega arith, omega arith) B
@@ -607,7 +581,6 @@ swap-any Q t z a b drawn d x X u w v p j k hj hk q i e B o =
     let got = upper-any (swap Q) (swap-tight Q t) (Q .w + 2 - z) a b drawn (swap-drawn Q s z a b drawn d) (opposite x) X u w v
     (swap-piece Q s z inner drawn x X u w v p) (Q .w + 1 - j) k (omega arith, omega arith) hk q (turned x (s .x .rises X (p .live)) i) e B
     (record { live = o .live; column = in-mirror (Q .w) lower j (Q .across B) r hj (o .column); row = o .row }) in
-    let par = got .0 in
     ((omega arith, omega arith), got .1)
   where
     turned : (x : Side) → RisesIn (Q .w) (Q .across X) → StepIn lower j (triple (from x (Q .across X)) z (to x (Q .across X))) →

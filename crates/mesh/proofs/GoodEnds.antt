@@ -194,8 +194,6 @@ module _ (P : Layout) (b : Built P) (s : Split) (d : Direction) (r : Ranged (P .
           let inn = r .inner in
           side-by upper (s .from + 1) (line-ends (viewOf d P) (tight-view P b d) z (s .from + 1) (omega arith, omega arith) i upper on (free (s .from + 1) (omega arith) (omega arith)) .abreast)
       by upper (line i on) =
-          let g = r .range in
-          let inn = r .inner in
           side-by lower (s .to + 1) (line-ends (viewOf d P) (tight-view P b d) z (s .to + 1) (omega arith, omega arith) i lower on (free (s .to + 1 - 1) (omega arith) (omega arith)) .abreast)
       by lower (blends i off q) = side-by lower (s .from + 1) q
       by upper (blends i off q) = side-by upper (s .to + 1) q
@@ -247,7 +245,6 @@ module _ (P : Layout) (b : Built P) (s : Split) (d : Direction) (r : Ranged (P .
           where
             ends : (e : Side) → (1 < endOf e s) × (endOf e s < run + 1) → meshOf P d z (outward e (endOf e s)) ≡ false → Abreast (viewOf d (withLine P s)) e z (endOf e s)
             ends e inner off =
-                let i = r .inner in
                 line-ends (viewOf d (withLine P s)) (tight-view (withLine P s) built-on d) z (endOf e s) (omega arith, omega arith) inner e (drawn-in e)
                 (false-of _ (λ on. ⊎-elim (λ t. true-not-false _ t off) (λ q. off-row e inner (q .2)) (step-either P s d r d z (outward e (endOf e s)) on)))
                 .abreast

@@ -166,8 +166,6 @@ module _ (P : Layout) (b : Built P) (s : Split) (d : Direction) (r : Ranged (P .
         let ry = known .y .rises X m in
         let k = crossing-anchored Q t y v
         (record { across = (omega arith, omega arith); up = (omega arith, omega arith); below = a; above = e; left = f; right = g }) in
-        let at = k .across in
-        let up = k .up in
         let is = unnested Q known (k .blend) X (k .live) m (omega arith, omega arith) (omega arith, omega arith) in
         let mid = ap (λ (B : Blend). crossed d B .m) is in
         let top = ap (λ (B : Blend). along d B .m) is in
@@ -248,9 +246,6 @@ module _ (P : Layout) (b : Built P) (s : Split) (d : Direction) (r : Ranged (P .
         let hi = g .hi in
         let off = g .off in
         let sp = spans in
-        let ql = q .lo in
-        let qh = q .hi in
-        let rise = q .rises in
         let v = along d D .m in
         let on = q .knots .m in
         no-crossing y v (omega arith, omega arith) (omega arith, omega arith) (λ e. middle x p y lo hi (e .0))
@@ -267,8 +262,6 @@ module _ (P : Layout) (b : Built P) (s : Split) (d : Direction) (r : Ranged (P .
         let e = halve-cross d s y D in
         let w = half-within s y (along d D) (q .rises) i in
         let sp = spans in
-        let ql = q .lo in
-        let qh = q .hi in
         let g : (j : ℕ) → F ≤ j → j < G → N (other d) y j ≡ true = subst (λ (T : Triple). (j : ℕ) → T .l ≤ j → j < T .r → N (other d) y j ≡ true) (q .across) f in
         record {
           across = e .0 ∙ q .across;
@@ -294,7 +287,6 @@ module _ (P : Layout) (b : Built P) (s : Split) (d : Direction) (r : Ranged (P .
     piece-of C q u =
         let ql = q .lo in
         let qh = q .hi in
-        let rise = q .rises in
         let sp = spans in
         let on = q .knots .m in
         let ry = known .y .rises X m in
@@ -313,8 +305,6 @@ module _ (P : Layout) (b : Built P) (s : Split) (d : Direction) (r : Ranged (P .
       where
         alone : (i : ℕ) → along d C .l < i → i < along d C .r → Q .levels i z ≡ true → i ≡ along d C .m
         alone i lo hi step =
-            let ql = q .lo in
-            let qh = q .hi in
             if-equal i (along d C .m) (λ e. e)
             (λ off. absurd (true-not-false _
             (level-cuts N d i C (record { lo = lo; hi = hi; off = off })
@@ -324,10 +314,7 @@ module _ (P : Layout) (b : Built P) (s : Split) (d : Direction) (r : Ranged (P .
 
         beside-line : (i : ℕ) → along d C .l < i → i < along d C .r → Q .levels i (z - 1) ≡ true → Q .levels i z ≡ true
         beside-line i lo hi step =
-            let ql = q .lo in
-            let qh = q .hi in
             let sp = spans in
-            let inn = r .inner in
             level-covers Q t (z - 1) i (omega arith, omega arith) step x X (record { live = m; column = step-beside x z (z - 1) (crossed d X) (omega arith, omega arith) p; lo = omega arith; hi = omega arith }) z (omega arith) (omega arith)
 
   -- What the line leaves of the map before: a blend that it does not cut, the half with the anchor of one that it cuts, or a piece beside the line.
@@ -433,7 +420,6 @@ module _ (P : Layout) (b : Built P) (s : Split) (d : Direction) (r : Ranged (P .
         let rp = p .rises in
         let ro = o .rises in
         let w = same-level q _ _ _ _ _ _ (sB .row) (sC .row) (rp .0, rp .1) (ro .0, ro .1) (p .alone-right) (o .alone-right) (p .right) (o .right) in
-        let i = r .inner in
         let cl : Q .up B .l ≡ Q .up C .l = low w in
         let cr : Q .up B .r ≡ Q .up C .r = high w in
         let hold : Holding Q t z (along d B .m) y Y =
@@ -444,15 +430,11 @@ module _ (P : Layout) (b : Built P) (s : Split) (d : Direction) (r : Ranged (P .
       where
         low : along d B .m ≡ along d C .m → along d B .l ≡ along d C .l
         low w =
-            let rp = p .rises in
-            let ro = o .rises in
             neither (along d B .l) (along d C .l) (λ lt. let is = p .alone-right (along d C .l) lt (omega arith) (m .l) in omega arith)
             (λ lt. let is = o .alone-right (along d B .l) lt (omega arith) (n .l) in omega arith)
 
         high : along d B .m ≡ along d C .m → along d B .r ≡ along d C .r
         high w =
-            let rp = p .rises in
-            let ro = o .rises in
             neither (along d B .r) (along d C .r) (λ lt. let is = o .alone-right (along d B .r) (omega arith) lt (n .r) in omega arith)
             (λ lt. let is = p .alone-right (along d C .r) (omega arith) lt (m .r) in omega arith)
 

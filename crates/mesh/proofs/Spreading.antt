@@ -39,7 +39,6 @@ module _ (Q : View) (s : SoundView Q) (z : ℕ) (hz : (1 < z) × (z ≤ Q .w)) (
 
   below-it : Knot (turn Q) upper v z → Used Q z (v - 1)
   below-it k =
-      let c = k .column in
       let r = s .y .rises (k .blend) (k .live) in
       if-below (Q .up (k .blend) .m) v (λ lt. (upper, record { blend = k .blend; live = k .live; column = (omega arith, omega arith); at = k .at }))
       (λ le. (lower, record { blend = k .blend; live = k .live; column = (omega arith, omega arith); at = k .at }))
@@ -77,7 +76,6 @@ module _ (Q : View) (s : SoundView Q) (z : ℕ) (hz : (1 < z) × (z ≤ Q .w)) (
     -- the upright would cut one, if it covered the rows below
     bare : {x : Side} (u : Under x) → ((k : ℕ) → Q .up (u .blend) .l ≤ k → k < v → Q .uprights z k ≡ true) → ⊥
     bare {x} u below =
-        let ends = u .ends in
         let ry = s .y .rises (Y .blend) (Y .live) in
         s .x .clear (u .blend) (u .live) z (inside-of x z (Q .across (u .blend)) (rise-of (s .x .rises (u .blend) (u .live))) (u .over))
         (λ k lo hi. if-below k v (below k lo) (λ le. grid-at Q s (Y .blend) (Y .live) (Y .at) (omega arith) (omega arith)))
@@ -107,8 +105,6 @@ module _ (Q : View) (s : SoundView Q) (z : ℕ) (hz : (1 < z) × (z ≤ Q .w)) (
         clash : (r : Rests Q z (e + 1)) (x : Side) (w : Under x) → Knot Q x (r .column) (e + 1) → Q .up (w .blend) .l ≤ e → e < v - 1 → 1 ≤ e → ⊥
         clash r x w k le lt one =
             let rise = s .y .rises (k .blend) (k .live) in
-            let at = k .at in
-            let anchor = w .anchored in
             let near = next-to (r .column) (r .near) in
             let is = s .one x lower (r .column) e (k .blend) (w .blend) (omega arith, omega arith) (omega arith, omega arith)
             (record { live = k .live; column = k .column; row = (omega arith, omega arith) })
@@ -138,7 +134,6 @@ module _ (Q : View) (s : SoundView Q) (z : ℕ) (hz : (1 < z) × (z ≤ Q .w)) (
       by : (y : Side) → Knot (turn Q) y v z → Used Q z (v - 1)
       by upper k = below-it k
       by lower k =
-          let c = k .column in
           if-equal (Q .up (k .blend) .l) v (starts-above k)
           (λ ne. (lower, record { blend = k .blend; live = k .live; column = (omega arith, omega arith); at = k .at }))
 

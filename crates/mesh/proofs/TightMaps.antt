@@ -146,7 +146,6 @@ module _ (P : Layout) (b : Built P) (s : Split) (d : Direction) (r : Ranged (P .
         old : meshOf P d z (inward e v) ≡ true → Rests (viewOf d N) z v
         old here-on =
             let off-before = false-of (meshOf P d z (outward e v)) (λ t. true-not-false _ (more-finer P s d z (outward e v) t) off) in
-            let i = r .inner in
             let q = tight-view P b d in
             let a = line-ends (viewOf d P) q z v (omega arith, omega arith) (omega arith, omega arith) e here-on off-before .abreast in
             let o = a .over upper in
@@ -160,7 +159,6 @@ module _ (P : Layout) (b : Built P) (s : Split) (d : Direction) (r : Ranged (P .
             (λ i. if-equal v (s .from + 1) (λ e. e) (λ ne. absurd (true-not-false _ (step-drawn P s d r (v - 1) (inl (omega arith, omega arith))) off)))
             (λ o. absurd (⊎-elim (λ i. omega arith) (λ i. omega arith) o)) row
         own-end upper off row =
-            let range = r .range in
             ⊎-elim
             (λ i. if-equal v (s .to + 1) (λ e. e) (λ ne. absurd (true-not-false _ (step-drawn P s d r v (inl (omega arith, omega arith))) off)))
             (λ o. absurd (⊎-elim (λ i. omega arith) (λ i. omega arith) o)) row
@@ -198,7 +196,6 @@ module _ (P : Layout) (b : Built P) (s : Split) (d : Direction) (r : Ranged (P .
               let near = known .y .near B m (omega arith) in
               record { row = 1; along-line = (omega arith, omega arith); along-blend = (omega arith, omega arith) }
           by k lo hi (inr (inr i)) =
-              let range = r .range in
               let rise = known .y .rises B m in
               let far = known .y .far B m (omega arith) in
               record { row = run; along-line = (omega arith, omega arith); along-blend = (omega arith, omega arith) }
@@ -228,7 +225,6 @@ module _ (P : Layout) (b : Built P) (s : Split) (d : Direction) (r : Ranged (P .
 
       new-gridded : (k : ℕ) → s .from + 1 ≤ k → k < s .to + 1 → Gridded N d z k
       new-gridded k lo hi =
-          let range = r .range in
           let at = somewhere .along-line in
           let u = used-along (viewOf d N) (soundOf N (b .wide) (b .high) four d) z (omega arith, r .inner .1)
           (λ v one last off on. rests lower v (one, omega arith) off on) (λ v one last on off. rests upper v (one, omega arith) off on)
