@@ -111,7 +111,7 @@ knot-of z t (inr (inr e)) = or-right (eqb z (t .l) || eqb z (t .m)) _ (eq-eqb _ 
 pub half-knot : (z y : ℕ) (t : Triple) → KnotOf z t → (s : Side) × KnotOf z (half s y t)
 unfolding half
 half-knot z y t (inl e) = (lower, inl e)
-half-knot z y t (inr (inl e)) = let k = keeps-middle y t in (k .0, inr (inl (e ∙ (let m = k .1 in omega arith))))
+half-knot z y t (inr (inl e)) = let k = keeps-middle y t in (k .0, inr (inl (e ∙ (omega arith))))
 half-knot z y t (inr (inr e)) = (upper, inr (inr e))
 
 pub half-step : (k y : ℕ) (t : Triple) → t .l ≤ k → k < t .r → (s : Side) × (half s y t .l ≤ k) × (k < half s y t .r)
@@ -140,7 +140,7 @@ kept-in upper z t a upper j i = (omega arith, omega arith)
 
 pub kept-inside : (x : Side) (z y : ℕ) (t : Triple) → KnotIn x z t → Inside y (kept x z t) → Inside y t × (y ≡ z → ⊥)
 kept-inside lower z y t p i = let lo = i .lo in let hi = i .hi in (record { lo = omega arith; hi = hi; off = i .off }, omega arith)
-kept-inside upper z y t p i = let lo = i .lo in let hi = i .hi in (record { lo = lo; hi = omega arith; off = i .off }, omega arith)
+kept-inside upper z y t p i = let lo = i .lo in (record { lo = lo; hi = omega arith; off = i .off }, omega arith)
 
 pub kept-rises : (x : Side) (z : ℕ) (t : Triple) → Rise t → KnotIn x z t → (kept x z t .l < t .m) × (t .m < kept x z t .r)
 kept-rises lower z t r p = (omega arith, omega arith)
@@ -160,7 +160,6 @@ pub part-of : (z : ℕ) (t : Triple) → Inside z t → (x : Side) × KnotIn x z
 part-of z t i =
     let lo = i .lo in
     let hi = i .hi in
-    let off = i .off in
     if-below z (t .m) (λ lt. (lower, (lo, lt))) (λ le. (upper, (omega arith, hi)))
 
 pub inside-of : (x : Side) (z : ℕ) (t : Triple) → Rise t → KnotIn x z t → Inside z t
@@ -186,10 +185,10 @@ still-clear s y z t r i c x p = by s x p
     outside o = neither z (t .m) (λ lt. c lower (o .0, lt)) (λ gt. c upper (gt, o .1))
 
     by : (s x : Side) → KnotIn x z (half s y t) → ⊥
-    by lower lower p = let lo = i .lo in let hi = i .hi in let o = outside (omega arith, omega arith) in omega arith
-    by lower upper p = let lo = i .lo in let hi = i .hi in let o = outside (omega arith, omega arith) in omega arith
-    by upper lower p = let lo = i .lo in let hi = i .hi in let o = outside (omega arith, omega arith) in omega arith
-    by upper upper p = let lo = i .lo in let hi = i .hi in let o = outside (omega arith, omega arith) in omega arith
+    by lower lower p = let o = outside (omega arith, omega arith) in omega arith
+    by lower upper p = let o = outside (omega arith, omega arith) in omega arith
+    by upper lower p = let o = outside (omega arith, omega arith) in omega arith
+    by upper upper p = let o = outside (omega arith, omega arith) in omega arith
 
 -- The triple, and a knot and a step, seen from the other end of the side.
 abbrev pub mirror : ℕ → Triple → Triple

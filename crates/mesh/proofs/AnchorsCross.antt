@@ -71,10 +71,10 @@ module _ (Q : View) (t : TightView Q) (z v : ℕ) (i : Inner Q z v) (c : Crossin
   under = (omega arith, omega arith)
 
   at-over : Over Q upper upper z v B
-  at-over = let r = s .y .rises B (k .live) in let e = k .at in record { live = k .live; column = k .column; row = (omega arith, omega arith) }
+  at-over = let r = s .y .rises B (k .live) in record { live = k .live; column = k .column; row = (omega arith, omega arith) }
 
   at-under : Over Q upper lower z (v - 1) B
-  at-under = let r = s .y .rises B (k .live) in let e = k .at in record { live = k .live; column = k .column; row = (omega arith, omega arith) }
+  at-under = let r = s .y .rises B (k .live) in record { live = k .live; column = k .column; row = (omega arith, omega arith) }
 
   standing : {y : Side} {j : ℕ} → (n : Knot (turn Q) y j z) → Over Q upper y z j (n .blend)
   standing n =
@@ -164,10 +164,10 @@ module _ (Q : View) (t : TightView Q) (v : ℕ) (i : (1 < v) × (v ≤ Q .h)) (c
       s = t .is-sound
 
       found : (x : Side) × Knot Q x 1 v
-      found = let wide = s .x .wide in t .x v 1 (i .0) (omega arith) (omega arith, omega arith) (c .right)
+      found = t .x v 1 (i .0) (omega arith) (omega arith, omega arith) (c .right)
 
       corner : (B : Blend) × Over Q upper upper 1 v B
-      corner = let wide = s .x .wide in s .some upper upper 1 v (omega arith, omega arith) (omega arith, omega arith)
+      corner = s .some upper upper 1 v (omega arith, omega arith) (omega arith, omega arith)
 
       right : Knot Q lower 1 v → (Z : Blend) → Over Q upper upper 1 v Z → Anchor Q 1 v
       right k Z o =
@@ -175,7 +175,6 @@ module _ (Q : View) (t : TightView Q) (v : ℕ) (i : (1 < v) × (v ≤ Q .h)) (c
           let ru = s .y .rises Z (o .live) in
           let rk = s .y .rises (k .blend) (k .live) in
           let rx = s .x .rises (k .blend) (k .live) in
-          let row = o .row in
           let n = neighbours (turn Q) (turn-sound Q s) {x = upper} {j = v} {k = 1} (omega arith, omega arith) (omega arith, omega arith)
           (record { live = o .live; column = o .row; row = o .column })
           (record { live = k .live; column = (omega arith, omega arith); row = k .column }) in

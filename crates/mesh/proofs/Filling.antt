@@ -61,7 +61,7 @@ module _ (Q : View) (t : TightView Q) where
     inner-level : {x : Side} {B : Blend} → Holding z w x B → (Q .up B .m ≡ w → ⊥) → (1 < w) × (w < Q .h + 1)
     inner-level {x} {B} b off =
         let r = s .y .rises B (b .live) in
-        let hi = b .hi in (
+        (
           if-below 1 w (λ lt. lt) (λ le. let n = s .y .near B (b .live) (omega arith) in absurd (off (omega arith))),
           if-below w (Q .h + 1) (λ lt. lt) (λ le. let n = s .y .far B (b .live) (omega arith) in absurd (off (omega arith))),
         )
@@ -119,7 +119,7 @@ module _ (Q : View) (t : TightView Q) where
         same e f =
             let rise = s .y .rises B (b .live) in
             if-at-most w (Q .h) (both-below x u B C b c (omega arith) (omega arith))
-            (λ gt. let high = s .y .wide in both-above x u B C b c (omega arith) (omega arith) (omega arith))
+            (λ gt. both-above x u B C b c (omega arith) (omega arith) (omega arith))
 
     -- and the level covers it.
     pub level-covers : Q .levels w z ≡ true → (x : Side) (B : Blend) → Holding z w x B → (j : ℕ) → from x (Q .across B) ≤ j → j < to x (Q .across B) →
@@ -255,7 +255,6 @@ pub record Drawn (Q : View) (z a b : ℕ) (drawn : ℕ → Bool) : Type 0 where
 was-on : (Q : View) {z a b : ℕ} {drawn : ℕ → Bool} → Drawn Q z a b drawn → (k : ℕ) → ((1 < a) × (k < a)) ⊎ ((b ≤ k) × (k ≤ Q .h)) → drawn k ≡ true →
     Q .uprights z k ≡ true
 was-on Q d k (inl off) on =
-    let range = d .range in
     ⊎-elim (λ q. q) (λ o. absurd (⊎-elim (λ q. omega arith) (λ o. ⊎-elim (λ q. omega arith) (λ q. omega arith) o) o)) (d .only k (omega arith) on)
 was-on Q d k (inr off) on =
     ⊎-elim (λ q. q) (λ o. absurd (⊎-elim (λ q. omega arith) (λ o. ⊎-elim (λ q. omega arith) (λ q. omega arith) o) o)) (d .only k (omega arith) on)
@@ -269,7 +268,7 @@ module _ (Q : View) (t : TightView Q) (z a b : ℕ) (drawn : ℕ → Bool) (d : 
   sound = t .is-sound
 
   abbrev column : OnSide (Q .w) z
-  column = let i = d .inner in (omega arith, omega arith)
+  column = (omega arith, omega arith)
 
 
 
@@ -299,7 +298,6 @@ module _ (Q : View) (t : TightView Q) (z a b : ℕ) (drawn : ℕ → Bool) (d : 
 -- Seen from the other end, and from the other side:
 pub flip-drawn : (Q : View) (z a b : ℕ) (drawn : ℕ → Bool) → Drawn Q z a b drawn → Drawn (flip Q) z (Q .h + 2 - b) (Q .h + 2 - a) (λ k. drawn (Q .h + 1 - k))
 flip-drawn Q z a b drawn d =
-    let range = d .range in
     record {
       inner = d .inner;
       range = (omega arith, omega arith, omega arith);
@@ -359,7 +357,6 @@ module _ (Q : View) (t : TightView Q) (z a b : ℕ) (drawn : ℕ → Bool) (d : 
       by : Good Q lower z a → drawn k ≡ true
       by (edge e) = subst (λ (n : ℕ). drawn n ≡ true) (omega arith) (d .out-below e)
       by (line i on) =
-          let in-side = d .inner in
           let e = line-ends Q t z a (omega arith, omega arith) i upper on (d .free a (omega arith) (omega arith)) in
           let is = met-at Q t z a (omega arith, omega arith) i upper (e .abreast) x B m p lo hi in
           let start = ap (λ (C : Blend). Q .up C .l) is in
@@ -395,7 +392,7 @@ module _ (Q : View) (t : TightView Q) (z a b : ℕ) (drawn : ℕ → Bool) (d : 
   module _ (x : Side) (X : Blend) (m : Live Q X) (p : KnotIn x z (Q .across X)) (c : CutBy Q drawn X)
       (w : ℕ) (on : Q .levels w z ≡ true) (lo : Q .up X .l < w) (hi : w < Q .up X .r) (row : w ≤ Q .h) where
     abbrev side : OnSide (Q .w) z
-    side = let i = d .inner in (omega arith, omega arith)
+    side = (omega arith, omega arith)
 
     abbrev Y : Blend
     Y = sound Q t z a b drawn d .some upper upper z w side (omega arith, omega arith) .0
@@ -410,7 +407,6 @@ module _ (Q : View) (t : TightView Q) (z a b : ℕ) (drawn : ℕ → Bool) (d : 
     -- where the level is that of the line's upper end, and the line goes on from there
     beside : (B : Blend) → Over Q upper upper z w B → w ≡ b → (1 < b) × (b < Q .h + 1) → Ended Q lower z b → Entered B
     beside B o e inner r =
-        let range = d .range in
         let v = sound Q t z a b drawn d in
         let A = r .abreast .at upper in
         let anchor = r .abreast .anchored upper in
@@ -445,8 +441,6 @@ module _ (Q : View) (t : TightView Q) (z a b : ℕ) (drawn : ℕ → Bool) (d : 
     -- where it lies along the line
     along-line : (B : Blend) → Over Q upper upper z w B → a ≤ w → w < b → Entered B
     along-line B o le lt =
-        let range = d .range in
-        let row-of = o .row in
         let rb = sound Q t z a b drawn d .y .rises B (o .live) in
         let par = astride Q t upper B z w (o .live) (o .column) (omega arith) (omega arith) (d .free w le lt) in
         record {
@@ -517,15 +511,13 @@ module _ (z a b u w v : ℕ) where
       Taken Q drawn upper upper j k
   upper-upper Q t drawn d x X p j k hj hk i e B o =
       also-cut Q t z a b drawn d x X (p .live) (p .astride) (p .cut) w (p .right) (p .lo) (p .hi) (omega arith) v
-      (λ n lo hi on. let r = p .rises in let same = p .alone-right n (omega arith) hi on in omega arith)
+      (λ n lo hi on. let same = p .alone-right n (omega arith) hi on in omega arith)
       j k (i .0) (i .1) (e .0) (e .1) hj hk B o
 
 flip-piece : (Q : View) (s : SoundView Q) (z : ℕ) (drawn : ℕ → Bool) (x : Side) (X : Blend) (u w v : ℕ) → Piece Q z drawn x X u w v →
     Piece (flip Q) z (λ k. drawn (Q .h + 1 - k)) x X (Q .h + 2 - v) (Q .h + 2 - w) (Q .h + 2 - u)
 flip-piece Q s z drawn x X u w v p =
     let rx = s .y .rises X (p .live) in
-    let lo = p .lo in
-    let hi = p .hi in
     record {
       live = p .live;
       astride = p .astride;
@@ -585,8 +577,8 @@ swap-any Q t z a b drawn d x X u w v p j k hj hk q i e B o =
   where
     turned : (x : Side) → RisesIn (Q .w) (Q .across X) → StepIn lower j (triple (from x (Q .across X)) z (to x (Q .across X))) →
         StepIn upper (Q .w + 1 - j) (triple (from (opposite x) (mirror (Q .w) (Q .across X))) (Q .w + 2 - z) (to (opposite x) (mirror (Q .w) (Q .across X))))
-    turned lower r i = let inner = d .inner in (omega arith, omega arith)
-    turned upper r i = let inner = d .inner in (omega arith, omega arith)
+    turned lower r i = (omega arith, omega arith)
+    turned upper r i = (omega arith, omega arith)
 
 pub taken-too : (Q : View) (t : TightView Q) (z a b : ℕ) (drawn : ℕ → Bool) (d : Drawn Q z a b drawn) (x : Side) (X : Blend) (u w v : ℕ)
     (p : Piece Q z drawn x X u w v) (j k : ℕ) (hj : OnSide (Q .w) j) (hk : OnSide (Q .h) k) (g q : Side) →

@@ -144,8 +144,8 @@ module _ (P : Layout) (b : Built P) (s : Split) (d : Direction) (r : Ranged (P .
   run = side (other d) (P .w) (P .h)
 
   end-room : (e : Side) → Room P d e (endOf e s)
-  end-room lower = let g = r .range in (omega arith, omega arith)
-  end-room upper = let g = r .range in (omega arith, omega arith)
+  end-room lower = (omega arith, omega arith)
+  end-room upper = (omega arith, omega arith)
 
   drawn-line : ((e : Side) → Good (viewOf d P) e z (endOf e s)) → Drawn (viewOf d P) z (s .from + 1) (s .to + 1) (meshOf (withLine P s) d z)
   drawn-line good =
@@ -184,14 +184,12 @@ module _ (P : Layout) (b : Built P) (s : Split) (d : Direction) (r : Ranged (P .
 
 
       inside : z < side (other (other d)) (P .w) (P .h) + 2
-      inside = let i = r .inner in subst (λ (f : Direction). z < side f (P .w) (P .h) + 2) (sym (twice d)) (omega arith)
+      inside = subst (λ (f : Direction). z < side f (P .w) (P .h) + 2) (sym (twice d)) (omega arith)
 
       by : (e : Side) → Good (viewOf d P) e z (endOf e s) → meshOf P (other d) (endOf e s) z ≡ true
       by lower (edge q) = fresh-line (P .w) (P .h) (P .splits) (other d) (s .from + 1) z (inr (inl q)) inside
       by upper (edge q) = fresh-line (P .w) (P .h) (P .splits) (other d) (s .to + 1) z (inr (inr (inl q))) inside
       by lower (line i on) =
-          let g = r .range in
-          let inn = r .inner in
           side-by upper (s .from + 1) (line-ends (viewOf d P) (tight-view P b d) z (s .from + 1) (omega arith, omega arith) i upper on (free (s .from + 1) (omega arith) (omega arith)) .abreast)
       by upper (line i on) =
           side-by lower (s .to + 1) (line-ends (viewOf d P) (tight-view P b d) z (s .to + 1) (omega arith, omega arith) i lower on (free (s .to + 1 - 1) (omega arith) (omega arith)) .abreast)
@@ -228,12 +226,12 @@ module _ (P : Layout) (b : Built P) (s : Split) (d : Direction) (r : Ranged (P .
     sound-good e = good-of P d z e (endOf e s) (by e)
       where
         drawn-in : (e : Side) → meshOf (withLine P s) d z (inward e (endOf e s)) ≡ true
-        drawn-in lower = let g = r .range in step-drawn P s d r (s .from + 1) (inl (omega arith, omega arith))
-        drawn-in upper = let g = r .range in step-drawn P s d r (s .to + 1 - 1) (inl (omega arith, omega arith))
+        drawn-in lower = step-drawn P s d r (s .from + 1) (inl (omega arith, omega arith))
+        drawn-in upper = step-drawn P s d r (s .to + 1 - 1) (inl (omega arith, omega arith))
 
         off-row : (e : Side) → (1 < endOf e s) × (endOf e s < run + 1) → Row run s (outward e (endOf e s)) → ⊥
-        off-row lower i row = let g = r .range in ⊎-elim (λ q. omega arith) (λ o. ⊎-elim (λ q. omega arith) (λ q. omega arith) o) row
-        off-row upper i row = let g = r .range in ⊎-elim (λ q. omega arith) (λ o. ⊎-elim (λ q. omega arith) (λ q. omega arith) o) row
+        off-row lower i row = ⊎-elim (λ q. omega arith) (λ o. ⊎-elim (λ q. omega arith) (λ q. omega arith) o) row
+        off-row upper i row = ⊎-elim (λ q. omega arith) (λ o. ⊎-elim (λ q. omega arith) (λ q. omega arith) o) row
 
         by : (e : Side) → Good (viewOf d P) e z (endOf e s)
         by e =

@@ -39,9 +39,9 @@ unnested Q s E X mE mX a u =
     let wx = s .x .rises X mX in
     let wy = s .y .rises X mX in
     let p = beside (Q .w) (Q .across E) (Q .across X) (s .x .wide) (s .x .rises E mE) wx (a .0) (a .1)
-    (λ i. let lo = i .lo in i .off (sym (s .x .near X mX (omega arith)))) (λ i. let hi = i .hi in i .off (sym (s .x .far X mX (omega arith)))) in
+    (λ i. i .off (sym (s .x .near X mX (omega arith)))) (λ i. i .off (sym (s .x .far X mX (omega arith)))) in
     let q = beside (Q .h) (Q .up E) (Q .up X) (s .y .wide) (s .y .rises E mE) wy (u .0) (u .1)
-    (λ i. let lo = i .lo in i .off (sym (s .y .near X mX (omega arith)))) (λ i. let hi = i .hi in i .off (sym (s .y .far X mX (omega arith)))) in
+    (λ i. i .off (sym (s .y .near X mX (omega arith)))) (λ i. i .off (sym (s .y .far X mX (omega arith)))) in
     s .one (p .0) (q .0) (p .1) (q .1) E X (p .2) (q .2)
     (record { live = mE; column = lies-at (p .0) (p .1) _ (p .3); row = lies-at (q .0) (q .1) _ (q .3) })
     (record { live = mX; column = lies-at (p .0) (p .1) _ (p .4); row = lies-at (q .0) (q .1) _ (q .4) })
@@ -213,7 +213,7 @@ module _ (P : Layout) (b : Built P) (s : Split) (d : Direction) (r : Ranged (P .
     holding v lo hi = record { live = m; column = knot-step x z (crossed d X) p; lo = lo; hi = hi }
 
     abbrev column : OnSide (Q .w) z
-    column = let i = r .inner in (omega arith, omega arith)
+    column = (omega arith, omega arith)
 
     covers : (v j : ℕ) → along d X .l < v → v < along d X .r → Q .levels v z ≡ true → F ≤ j → j < G → Q .levels v j ≡ true
     covers v j lo hi on jlo jhi = level-covers Q t z v column on x X (holding v lo hi) j jlo jhi
@@ -285,8 +285,6 @@ module _ (P : Layout) (b : Built P) (s : Split) (d : Direction) (r : Ranged (P .
     -- so of what is left of it each lies about one level, between the next ones
     piece-of : (C : Blend) → Between C → Uncut N C → Piece Q z (N d z) x X (along d C .l) (along d C .m) (along d C .r)
     piece-of C q u =
-        let ql = q .lo in
-        let qh = q .hi in
         let sp = spans in
         let on = q .knots .m in
         let ry = known .y .rises X m in
@@ -423,7 +421,7 @@ module _ (P : Layout) (b : Built P) (s : Split) (d : Direction) (r : Ranged (P .
         let cl : Q .up B .l ≡ Q .up C .l = low w in
         let cr : Q .up B .r ≡ Q .up C .r = high w in
         let hold : Holding Q t z (along d B .m) y Y =
-        record { live = o .live; column = knot-step y z (crossed d Y) (o .astride); lo = let lo = o .lo in omega arith; hi = let hi = o .hi in omega arith } in
+        record { live = o .live; column = knot-step y z (crossed d Y) (o .astride); lo = omega arith; hi = omega arith } in
         let same = agree Q t z (along d B .m) (omega arith, omega arith) (p .right) x y X Y
         (record { live = p .live; column = knot-step x z (crossed d X) (p .astride); lo = p .lo; hi = p .hi }) hold in
         blend-eq d B C (e ∙ triple-eq (same .0) refl (same .1) ∙ sym f) (triple-eq cl w cr)

@@ -169,7 +169,6 @@ flip-rests Q s z rests a lo hi off on =
 
     let r = rests (Q .h + 2 - a) (omega arith) (omega arith) (subst (λ (k : ℕ). Q .uprights z k ≡ true) (omega arith) on) (subst (λ (k : ℕ). Q .uprights z k ≡ false) (omega arith) off) in
     let k = r .knot in
-    let at = k .at in
     record {
       column = r .column;
       near = r .near;

@@ -126,14 +126,14 @@ module _ (P : Layout) (b : Built P) (s : Split) (d : Direction) (r : Ranged (P .
       record { column = j; near = near; part = k .0; knot = k .1 }
     where
       column : (j : ℕ) → (j ≡ z) ⊎ (j + 1 ≡ z) → OnSide (side d (P .w) (P .h)) j
-      column j (inl e) = let i = r .inner in (omega arith, omega arith)
-      column j (inr e) = let i = r .inner in (omega arith, omega arith)
+      column j (inl e) = (omega arith, omega arith)
+      column j (inr e) = (omega arith, omega arith)
 
   rests-on : (v : ℕ) → (1 < v) × (v ≤ run) → onLine (meshOf P) (other d) v z ≡ true → Rests (viewOf d N) z v
   unfolding onLine
   rests-on v hv on =
       ⊎-elim (rests-beside v z hv (inl refl))
-      (λ e. rests-beside v (z - 1) hv (inr (let i = r .inner in omega arith)) (and-both (ltb 0 z) (meshOf P (other d) v (z - 1)) e .1))
+      (λ e. rests-beside v (z - 1) hv (inr (omega arith)) (and-both (ltb 0 z) (meshOf P (other d) v (z - 1)) e .1))
       (or-either (meshOf P (other d) v z) (ltb 0 z && meshOf P (other d) v (z - 1)) on)
 
   -- Its ends, and those of the lines that it lengthens, rest on levels of live grids.
@@ -154,7 +154,6 @@ module _ (P : Layout) (b : Built P) (s : Split) (d : Direction) (r : Ranged (P .
 
         own-end : (e : Side) → meshOf N d z (outward e v) ≡ false → Row run s (inward e v) → v ≡ endOf e s
         own-end lower off row =
-            let range = r .range in
             ⊎-elim
             (λ i. if-equal v (s .from + 1) (λ e. e) (λ ne. absurd (true-not-false _ (step-drawn P s d r (v - 1) (inl (omega arith, omega arith))) off)))
             (λ o. absurd (⊎-elim (λ i. omega arith) (λ i. omega arith) o)) row
@@ -191,7 +190,6 @@ module _ (P : Layout) (b : Built P) (s : Split) (d : Direction) (r : Ranged (P .
           by : (k : ℕ) → along d B .l ≤ k → k < along d B .r → Row run s k → Somewhere
           by k lo hi (inl i) = record { row = k; along-line = i; along-blend = (lo, hi) }
           by k lo hi (inr (inl i)) =
-              let range = r .range in
               let rise = known .y .rises B m in
               let near = known .y .near B m (omega arith) in
               record { row = 1; along-line = (omega arith, omega arith); along-blend = (omega arith, omega arith) }

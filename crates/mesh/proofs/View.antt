@@ -140,8 +140,6 @@ module _ (Q : View) (s : SoundView Q) where
             };
         clear = λ B m z i c.
             let r = rising B m in
-            let lo = i .lo in
-            let hi = i .hi in
             let off = i .off in
             s .y .clear B m (Q .h + 2 - z) (record { lo = omega arith; hi = omega arith; off = λ e. off (omega arith) }) c;
       }
@@ -182,7 +180,6 @@ module _ (Q : View) (t : TightView Q) where
         is-sound = flip-sound Q (t .is-sound);
         x = λ v j lo hi on e.
             let r = t .x (Q .h + 2 - v) j (omega arith) (omega arith) on e in
-            let at = r .1 .at in
             (r .0, record { blend = r .1 .blend; live = r .1 .live; column = r .1 .column; at = omega arith });
         y = λ v j lo hi on e.
             let r = t .y v (Q .h + 1 - j) lo hi (omega arith, omega arith) e in
