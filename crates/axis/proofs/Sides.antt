@@ -10,7 +10,7 @@ use borrow.Author.Tests.{eqb-true, eq-eqb, ltb-true, lt-ltb}
 use Rattle.axis.specs.Triple.{triple, Side, lower, upper, half, isKnot, knotIn, RisesIn}
 use Rattle.axis.specs.declared.Triple.{Triple}
 use Rattle.axis.proofs.Tests.{and-both, and-of, or-either, or-left, or-right, within-of, within-at}
-use Rattle.axis.proofs.Triples.{Rise, Inside, keeps-middle, half-below, half-above}
+use Rattle.axis.proofs.Triples.{Rise, Inside, Knots, keeps-middle, half-below, half-above}
 use Rattle.axis.proofs.Parts.{OnSide, lies}
 use Rattle.axis.proofs.Runs.{if-below, neither}
 
@@ -45,6 +45,15 @@ knot-step upper z t p = (omega arith, omega arith)
 pub step-beside : (x : Side) (z j : ℕ) (t : Triple) → (j ≤ z) × (z ≤ j + 1) → KnotIn x z t → StepIn x j t
 step-beside lower z j t b p = (omega arith, omega arith)
 step-beside upper z j t b p = (omega arith, omega arith)
+
+-- a step there that does not start where the part begins starts inside it; and what is known of a triple's knots is known of where a part begins
+pub past-start : (x : Side) (z : ℕ) (t : Triple) → StepIn x z t → (from x t ≡ z → ⊥) → KnotIn x z t
+past-start lower z t i ne = (omega arith, omega arith)
+past-start upper z t i ne = (omega arith, omega arith)
+
+pub knots-from : {P : ℕ → Type 0} {t : Triple} (x : Side) → Knots P t → P (from x t)
+knots-from lower k = k .l
+knots-from upper k = k .m
 
 -- a part lies within its triple
 pub part-within : (x : Side) (t : Triple) → Rise t → (t .l ≤ from x t) × (to x t ≤ t .r)

@@ -2,9 +2,7 @@
 use Prim.Native.Nat.{ℕ, _+_, _-_, _≤_, _<_}
 use native.Mathlib.Omega.{arith}
 use mathlib.Core.Path.{_≡_, refl, sym, ap, subst}
-
 use mathlib.Core.Bool.{true}
-
 use Rattle.axis.specs.Triple.{Side, lower, upper}
 use Rattle.axis.proofs.Parts.{OnSide}
 use Rattle.axis.proofs.Runs.{if-at-most, if-below, if-equal}
@@ -35,7 +33,6 @@ turn-anchor a = record { blend = a .blend; live = a .live; across = a .up; up = 
 
 flip-crossing : (Q : View) {z v : ℕ} → Crossing Q z v → Crossing (flip Q) z (Q .h + 2 - v)
 flip-crossing Q {z} {v} c =
-
     record {
       across = c .across;
       up = (omega arith, omega arith);

@@ -4,13 +4,12 @@ use native.Mathlib.Omega.{arith}
 use mathlib.Core.Path.{_≡_, sym, ap, subst, _∙_}
 use mathlib.Core.Logic.{_⊎_, inl, inr, ⊎-elim}
 use mathlib.Core.Bool.{Bool, true, false}
-
 use Rattle.axis.specs.Triple.{triple, Side, lower, upper, RisesIn}
 use Rattle.axis.proofs.Tests.{true-not-false}
 use Rattle.axis.proofs.Parts.{OnSide}
 use Rattle.axis.proofs.Runs.{if-at-most, if-below, if-equal}
 use Rattle.axis.proofs.Triples.{rise-of}
-use Rattle.axis.proofs.Sides.{StepIn, KnotIn, opposite, from, to, knot-step, part-within, inside-of, mirror, in-mirror}
+use Rattle.axis.proofs.Sides.{StepIn, KnotIn, opposite, from, to, knot-step, past-start, knots-from, part-within, inside-of, mirror, in-mirror}
 use Rattle.mesh.specs.declared.Blend.{Blend}
 use Rattle.mesh.proofs.View.{View, turn, flip, swap, Live, Over, SoundView, TightView, turn-sound, flip-tight, swap-tight, flipped, on-mirror}
 use Rattle.mesh.proofs.Neighbours.{neighbours, level-at, Abreast, Ended, line-ends, outward, flip-abreast}
@@ -22,12 +21,9 @@ module _ (Q : View) (t : TightView Q) where
   -- a blend over column z and a row in which the upright z has no step: z lies strictly inside one of its parts
   pub astride : (x : Side) (B : Blend) (z k : ℕ) → Live Q B → StepIn x z (Q .across B) → Q .up B .l ≤ k → k < Q .up B .r → Q .uprights z k ≡ false →
       KnotIn x z (Q .across B)
-  astride lower B z k m i lo hi off =
-      (if-equal (Q .across B .l) z
-      (λ same. absurd (true-not-false _ (subst (λ (n : ℕ). Q .uprights n k ≡ true) same (s .x .grid B m k lo hi .l)) off)) (λ ne. omega arith), i .1)
-  astride upper B z k m i lo hi off =
-      (if-equal (Q .across B .m) z
-      (λ same. absurd (true-not-false _ (subst (λ (n : ℕ). Q .uprights n k ≡ true) same (s .x .grid B m k lo hi .m)) off)) (λ ne. omega arith), i .1)
+  astride x B z k m i lo hi off =
+      past-start x z (Q .across B) i
+      (λ same. true-not-false _ (subst (λ (n : ℕ). Q .uprights n k ≡ true) same (knots-from {P = λ (n : ℕ). Q .uprights n k ≡ true} x (s .x .grid B m k lo hi))) off)
 
   -- Blends over one square, with their anchors both above it or both below it, have one part there, whichever it is.
   abbrev pub Agree : Side → Side → Blend → Blend → Type 0
@@ -60,8 +56,7 @@ module _ (Q : View) (t : TightView Q) where
   module _ (z w : ℕ) (hz : OnSide (Q .w) z) where
     inner-level : {x : Side} {B : Blend} → Holding z w x B → (Q .up B .m ≡ w → ⊥) → (1 < w) × (w < Q .h + 1)
     inner-level {x} {B} b off =
-        let r = s .y .rises B (b .live) in
-        (
+        let r = s .y .rises B (b .live) in (
           if-below 1 w (λ lt. lt) (λ le. let n = s .y .near B (b .live) (omega arith) in absurd (off (omega arith))),
           if-below w (Q .h + 1) (λ lt. lt) (λ le. let n = s .y .far B (b .live) (omega arith) in absurd (off (omega arith))),
         )
@@ -106,7 +101,7 @@ module _ (Q : View) (t : TightView Q) where
     -- Any two blends over the column that hold the level have one part there;
     pub agree : Q .levels w z ≡ true → (x u : Side) (B C : Blend) → Holding z w x B → Holding z w u C → Agree x u B C
     agree on x u B C b c =
-        if-equal (Q .up B .m) w (λ e. if-equal (Q .up C .m) w (same e) (λ ne. through (inner-level c ne))) (λ ne. through (inner-level b ne))
+        if-equal (Q .up B .m) w (λ e. if-equal (Q .up C .m) w (same e) (λ off. through (inner-level c off))) (λ off. through (inner-level b off))
       where
         through : (1 < w) × (w < Q .h + 1) → Agree x u B C
         through inner =
@@ -133,8 +128,6 @@ module _ (Q : View) (t : TightView Q) where
       where
         part-on : (x : Side) (C : Blend) → Live Q C → Q .up C .m ≡ w → from x (Q .across C) ≤ j → j < to x (Q .across C) → Q .levels w j ≡ true
         part-on x C m at lo hi = let p = part-within x (Q .across C) (rise-of (s .x .rises C m)) in level-at Q s C m at (omega arith) (omega arith)
-
-
 
   -- Two blends abreast of the upright z at level a:
   module _ (z a : ℕ) (hz : OnSide (Q .w) z) (ha : (1 < a) × (a < Q .h + 1)) (e : Abreast Q upper z a) where
@@ -270,8 +263,6 @@ module _ (Q : View) (t : TightView Q) (z a b : ℕ) (drawn : ℕ → Bool) (d : 
   abbrev column : OnSide (Q .w) z
   column = (omega arith, omega arith)
 
-
-
   -- A level strictly inside a cut blend does not lie below the line,
   level-low : (x : Side) (B : Blend) → Live Q B → KnotIn x z (Q .across B) → CutBy Q drawn B → (w : ℕ) → Q .levels w z ≡ true →
       Q .up B .l < w → w < Q .up B .r → a ≤ w
@@ -317,7 +308,6 @@ flip-drawn Q z a b drawn d =
 
 pub swap-drawn : (Q : View) (s : SoundView Q) (z a b : ℕ) (drawn : ℕ → Bool) → Drawn Q z a b drawn → Drawn (swap Q) (Q .w + 2 - z) a b drawn
 swap-drawn Q s z a b drawn d =
-
     record {
       inner = (omega arith, omega arith);
       range = d .range;
@@ -534,7 +524,6 @@ flip-piece Q s z drawn x X u w v p =
 swap-piece : (Q : View) (s : SoundView Q) (z : ℕ) → (1 < z) × (z ≤ Q .w) → (drawn : ℕ → Bool) (x : Side) (X : Blend) (u w v : ℕ) →
     Piece Q z drawn x X u w v → Piece (swap Q) (Q .w + 2 - z) drawn (opposite x) X u w v
 swap-piece Q s z i drawn x X u w v p =
-
     record {
       live = p .live;
       astride = by x (p .astride);

@@ -181,8 +181,6 @@ module _ (P : Layout) (b : Built P) (s : Split) (d : Direction) (r : Ranged (P .
           let rise = known .x .rises (q .at upper) (q .live upper) in
           level-at (viewOf d P) known (q .at upper) (q .live upper) (q .anchored upper) (omega arith) (omega arith)
 
-
-
       inside : z < side (other (other d)) (P .w) (P .h) + 2
       inside = subst (λ (f : Direction). z < side f (P .w) (P .h) + 2) (sym (twice d)) (omega arith)
 

@@ -5,7 +5,6 @@ use mathlib.Core.Path.{_≡_, sym, ap, subst}
 use mathlib.Core.Logic.{_⊎_, inl, inr}
 use mathlib.Core.Bool.{true, false}
 use Rattle.axis.specs.Triple.{Side, lower, upper}
-
 use Rattle.axis.proofs.Tests.{true-not-false}
 use Rattle.axis.proofs.Parts.{OnSide}
 use Rattle.axis.proofs.Runs.{if-at-most, if-below, if-equal, Downward, throughout, until, downward}
@@ -36,7 +35,6 @@ RestsAbove Q z = (a : ℕ) → 1 < a → a < Q .h + 1 → Q .uprights z (a - 1) 
 -- One row down:
 module _ (Q : View) (s : SoundView Q) (z : ℕ) (hz : (1 < z) × (z ≤ Q .w)) (rests : RestsBelow Q z)
     (v : ℕ) (hv : (1 < v) × (v ≤ Q .h)) (on : Q .uprights z (v - 1) ≡ true) where
-
   below-it : Knot (turn Q) upper v z → Used Q z (v - 1)
   below-it k =
       let r = s .y .rises (k .blend) (k .live) in
@@ -148,14 +146,15 @@ all-down Q s z hz rests (suc n) k one le on u =
 
 flip-used : (Q : View) (s : SoundView Q) (z k : ℕ) → OnSide (Q .h) k → Used Q z k → Used (flip Q) z (Q .h + 1 - k)
 flip-used Q s z k on u =
-    let n = u .1 in
-    (opposite (u .0),
-    record {
-      blend = n .blend;
-      live = n .live;
-      column = in-mirror (Q .h) (u .0) k (Q .up (n .blend)) (s .y .rises (n .blend) (n .live)) on (n .column);
-      at = n .at;
-    })
+    let n = u .1 in (
+      opposite (u .0),
+      record {
+        blend = n .blend;
+        live = n .live;
+        column = in-mirror (Q .h) (u .0) k (Q .up (n .blend)) (s .y .rises (n .blend) (n .live)) on (n .column);
+        at = n .at;
+      },
+    )
 
 used-flip : (Q : View) (s : SoundView Q) (z k : ℕ) → OnSide (Q .h) k → Used (flip Q) z (Q .h + 1 - k) → Used Q z k
 used-flip Q s z k on u = (opposite (u .0), record { blend = u .1 .blend; live = u .1 .live; column = by (u .0) (u .1 .column); at = u .1 .at })
@@ -166,7 +165,6 @@ used-flip Q s z k on u = (opposite (u .0), record { blend = u .1 .blend; live = 
 
 flip-rests : (Q : View) (s : SoundView Q) (z : ℕ) → RestsAbove Q z → RestsBelow (flip Q) z
 flip-rests Q s z rests a lo hi off on =
-
     let r = rests (Q .h + 2 - a) (omega arith) (omega arith) (subst (λ (k : ℕ). Q .uprights z k ≡ true) (omega arith) on) (subst (λ (k : ℕ). Q .uprights z k ≡ false) (omega arith) off) in
     let k = r .knot in
     record {

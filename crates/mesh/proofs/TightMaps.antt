@@ -182,8 +182,6 @@ module _ (P : Layout) (b : Built P) (s : Split) (d : Direction) (r : Ranged (P .
           let f = cut-fact (meshOf N) d z B cut-there in
           search f (downward (meshOf P d z) (along d B .l) (along d B .r))
         where
-
-
           known : SoundView (viewOf d P)
           known = soundOf P (b .wide) (b .high) (b .four) d
 

@@ -103,8 +103,6 @@ turn-sound Q s =
 pub turn-tight : (Q : View) → TightView Q → TightView (turn Q)
 turn-tight Q t = record { is-sound = turn-sound Q (t .is-sound); x = t .y; y = t .x }
 
-
-
 module _ (Q : View) (s : SoundView Q) where
   rising : (B : Blend) → Live Q B → RisesIn (Q .h) (Q .up B)
   rising = s .y .rises
@@ -183,8 +181,7 @@ module _ (Q : View) (t : TightView Q) where
             (r .0, record { blend = r .1 .blend; live = r .1 .live; column = r .1 .column; at = omega arith });
         y = λ v j lo hi on e.
             let r = t .y v (Q .h + 1 - j) lo hi (omega arith, omega arith) e in
-            let B = r .1 .blend in
-            (
+            let B = r .1 .blend in (
               opposite (r .0),
               record {
                 blend = B;
