@@ -23,7 +23,7 @@ module _ (Q : View) (t : TightView Q) where
       KnotIn x z (Q .across B)
   astride x B z k m i lo hi off =
       past-start x z (Q .across B) i
-      (λ same. true-not-false _ (subst (λ (n : ℕ). Q .uprights n k ≡ true) same (knots-from {P = λ (n : ℕ). Q .uprights n k ≡ true} x (s .x .grid B m k lo hi))) off)
+      (λ same. true-not-false _ (subst (λ (n : ℕ). Q .uprights n k ≡ true) same (knots-from x (s .x .grid B m k lo hi))) off)
 
   -- Blends over one square, with their anchors both above it or both below it, have one part there, whichever it is.
   abbrev pub Agree : Side → Side → Blend → Blend → Type 0
@@ -240,7 +240,8 @@ pub record Drawn (Q : View) (z a b : ℕ) (drawn : ℕ → Bool) : Type 0 where
   pub new : (k : ℕ) → a ≤ k → k < b → drawn k ≡ true
   pub out-below : a ≡ 1 → drawn 0 ≡ true
   pub out-above : b ≡ Q .h + 1 → drawn (Q .h + 1) ≡ true
-  pub only : (k : ℕ) → k ≤ Q .h + 1 → drawn k ≡ true → (Q .uprights z k ≡ true) ⊎ (((a ≤ k) × (k < b)) ⊎ (((k ≡ 0) × (a ≡ 1)) ⊎ ((k ≡ Q .h + 1) × (b ≡ Q .h + 1))))
+  pub only : (k : ℕ) → k ≤ Q .h + 1 → drawn k ≡ true →
+      (Q .uprights z k ≡ true) ⊎ (((a ≤ k) × (k < b)) ⊎ (((k ≡ 0) × (a ≡ 1)) ⊎ ((k ≡ Q .h + 1) × (b ≡ Q .h + 1))))
   pub low-end : Good Q lower z a
   pub high-end : Good Q upper z b
 
@@ -341,7 +342,8 @@ module _ (Q : View) (t : TightView Q) (z a b : ℕ) (drawn : ℕ → Bool) (d : 
 
   -- A blend that the upright enters is covered below the line, unless it is one abreast of the line's lower end;
   rows-below : (x : Side) (B : Blend) → Live Q B → KnotIn x z (Q .across B) → Q .up B .l < a → a < Q .up B .r →
-      ((1 < a) × (a < Q .h + 1) → (e : Abreast Q lower z a) → Q .uprights z (a - 1) ≡ false → B ≡ e .at x → ⊥) → (k : ℕ) → Q .up B .l ≤ k → k < a → drawn k ≡ true
+      ((1 < a) × (a < Q .h + 1) → (e : Abreast Q lower z a) → Q .uprights z (a - 1) ≡ false → B ≡ e .at x → ⊥) → (k : ℕ) → Q .up B .l ≤ k → k < a →
+      drawn k ≡ true
   rows-below x B m p lo hi apart k klo khi = by (d .low-end)
     where
       by : Good Q lower z a → drawn k ≡ true
@@ -543,7 +545,8 @@ swap-piece Q s z i drawn x X u w v p =
 
 module _ (Q : View) (t : TightView Q) (z a b : ℕ) (drawn : ℕ → Bool) (d : Drawn Q z a b drawn) (x : Side) (X : Blend) (u w v : ℕ)
     (p : Piece Q z drawn x X u w v) (j k : ℕ) (hj : OnSide (Q .w) j) (hk : OnSide (Q .h) k) where
-  upper-any : (q : Side) → StepIn upper j (triple (from x (Q .across X)) z (to x (Q .across X))) → StepIn q k (triple u w v) → Taken z a b u w v Q drawn upper q j k
+  upper-any : (q : Side) → StepIn upper j (triple (from x (Q .across X)) z (to x (Q .across X))) → StepIn q k (triple u w v) →
+      Taken z a b u w v Q drawn upper q j k
   upper-any upper i e B o = upper-upper z a b u w v Q t drawn d x X p j k hj hk i e B o
   upper-any lower i e B o =
       let s = t .is-sound in

@@ -75,7 +75,9 @@ module _ (P : Layout) (d : Direction) (z : ℕ) (e : Side) (k : ℕ) where
       any-of _ (liveOf P) (b .at upper) (b .live upper)
       (any-of _ (liveOf P) (b .at lower) (b .live lower)
       (and-of _ _
-      (and-of _ _ (and-of _ _ (and-of _ _ (part-test upper z (crossed d (b .at upper)) (b .over upper)) (part-test lower z (crossed d (b .at lower)) (b .over lower))) (eq-eqb _ _ (b .anchored upper))) (eq-eqb _ _ (b .anchored lower)))
+      (and-of _ _
+      (and-of _ _ (and-of _ _ (part-test upper z (crossed d (b .at upper)) (b .over upper)) (part-test lower z (crossed d (b .at lower)) (b .over lower)))
+      (eq-eqb _ _ (b .anchored upper))) (eq-eqb _ _ (b .anchored lower)))
       (eq-eqb _ _ (b .reaches upper ∙ sym (b .reaches lower)))))
 
 -- where an end of a line may be
@@ -83,12 +85,14 @@ abbrev Room : Layout → Direction → Side → ℕ → Type 0
 Room P d lower k = (1 ≤ k) × (k < side (other d) (P .w) (P .h) + 1)
 Room P d upper k = (1 < k) × (k ≤ side (other d) (P .w) (P .h) + 1)
 
-inner-room : (P : Layout) (d : Direction) (z : ℕ) (e : Side) (k : ℕ) → Room P d e k → (k ≡ edgeOf (viewOf d P) e → ⊥) → (1 < k) × (k < side (other d) (P .w) (P .h) + 1)
+inner-room : (P : Layout) (d : Direction) (z : ℕ) (e : Side) (k : ℕ) → Room P d e k → (k ≡ edgeOf (viewOf d P) e → ⊥) →
+    (1 < k) × (k < side (other d) (P .w) (P .h) + 1)
 inner-room P d z lower k r ne = (omega arith, omega arith)
 inner-room P d z upper k r ne = (omega arith, omega arith)
 
 -- a gap's end: the domain's edge, or a line that goes on
-pub gap-either : (P : Layout) (d : Direction) (z : ℕ) (e : Side) (k : ℕ) → gapEnds P d z e k ≡ true → (k ≡ edgeOf (viewOf d P) e) ⊎ (meshOf P d z (outward e k) ≡ true)
+pub gap-either : (P : Layout) (d : Direction) (z : ℕ) (e : Side) (k : ℕ) → gapEnds P d z e k ≡ true →
+    (k ≡ edgeOf (viewOf d P) e) ⊎ (meshOf P d z (outward e k) ≡ true)
 gap-either P d z lower k t = ⊎-elim (λ q. inl (eqb-true _ _ q)) inr (or-either _ _ t)
 gap-either P d z upper k t = ⊎-elim (λ q. inl (eqb-true _ _ q)) inr (or-either _ _ t)
 
@@ -188,9 +192,13 @@ module _ (P : Layout) (b : Built P) (s : Split) (d : Direction) (r : Ranged (P .
       by lower (edge q) = fresh-line (P .w) (P .h) (P .splits) (other d) (s .from + 1) z (inr (inl q)) inside
       by upper (edge q) = fresh-line (P .w) (P .h) (P .splits) (other d) (s .to + 1) z (inr (inr (inl q))) inside
       by lower (line i on) =
-          side-by upper (s .from + 1) (line-ends (viewOf d P) (tight-view P b d) z (s .from + 1) (omega arith, omega arith) i upper on (free (s .from + 1) (omega arith) (omega arith)) .abreast)
+          side-by upper (s .from + 1)
+          (line-ends (viewOf d P) (tight-view P b d) z (s .from + 1) (omega arith, omega arith) i upper on
+          (free (s .from + 1) (omega arith) (omega arith)) .abreast)
       by upper (line i on) =
-          side-by lower (s .to + 1) (line-ends (viewOf d P) (tight-view P b d) z (s .to + 1) (omega arith, omega arith) i lower on (free (s .to + 1 - 1) (omega arith) (omega arith)) .abreast)
+          side-by lower (s .to + 1)
+          (line-ends (viewOf d P) (tight-view P b d) z (s .to + 1) (omega arith, omega arith) i lower on
+          (free (s .to + 1 - 1) (omega arith) (omega arith)) .abreast)
       by lower (blends i off q) = side-by lower (s .from + 1) q
       by upper (blends i off q) = side-by upper (s .to + 1) q
 
@@ -206,7 +214,14 @@ module _ (P : Layout) (b : Built P) (s : Split) (d : Direction) (r : Ranged (P .
     -- the blends beside an end are blends of the map before: the line would have cut them
     abreast-before : (e : Side) (k : ℕ) → Abreast (viewOf d (withLine P s)) e z k → Abreast (viewOf d P) e z k
     abreast-before e k q =
-        record { reach = q .reach; at = q .at; live = λ x. before x (q .at x) (q .live x) (q .over x); over = q .over; anchored = q .anchored; reaches = q .reaches }
+        record {
+          reach = q .reach;
+          at = q .at;
+          live = λ x. before x (q .at x) (q .live x) (q .over x);
+          over = q .over;
+          anchored = q .anchored;
+          reaches = q .reaches;
+        }
       where
         before : (x : Side) (B : Blend) → List·Memᴰ B (liveOf (withLine P s)) → KnotIn x z (crossed d B) → List·Memᴰ B (liveOf P)
         before x B m p =
@@ -239,7 +254,8 @@ module _ (P : Layout) (b : Built P) (s : Split) (d : Direction) (r : Ranged (P .
             (λ off. blends inner off (abreast-before e (endOf e s) (ends e inner off)))
             (either (meshOf P d z (outward e (endOf e s)))))
           where
-            ends : (e : Side) → (1 < endOf e s) × (endOf e s < run + 1) → meshOf P d z (outward e (endOf e s)) ≡ false → Abreast (viewOf d (withLine P s)) e z (endOf e s)
+            ends : (e : Side) → (1 < endOf e s) × (endOf e s < run + 1) → meshOf P d z (outward e (endOf e s)) ≡ false →
+                Abreast (viewOf d (withLine P s)) e z (endOf e s)
             ends e inner off =
                 line-ends (viewOf d (withLine P s)) (tight-view (withLine P s) built-on d) z (endOf e s) (omega arith, omega arith) inner e (drawn-in e)
                 (false-of _ (λ on. ⊎-elim (λ t. true-not-false _ t off) (λ q. off-row e inner (q .2)) (step-either P s d r d z (outward e (endOf e s)) on)))

@@ -55,8 +55,8 @@ cut-either M upright level y B c = let f = cut-fact M level y B c in inr (refl, 
 cut-either M level upright y B c = let f = cut-fact M upright y B c in inr (refl, f .inside, f .covered)
 cut-either M level level y B c = let f = cut-fact M level y B c in inl (refl, f .inside, f .covered)
 
-pub level-cuts : (M : Mesh) (d : Direction) (y : ℕ) (B : Blend) → Inside y (along d B) → ((j : ℕ) → crossed d B .l ≤ j → j < crossed d B .r → M (other d) y j ≡ true) →
-    cuts M (other d) y B ≡ true
+pub level-cuts : (M : Mesh) (d : Direction) (y : ℕ) (B : Blend) → Inside y (along d B) →
+    ((j : ℕ) → crossed d B .l ≤ j → j < crossed d B .r → M (other d) y j ≡ true) → cuts M (other d) y B ≡ true
 level-cuts M upright y B i c = cut-test M level y B (record { inside = i; covered = c })
 level-cuts M level y B i c = cut-test M upright y B (record { inside = i; covered = c })
 
@@ -87,7 +87,8 @@ in-view d p q x y B e = by d (lies-at p x (B .across) (b .0)) (lies-at q y (B .u
     b : (lies p x (B .across) ≡ true) × (lies q y (B .up) ≡ true)
     b = and-both (lies p x (B .across)) (lies q y (B .up)) e
 
-    by : (d : Direction) → StepIn p x (B .across) → StepIn q y (B .up) → StepIn (pick d p q) (side d x y) (crossed d B) × StepIn (pick (other d) p q) (side (other d) x y) (along d B)
+    by : (d : Direction) → StepIn p x (B .across) → StepIn q y (B .up) →
+        StepIn (pick d p q) (side d x y) (crossed d B) × StepIn (pick (other d) p q) (side (other d) x y) (along d B)
     by upright i k = (i, k)
     by level i k = (k, i)
 
@@ -160,7 +161,8 @@ module _ (P : Layout) (b : Built P) (s : Split) (d : Direction) (r : Ranged (P .
 
     -- a crossing strictly inside it would be an anchor there
     no-crossing : (y v : ℕ) → (crossed d X .l < y) × (y < crossed d X .r) → (along d X .l < v) × (v < along d X .r) →
-        ((y ≡ crossed d X .m) × (v ≡ along d X .m) → ⊥) → Q .uprights y (v - 1) ≡ true → Q .uprights y v ≡ true → Q .levels v (y - 1) ≡ true → Q .levels v y ≡ true → ⊥
+        ((y ≡ crossed d X .m) × (v ≡ along d X .m) → ⊥) → Q .uprights y (v - 1) ≡ true → Q .uprights y v ≡ true → Q .levels v (y - 1) ≡ true →
+        Q .levels v y ≡ true → ⊥
     no-crossing y v hy hv off a e f g =
         let rx = known .x .rises X m in
         let ry = known .y .rises X m in
@@ -256,13 +258,14 @@ module _ (P : Layout) (b : Built P) (s : Split) (d : Direction) (r : Ranged (P .
         middle lower p y lo hi e = omega arith
         middle upper p y lo hi e = omega arith
 
-    between-half : (D : Blend) → Between D → (y : ℕ) (s : Side) → Inside y (along d D) → ((j : ℕ) → crossed d D .l ≤ j → j < crossed d D .r → N (other d) y j ≡ true) →
-        Between (halve (other d) s y D)
+    between-half : (D : Blend) → Between D → (y : ℕ) (s : Side) → Inside y (along d D) →
+        ((j : ℕ) → crossed d D .l ≤ j → j < crossed d D .r → N (other d) y j ≡ true) → Between (halve (other d) s y D)
     between-half D q y s i f =
         let e = halve-cross d s y D in
         let w = half-within s y (along d D) (q .rises) i in
         let sp = spans in
-        let g : (j : ℕ) → F ≤ j → j < G → N (other d) y j ≡ true = subst (λ (T : Triple). (j : ℕ) → T .l ≤ j → j < T .r → N (other d) y j ≡ true) (q .across) f in
+        let g : (j : ℕ) → F ≤ j → j < G → N (other d) y j ≡ true =
+        subst (λ (T : Triple). (j : ℕ) → T .l ≤ j → j < T .r → N (other d) y j ≡ true) (q .across) f in
         record {
           across = e .0 ∙ q .across;
           rises = subst Rise (sym (e .1)) (half-rises s y (along d D) (q .rises) i);
@@ -307,13 +310,16 @@ module _ (P : Layout) (b : Built P) (s : Split) (d : Direction) (r : Ranged (P .
             (λ off. absurd (true-not-false _
             (level-cuts N d i C (record { lo = lo; hi = hi; off = off })
             (λ j jlo jhi. more-finer P s (other d) i j
-            (covers i j (omega arith) (omega arith) step (subst (λ (T : Triple). T .l ≤ j) (q .across) jlo) (subst (λ (T : Triple). j < T .r) (q .across) jhi))))
+            (covers i j (omega arith) (omega arith) step (subst (λ (T : Triple). T .l ≤ j) (q .across) jlo)
+            (subst (λ (T : Triple). j < T .r) (q .across) jhi))))
             (u (other d) i)))
 
         beside-line : (i : ℕ) → along d C .l < i → i < along d C .r → Q .levels i (z - 1) ≡ true → Q .levels i z ≡ true
         beside-line i lo hi step =
             let sp = spans in
-            level-covers Q t (z - 1) i (omega arith, omega arith) step x X (record { live = m; column = step-beside x z (z - 1) (crossed d X) (omega arith, omega arith) p; lo = omega arith; hi = omega arith }) z (omega arith) (omega arith)
+            level-covers Q t (z - 1) i (omega arith, omega arith) step x X
+            (record { live = m; column = step-beside x z (z - 1) (crossed d X) (omega arith, omega arith) p; lo = omega arith; hi = omega arith })
+            z (omega arith) (omega arith)
 
   -- What the line leaves of the map before: a blend that it does not cut, the half with the anchor of one that it cuts, or a piece beside the line.
   data Kind (C : Blend) : Type 0 where
@@ -342,7 +348,8 @@ module _ (P : Layout) (b : Built P) (s : Split) (d : Direction) (r : Ranged (P .
               let q = between-left x X mX p c (between-first x X mX p c) (l .comes) in
               piece x X (piece-of x X mX p c C q (l .uncut)) (q .across) (q .knots)
 
-          own-half : (X : Blend) (mX : Live Q X) (x : Side) (p : KnotIn x z (crossed d X)) (c : CutBy Q (N d z) X) → Left N (halve d (opposite x) z X) C → Kind C
+          own-half : (X : Blend) (mX : Live Q X) (x : Side) (p : KnotIn x z (crossed d X)) (c : CutBy Q (N d z) X) →
+              Left N (halve d (opposite x) z X) C → Kind C
           own-half X mX x p c l = kept-half x X mX p c (left-uncut (kept-uncut x X mX p c) l)
 
           by : (X : Blend) (mX : Live Q X) (x : Side) (p : KnotIn x z (crossed d X)) (c : CutBy Q (N d z) X) (w : Side) → Left N (halve d w z X) C → Kind C
@@ -360,7 +367,8 @@ module _ (P : Layout) (b : Built P) (s : Split) (d : Direction) (r : Ranged (P .
       column : StepIn g j (crossed d C)
       row : StepIn q k (along d C)
 
-    kept-sits : (x : Side) (X : Blend) → Live Q X → (p : KnotIn x z (crossed d X)) → Sits (halve d (opposite x) z X) → Over Q g q j k X × StepIn g j (kept x z (crossed d X))
+    kept-sits : (x : Side) (X : Blend) → Live Q X → (p : KnotIn x z (crossed d X)) → Sits (halve d (opposite x) z X) →
+        Over Q g q j k X × StepIn g j (kept x z (crossed d X))
     kept-sits x X m p o =
         let e = halve-same d (opposite x) z X in
         let i = subst (StepIn g j) (e .0 ∙ kept-is x z (crossed d X) p) (o .column) in
@@ -377,7 +385,8 @@ module _ (P : Layout) (b : Built P) (s : Split) (d : Direction) (r : Ranged (P .
         crossed d C ≡ triple (from x (crossed d X)) z (to x (crossed d X)) → Sits C → (B : Blend) → Over Q g q j k B →
         KnotIn g z (crossed d B) × CutBy Q (N d z) B
     taken x X C p e o B over =
-        taken-too Q t z (s .from + 1) (s .to + 1) (N d z) dr x X (along d C .l) (along d C .m) (along d C .r) p j k hj hk g q (subst (StepIn g j) e (o .column)) (o .row) B over
+        taken-too Q t z (s .from + 1) (s .to + 1) (N d z) dr x X (along d C .l) (along d C .m) (along d C .r) p j k hj hk g q
+        (subst (StepIn g j) e (o .column)) (o .row) B over
 
     whole-half : (B C : Blend) → Live Q B → cuts N d z B ≡ false → (x : Side) (X : Blend) → Live Q X → KnotIn x z (crossed d X) → CutBy Q (N d z) X →
         C ≡ halve d (opposite x) z X → Sits B → Sits C → ⊥
@@ -385,7 +394,8 @@ module _ (P : Layout) (b : Built P) (s : Split) (d : Direction) (r : Ranged (P .
         let is = one-before B X (over-whole B mB oB) (kept-sits x X mX p (subst Sits e oC) .0) in
         true-not-false _ (cut-is x X mX p c) (ap (cuts N d z) (sym is) ∙ off)
 
-    whole-piece : (B C : Blend) → Live Q B → cuts N d z B ≡ false → (x : Side) (X : Blend) → Piece Q z (N d z) x X (along d C .l) (along d C .m) (along d C .r) →
+    whole-piece : (B C : Blend) → Live Q B → cuts N d z B ≡ false → (x : Side) (X : Blend) →
+        Piece Q z (N d z) x X (along d C .l) (along d C .m) (along d C .r) →
         crossed d C ≡ triple (from x (crossed d X)) z (to x (crossed d X)) → Sits B → Sits C → ⊥
     whole-piece B C mB off x X p e oB oC =
         let r = taken x X C p e oC B (over-whole B mB oB) in
@@ -406,9 +416,11 @@ module _ (P : Layout) (b : Built P) (s : Split) (d : Direction) (r : Ranged (P .
         ((i : ℕ) → u < i → i < v → Q .levels i z ≡ true → i ≡ w) → ((i : ℕ) → a < i → i < f → Q .levels i z ≡ true → i ≡ e) →
         Q .levels w z ≡ true → Q .levels e z ≡ true → w ≡ e
     same-level lower u w v a e f i o r p alone other won eon =
-        neither w e (λ lt. let same = other w (omega arith) (omega arith) won in omega arith) (λ gt. let same = alone e (omega arith) (omega arith) eon in omega arith)
+        neither w e (λ lt. let same = other w (omega arith) (omega arith) won in omega arith)
+        (λ gt. let same = alone e (omega arith) (omega arith) eon in omega arith)
     same-level upper u w v a e f i o r p alone other won eon =
-        neither w e (λ lt. let same = alone e (omega arith) (omega arith) eon in omega arith) (λ gt. let same = other w (omega arith) (omega arith) won in omega arith)
+        neither w e (λ lt. let same = alone e (omega arith) (omega arith) eon in omega arith)
+        (λ gt. let same = other w (omega arith) (omega arith) won in omega arith)
 
     pieces : (B C : Blend) (x y : Side) (X Y : Blend) → Piece Q z (N d z) x X (along d B .l) (along d B .m) (along d B .r) →
         crossed d B ≡ triple (from x (crossed d X)) z (to x (crossed d X)) → Knots (λ (v : ℕ). Q .levels v z ≡ true) (along d B) →
@@ -460,8 +472,8 @@ module _ (P : Layout) (b : Built P) (s : Split) (d : Direction) (r : Ranged (P .
       (λ p q. one-at-most (quadrant p q x y) (live (P .w) (P .h) N) (live-distinct (P .w) (P .h) (b .wide) (b .high) N)
       (one p q x y (lx, hx) (ly, hy))))))
     where
-      one : (p q : Side) (x y : ℕ) → OnSide (P .w) x → OnSide (P .h) y → (B C : Blend) → List·Memᴰ B (liveOf (withLine P s)) → List·Memᴰ C (liveOf (withLine P s)) →
-          quadrant p q x y B ≡ true → quadrant p q x y C ≡ true → B ≡ C
+      one : (p q : Side) (x y : ℕ) → OnSide (P .w) x → OnSide (P .h) y → (B C : Blend) → List·Memᴰ B (liveOf (withLine P s)) →
+          List·Memᴰ C (liveOf (withLine P s)) → quadrant p q x y B ≡ true → quadrant p q x y C ≡ true → B ≡ C
       one p q x y hx hy B C mB mC e f =
           let hs = on-side d (P .w) (P .h) x y hx hy in
           let i = in-view d p q x y B e in

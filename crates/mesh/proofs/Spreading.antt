@@ -165,7 +165,8 @@ used-flip Q s z k on u = (opposite (u .0), record { blend = u .1 .blend; live = 
 
 flip-rests : (Q : View) (s : SoundView Q) (z : ℕ) → RestsAbove Q z → RestsBelow (flip Q) z
 flip-rests Q s z rests a lo hi off on =
-    let r = rests (Q .h + 2 - a) (omega arith) (omega arith) (subst (λ (k : ℕ). Q .uprights z k ≡ true) (omega arith) on) (subst (λ (k : ℕ). Q .uprights z k ≡ false) (omega arith) off) in
+    let r = rests (Q .h + 2 - a) (omega arith) (omega arith) (subst (λ (k : ℕ). Q .uprights z k ≡ true) (omega arith) on)
+    (subst (λ (k : ℕ). Q .uprights z k ≡ false) (omega arith) off) in
     let k = r .knot in
     record {
       column = r .column;

@@ -39,7 +39,8 @@ pub record Built (P : Layout) : Type 0 where
   pub wide : 1 ≤ P .w
   pub high : 1 ≤ P .h
   pub four : fourEverywhere (P .w) (P .h) (liveOf P) ≡ true
-  pub tight : (d : Direction) (z k : ℕ) → (1 < z) × (z ≤ side d (P .w) (P .h)) → OnSide (side (other d) (P .w) (P .h)) k → meshOf P d z k ≡ true → Gridded P d z k
+  pub tight : (d : Direction) (z k : ℕ) → (1 < z) × (z ≤ side d (P .w) (P .h)) → OnSide (side (other d) (P .w) (P .h)) k → meshOf P d z k ≡ true →
+      Gridded P d z k
 
 abbrev pub viewOf : Direction → Layout → View
 viewOf d P = view d (P .w) (P .h) (meshOf P)
@@ -49,7 +50,8 @@ module _ (P : Layout) (wide : 1 ≤ P .w) (high : 1 ≤ P .h) (four : fourEveryw
   pub soundOf : (d : Direction) → SoundView (viewOf d P)
   soundOf d = sound-view (P .w) (P .h) wide high (P .splits) d four
 
-  pub upright-used : (d : Direction) (z k : ℕ) → (1 < z) × (z ≤ side d (P .w) (P .h)) → OnSide (side (other d) (P .w) (P .h)) k → Gridded P d z k → Used (viewOf d P) z k
+  pub upright-used : (d : Direction) (z k : ℕ) → (1 < z) × (z ≤ side d (P .w) (P .h)) → OnSide (side (other d) (P .w) (P .h)) k → Gridded P d z k →
+      Used (viewOf d P) z k
   upright-used d z k hz hk g =
       grid-knot (turn (viewOf d P)) (turn-sound (viewOf d P) (soundOf d)) (g .0) (g .1) k z hk (omega arith) (g .2 .lo) (g .2 .hi) (g .2 .knot)
 
@@ -113,7 +115,8 @@ module _ (P : Layout) (b : Built P) (s : Split) (d : Direction) (r : Ranged (P .
   abbrev run : ℕ
   run = side (other d) (P .w) (P .h)
 
-  old-gridded : (e : Direction) (y k : ℕ) → (1 < y) × (y ≤ side e (P .w) (P .h)) → OnSide (side (other e) (P .w) (P .h)) k → meshOf P e y k ≡ true → Gridded N e y k
+  old-gridded : (e : Direction) (y k : ℕ) → (1 < y) × (y ≤ side e (P .w) (P .h)) → OnSide (side (other e) (P .w) (P .h)) k → meshOf P e y k ≡ true →
+      Gridded N e y k
   old-gridded e y k hy hk on =
       let g = b .tight e y k hy hk on in
       stays-on-grid (P .w) (P .h) (b .wide) (b .high) (meshOf P) (meshOf N) (more-finer P s) e y k (g .0) (g .1) (g .2)
@@ -122,7 +125,8 @@ module _ (P : Layout) (b : Built P) (s : Split) (d : Direction) (r : Ranged (P .
   rests-beside : (v j : ℕ) → (1 < v) × (v ≤ run) → (j ≡ z) ⊎ (j + 1 ≡ z) → meshOf P (other d) v j ≡ true → Rests (viewOf d N) z v
   rests-beside v j hv near on =
       let hj = column j near in
-      let k = level-knot N (b .wide) (b .high) four d v j hv hj (old-gridded (other d) v j hv (subst (λ (e : Direction). OnSide (side e (P .w) (P .h)) j) (sym (twice d)) hj) on) in
+      let k = level-knot N (b .wide) (b .high) four d v j hv hj
+      (old-gridded (other d) v j hv (subst (λ (e : Direction). OnSide (side e (P .w) (P .h)) j) (sym (twice d)) hj) on) in
       record { column = j; near = near; part = k .0; knot = k .1 }
     where
       column : (j : ℕ) → (j ≡ z) ⊎ (j + 1 ≡ z) → OnSide (side d (P .w) (P .h)) j
@@ -224,7 +228,8 @@ module _ (P : Layout) (b : Built P) (s : Split) (d : Direction) (r : Ranged (P .
           let at = somewhere .along-line in
           let u = used-along (viewOf d N) (soundOf N (b .wide) (b .high) four d) z (omega arith, r .inner .1)
           (λ v one last off on. rests lower v (one, omega arith) off on) (λ v one last on off. rests upper v (one, omega arith) off on)
-          (s .from + 1) (s .to + 1) (omega arith) (omega arith) (λ n nlo nhi. step-drawn P s d r n (inl (nlo, nhi))) (somewhere .row) (at .0) (at .1) used-there k lo hi in
+          (s .from + 1) (s .to + 1) (omega arith) (omega arith) (λ n nlo nhi. step-drawn P s d r n (inl (nlo, nhi)))
+          (somewhere .row) (at .0) (at .1) used-there k lo hi in
           by (u .0) (u .1)
         where
           by : (y : Side) → Knot (turn (viewOf d N)) y k z → Gridded N d z k
