@@ -44,7 +44,6 @@ flip-crossing Q {z} {v} c =
 
 flip-anchor : (Q : View) → SoundView Q → {z v : ℕ} → v ≤ Q .h + 1 → Anchor (flip Q) z (Q .h + 2 - v) → Anchor Q z v
 flip-anchor Q s le a =
-    let r = s .y .rises (a .blend) (a .live) in
     record { blend = a .blend; live = a .live; across = a .across; up = omega arith }
 
 abbrev Inner : View → ℕ → ℕ → Type 0
@@ -127,7 +126,6 @@ module _ (Q : View) (t : TightView Q) (z v : ℕ) (i : Inner Q z v) (c : Crossin
       swapped : (k : Knot Q lower z v) → Q .across (k .blend) .l < z → Anchor Q z v
       swapped k lt =
           let P = flip (turn Q) in
-          let r = s .x .rises (k .blend) (k .live) in
           turn-anchor
           (flip-anchor (turn Q) (turn-sound Q s) (omega arith)
           (turn-anchor

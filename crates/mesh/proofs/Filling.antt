@@ -112,7 +112,6 @@ module _ (Q : View) (t : TightView Q) where
 
         same : Q .up B .m ≡ w → Q .up C .m ≡ w → Agree x u B C
         same e f =
-            let rise = s .y .rises B (b .live) in
             if-at-most w (Q .h) (both-below x u B C b c (omega arith) (omega arith))
             (λ gt. both-above x u B C b c (omega arith) (omega arith) (omega arith))
 
@@ -175,7 +174,6 @@ module _ (Q : View) (t : TightView Q) (z a : ℕ) (hz : OnSide (Q .w) z) (ha : (
   unfolding flip-abreast
   met-at upper b x B m p lo hi = met Q t z a hz ha b x B m p lo hi
   met-at lower b x B m p lo hi =
-      let r = t .is-sound .y .rises B m in
       met (flip Q) (flip-tight Q t) z (Q .h + 2 - a) hz mirrored (flip-abreast Q lower z a b) x B m p (omega arith) (omega arith)
 
   pub above-none : (b : Abreast Q lower z a) (w : ℕ) → Q .levels w z ≡ true → a < w → w < b .reach → ⊥
@@ -323,7 +321,7 @@ swap-drawn Q s z a b drawn d =
     }
 
 pub flip-cut : (Q : View) (s : SoundView Q) (drawn : ℕ → Bool) (B : Blend) → Live Q B → CutBy Q drawn B → CutBy (flip Q) (λ k. drawn (Q .h + 1 - k)) B
-flip-cut Q s drawn B m c k lo hi = let r = s .y .rises B m in c (Q .h + 1 - k) (omega arith) (omega arith)
+flip-cut Q s drawn B m c k lo hi = c (Q .h + 1 - k) (omega arith) (omega arith)
 
 cut-flip : (Q : View) (s : SoundView Q) (drawn : ℕ → Bool) (B : Blend) → Live Q B → CutBy (flip Q) (λ k. drawn (Q .h + 1 - k)) B → CutBy Q drawn B
 cut-flip Q s drawn B m c k lo hi =
@@ -413,7 +411,6 @@ module _ (Q : View) (t : TightView Q) (z a b : ℕ) (drawn : ℕ → Bool) (d : 
             let reach : Q .up (r .abreast .at upper) .r ≡ r .abreast .reach = r .abreast .reaches upper in
             let middle = ap (λ (D : Blend). Q .up D .m) is in
             let top = ap (λ (D : Blend). Q .up D .r) is in
-            let rb = sound Q t z a b drawn d .y .rises B (o .live) in
             record {
               astride = par;
               cut = λ k klo khi.
@@ -447,9 +444,6 @@ module _ (Q : View) (t : TightView Q) (z a b : ℕ) (drawn : ℕ → Bool) (d : 
         apart par i e off is =
             let reach : Q .up (e .at upper) .r ≡ e .reach = e .reaches upper in
             let top = ap (λ (D : Blend). Q .up D .r) is in
-            let middle = ap (λ (D : Blend). Q .up D .m) is in
-            let at = e .anchored upper in
-            let rb = sound Q t z a b drawn d .y .rises B (o .live) in
             if-below a w (λ gt. above-none Q t z a side i e w on gt (omega arith))
             (λ is-a. true-not-false (Q .uprights z (a - 1)) (was-on Q d (a - 1) (inl (omega arith, omega arith)) (c (a - 1) (omega arith) (omega arith))) off)
 
@@ -467,12 +461,10 @@ module _ (Q : View) (t : TightView Q) (z a b : ℕ) (drawn : ℕ → Bool) (d : 
         let r = v .y .rises Y (over .live) in
         let rx = v .x .rises Y (over .live) in
         let row-of = over .row in
-        let col = over .column in
         let in-there = entered-there in
         let par = in-there .astride in
         let same = agree Q t z w side on x upper X Y (record { live = m; column = knot-step x z _ p; lo = lo; hi = hi })
         (record { live = over .live; column = over .column; lo = omega arith; hi = over .row .1 }) in
-        let end = same .1 in
         let above : k < Q .up Y .r =
         if-below k (Q .up Y .r) (λ lt. lt)
         (λ le. absurd (none (Q .up Y .r) (over .row .1) (omega arith) (v .y .grid Y (over .live) z (omega arith) (omega arith) .r))) in
@@ -509,7 +501,6 @@ module _ (z a b u w v : ℕ) where
 flip-piece : (Q : View) (s : SoundView Q) (z : ℕ) (drawn : ℕ → Bool) (x : Side) (X : Blend) (u w v : ℕ) → Piece Q z drawn x X u w v →
     Piece (flip Q) z (λ k. drawn (Q .h + 1 - k)) x X (Q .h + 2 - v) (Q .h + 2 - w) (Q .h + 2 - u)
 flip-piece Q s z drawn x X u w v p =
-    let rx = s .y .rises X (p .live) in
     record {
       live = p .live;
       astride = p .astride;
@@ -540,8 +531,8 @@ swap-piece Q s z i drawn x X u w v p =
     }
   where
     by : (x : Side) → KnotIn x z (Q .across X) → KnotIn (opposite x) (Q .w + 2 - z) (mirror (Q .w) (Q .across X))
-    by lower a = let r = s .x .rises X (p .live) in (omega arith, omega arith)
-    by upper a = let r = s .x .rises X (p .live) in (omega arith, omega arith)
+    by lower a = (omega arith, omega arith)
+    by upper a = (omega arith, omega arith)
 
 module _ (Q : View) (t : TightView Q) (z a b : ℕ) (drawn : ℕ → Bool) (d : Drawn Q z a b drawn) (x : Side) (X : Blend) (u w v : ℕ)
     (p : Piece Q z drawn x X u w v) (j k : ℕ) (hj : OnSide (Q .w) j) (hk : OnSide (Q .h) k) where

@@ -230,7 +230,6 @@ module _ (P : Layout) (b : Built P) (s : Split) (d : Direction) (r : Ranged (P .
     between-first : Between (halve d x z X)
     between-first =
         let e = halve-same d x z X in
-        let rx = known .x .rises X m in
         let ry = known .y .rises X m in
         let f = spans in
         record {

@@ -86,7 +86,6 @@ module _ (Q : View) (s : SoundView Q) (z : ℕ) (hz : (1 < z) × (z ≤ Q .w)) (
     begins : (u : (x : Side) → Under x) (e : ℕ) → Q .up (u upper .blend) .l ≤ e → e < v → Q .uprights z e ≡ false →
         ((k : ℕ) → e < k → k < v → Q .uprights z k ≡ true) → ⊥
     begins u e lo hi off covered =
-        let low = s .y .rises (u upper .blend) (u upper .live) in
         let anchor = u upper .anchored in
         let below : e < v - 1 =
         if-equal e (v - 1) (λ is. absurd (true-not-false _ (subst (λ (k : ℕ). Q .uprights z k ≡ true) (sym is) on) off)) (λ ne. omega arith) in
@@ -160,8 +159,8 @@ used-flip : (Q : View) (s : SoundView Q) (z k : ℕ) → OnSide (Q .h) k → Use
 used-flip Q s z k on u = (opposite (u .0), record { blend = u .1 .blend; live = u .1 .live; column = by (u .0) (u .1 .column); at = u .1 .at })
   where
     by : (y : Side) → StepIn y (Q .h + 1 - k) (mirror (Q .h) (Q .up (u .1 .blend))) → StepIn (opposite y) k (Q .up (u .1 .blend))
-    by lower i = let r = s .y .rises (u .1 .blend) (u .1 .live) in (omega arith, omega arith)
-    by upper i = let r = s .y .rises (u .1 .blend) (u .1 .live) in (omega arith, omega arith)
+    by lower i = (omega arith, omega arith)
+    by upper i = (omega arith, omega arith)
 
 flip-rests : (Q : View) (s : SoundView Q) (z : ℕ) → RestsAbove Q z → RestsBelow (flip Q) z
 flip-rests Q s z rests a lo hi off on =

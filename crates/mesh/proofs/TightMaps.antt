@@ -193,11 +193,9 @@ module _ (P : Layout) (b : Built P) (s : Split) (d : Direction) (r : Ranged (P .
           by k lo hi (inl i) = record { row = k; along-line = i; along-blend = (lo, hi) }
           by k lo hi (inr (inl i)) =
               let rise = known .y .rises B m in
-              let near = known .y .near B m (omega arith) in
               record { row = 1; along-line = (omega arith, omega arith); along-blend = (omega arith, omega arith) }
           by k lo hi (inr (inr i)) =
               let rise = known .y .rises B m in
-              let far = known .y .far B m (omega arith) in
               record { row = run; along-line = (omega arith, omega arith); along-blend = (omega arith, omega arith) }
 
           search : Cut (meshOf N) d z B → Downward (meshOf P d z) (along d B .l) (along d B .r) → Somewhere
@@ -208,7 +206,6 @@ module _ (P : Layout) (b : Built P) (s : Split) (d : Direction) (r : Ranged (P .
       used-there : Used (viewOf d N) z (somewhere .row)
       unfolding half halve
       used-there =
-          let range = r .range in
           let f = cut-fact (meshOf N) d z B cut-there in
           let k = somewhere .row in
           let on-line = somewhere .along-line in

@@ -114,7 +114,7 @@ module _ (Q : View) (s : SoundView Q) where
         rises = s .x .rises;
         near = s .x .near;
         far = s .x .far;
-        grid = λ B m k lo hi. let r = rising B m in s .x .grid B m (Q .h + 1 - k) (omega arith) (omega arith);
+        grid = λ B m k lo hi. s .x .grid B m (Q .h + 1 - k) (omega arith) (omega arith);
         clear = λ B m z i c.
             let r = rising B m in
             s .x .clear B m z i
@@ -127,7 +127,7 @@ module _ (Q : View) (s : SoundView Q) where
         wide = s .y .wide;
         rises = λ B m. let r = rising B m in record { low = omega arith; high = omega arith; most = omega arith };
         near = λ B m e. let r = rising B m in let f = s .y .far B m (omega arith) in omega arith;
-        far = λ B m e. let r = rising B m in let f = s .y .near B m (omega arith) in omega arith;
+        far = λ B m e. let f = s .y .near B m (omega arith) in omega arith;
         grid = λ B m k lo hi.
             let r = rising B m in
             let g = s .y .grid B m k lo hi in
@@ -137,7 +137,6 @@ module _ (Q : View) (s : SoundView Q) where
               r = subst (λ (n : ℕ). Q .levels n k ≡ true) (omega arith) (g .l);
             };
         clear = λ B m z i c.
-            let r = rising B m in
             let off = i .off in
             s .y .clear B m (Q .h + 2 - z) (record { lo = omega arith; hi = omega arith; off = λ e. off (omega arith) }) c;
       }
@@ -153,8 +152,8 @@ module _ (Q : View) (s : SoundView Q) where
   over-flip x y j k B on o = record { live = o .live; column = o .column; row = back y (o .row) }
     where
       back : (y : Side) → StepIn (opposite y) (Q .h + 1 - k) (Q .up B) → StepIn y k (mirror (Q .h) (Q .up B))
-      back lower i = let r = rising B (o .live) in (omega arith, omega arith)
-      back upper i = let r = rising B (o .live) in (omega arith, omega arith)
+      back lower i = (omega arith, omega arith)
+      back upper i = (omega arith, omega arith)
 
   pub flipped : {x y : Side} {j k : ℕ} {B : Blend} → OnSide (Q .h) k → Over Q x y j k B → Over (flip Q) x (opposite y) j (Q .h + 1 - k) B
   flipped {x} {y} {j} {k} {B} on o =
