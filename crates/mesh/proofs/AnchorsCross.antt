@@ -42,8 +42,8 @@ flip-crossing Q {z} {v} c =
       right = subst (λ (k : ℕ). Q .levels k z ≡ true) (omega arith) (c .right);
     }
 
-flip-anchor : (Q : View) → SoundView Q → {z v : ℕ} → v ≤ Q .h + 1 → Anchor (flip Q) z (Q .h + 2 - v) → Anchor Q z v
-flip-anchor Q s le a =
+flip-anchor : (Q : View) {z v : ℕ} → v ≤ Q .h + 1 → Anchor (flip Q) z (Q .h + 2 - v) → Anchor Q z v
+flip-anchor Q le a =
     record { blend = a .blend; live = a .live; across = a .across; up = omega arith }
 
 abbrev Inner : View → ℕ → ℕ → Type 0
@@ -127,7 +127,7 @@ module _ (Q : View) (t : TightView Q) (z v : ℕ) (i : Inner Q z v) (c : Crossin
       swapped k lt =
           let P = flip (turn Q) in
           turn-anchor
-          (flip-anchor (turn Q) (turn-sound Q s) (omega arith)
+          (flip-anchor (turn Q) (omega arith)
           (turn-anchor
           (beside-crossing (turn P) (turn-tight P (flip-tight (turn Q) (turn-tight Q t))) (Q .w + 2 - z) v (omega arith, omega arith, i .2, i .3)
           (turn-crossing (flip-crossing (turn Q) (turn-crossing c)))
@@ -207,14 +207,14 @@ left-crossing : (Q : View) (t : TightView Q) (z v : ℕ) → z ≤ Q .w → Cros
 left-crossing Q t z v hz c =
     let u = c .up in
     if-at-most v (Q .h) (λ le. low-crossing Q t z v hz le c)
-    (λ far. flip-anchor Q (t .is-sound) (u .1) (low-crossing (flip Q) (flip-tight Q t) z (Q .h + 2 - v) hz (omega arith) (flip-crossing Q c)))
+    (λ far. flip-anchor Q (u .1) (low-crossing (flip Q) (flip-tight Q t) z (Q .h + 2 - v) hz (omega arith) (flip-crossing Q c)))
 
 pub crossing-anchored : (Q : View) (t : TightView Q) (z v : ℕ) → Crossing Q z v → Anchor Q z v
 crossing-anchored Q t z v c =
     let a = c .across in
     if-at-most z (Q .w) (λ le. left-crossing Q t z v le c)
     (λ far. turn-anchor
-    (flip-anchor (turn Q) (turn-sound Q (t .is-sound)) (a .1)
+    (flip-anchor (turn Q) (a .1)
     (turn-anchor
     (left-crossing (turn (flip (turn Q))) (turn-tight (flip (turn Q)) (flip-tight (turn Q) (turn-tight Q t))) (Q .w + 2 - z) v (omega arith)
     (turn-crossing (flip-crossing (turn Q) (turn-crossing c)))))))

@@ -486,13 +486,13 @@ pub record Piece (Q : View) (z : ℕ) (drawn : ℕ → Bool) (x : Side) (X : Ble
   pub alone-right : (i : ℕ) → u < i → i < v → Q .levels i z ≡ true → i ≡ w
 
 -- A square in one of its quadrants: the blend of the map before with the square in the same quadrant is cut as well.
-module _ (z a b u w v : ℕ) where
-  abbrev Taken : View → (ℕ → Bool) → Side → Side → ℕ → ℕ → Type 0
-  Taken Q drawn p q j k = (B : Blend) → Over Q p q j k B → KnotIn p z (Q .across B) × CutBy Q drawn B
+abbrev Taken : View → ℕ → (ℕ → Bool) → Side → Side → ℕ → ℕ → Type 0
+Taken Q z drawn p q j k = (B : Blend) → Over Q p q j k B → KnotIn p z (Q .across B) × CutBy Q drawn B
 
+module _ (z a b u w v : ℕ) where
   upper-upper : (Q : View) (t : TightView Q) (drawn : ℕ → Bool) → Drawn Q z a b drawn → (x : Side) (X : Blend) → Piece Q z drawn x X u w v →
       (j k : ℕ) → OnSide (Q .w) j → OnSide (Q .h) k → StepIn upper j (triple (from x (Q .across X)) z (to x (Q .across X))) → StepIn upper k (triple u w v) →
-      Taken Q drawn upper upper j k
+      Taken Q z drawn upper upper j k
   upper-upper Q t drawn d x X p j k hj hk i e B o =
       also-cut Q t z a b drawn d x X (p .live) (p .astride) (p .cut) w (p .right) (p .lo) (p .hi) (omega arith) v
       (λ n lo hi on. let same = p .alone-right n (omega arith) hi on in omega arith)
@@ -514,9 +514,9 @@ flip-piece Q s z drawn x X u w v p =
       alone-right = λ i a b on. let e = p .alone-right (Q .h + 2 - i) (omega arith) (omega arith) on in omega arith;
     }
 
-swap-piece : (Q : View) (s : SoundView Q) (z : ℕ) → (1 < z) × (z ≤ Q .w) → (drawn : ℕ → Bool) (x : Side) (X : Blend) (u w v : ℕ) →
+swap-piece : (Q : View) (z : ℕ) → (1 < z) × (z ≤ Q .w) → (drawn : ℕ → Bool) (x : Side) (X : Blend) (u w v : ℕ) →
     Piece Q z drawn x X u w v → Piece (swap Q) (Q .w + 2 - z) drawn (opposite x) X u w v
-swap-piece Q s z i drawn x X u w v p =
+swap-piece Q z i drawn x X u w v p =
     record {
       live = p .live;
       astride = by x (p .astride);
@@ -537,7 +537,7 @@ swap-piece Q s z i drawn x X u w v p =
 module _ (Q : View) (t : TightView Q) (z a b : ℕ) (drawn : ℕ → Bool) (d : Drawn Q z a b drawn) (x : Side) (X : Blend) (u w v : ℕ)
     (p : Piece Q z drawn x X u w v) (j k : ℕ) (hj : OnSide (Q .w) j) (hk : OnSide (Q .h) k) where
   upper-any : (q : Side) → StepIn upper j (triple (from x (Q .across X)) z (to x (Q .across X))) → StepIn q k (triple u w v) →
-      Taken z a b u w v Q drawn upper q j k
+      Taken Q z drawn upper q j k
   upper-any upper i e B o = upper-upper z a b u w v Q t drawn d x X p j k hj hk i e B o
   upper-any lower i e B o =
       let s = t .is-sound in
@@ -548,13 +548,13 @@ module _ (Q : View) (t : TightView Q) (z a b : ℕ) (drawn : ℕ → Bool) (d : 
 
 swap-any : (Q : View) (t : TightView Q) (z a b : ℕ) (drawn : ℕ → Bool) (d : Drawn Q z a b drawn) (x : Side) (X : Blend) (u w v : ℕ)
     (p : Piece Q z drawn x X u w v) (j k : ℕ) (hj : OnSide (Q .w) j) (hk : OnSide (Q .h) k) (q : Side) →
-    StepIn lower j (triple (from x (Q .across X)) z (to x (Q .across X))) → StepIn q k (triple u w v) → Taken z a b u w v Q drawn lower q j k
+    StepIn lower j (triple (from x (Q .across X)) z (to x (Q .across X))) → StepIn q k (triple u w v) → Taken Q z drawn lower q j k
 swap-any Q t z a b drawn d x X u w v p j k hj hk q i e B o =
     let s = t .is-sound in
     let r = s .x .rises B (o .live) in
     let inner = d .inner in
     let got = upper-any (swap Q) (swap-tight Q t) (Q .w + 2 - z) a b drawn (swap-drawn Q s z a b drawn d) (opposite x) X u w v
-    (swap-piece Q s z inner drawn x X u w v p) (Q .w + 1 - j) k (omega arith, omega arith) hk q (turned x (s .x .rises X (p .live)) i) e B
+    (swap-piece Q z inner drawn x X u w v p) (Q .w + 1 - j) k (omega arith, omega arith) hk q (turned x (s .x .rises X (p .live)) i) e B
     (record { live = o .live; column = in-mirror (Q .w) lower j (Q .across B) r hj (o .column); row = o .row }) in
     ((omega arith, omega arith), got .1)
   where

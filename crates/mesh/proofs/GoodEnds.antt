@@ -85,10 +85,10 @@ abbrev Room : Layout → Direction → Side → ℕ → Type 0
 Room P d lower k = (1 ≤ k) × (k < side (other d) (P .w) (P .h) + 1)
 Room P d upper k = (1 < k) × (k ≤ side (other d) (P .w) (P .h) + 1)
 
-inner-room : (P : Layout) (d : Direction) (z : ℕ) (e : Side) (k : ℕ) → Room P d e k → (k ≡ edgeOf (viewOf d P) e → ⊥) →
+inner-room : (P : Layout) (d : Direction) (e : Side) (k : ℕ) → Room P d e k → (k ≡ edgeOf (viewOf d P) e → ⊥) →
     (1 < k) × (k < side (other d) (P .w) (P .h) + 1)
-inner-room P d z lower k r ne = (omega arith, omega arith)
-inner-room P d z upper k r ne = (omega arith, omega arith)
+inner-room P d lower k r ne = (omega arith, omega arith)
+inner-room P d upper k r ne = (omega arith, omega arith)
 
 -- a gap's end: the domain's edge, or a line that goes on
 pub gap-either : (P : Layout) (d : Direction) (z : ℕ) (e : Side) (k : ℕ) → gapEnds P d z e k ≡ true →
@@ -112,7 +112,7 @@ pub good-says : (P : Layout) (d : Direction) (z : ℕ) (e : Side) (k : ℕ) → 
 unfolding goodEnd
 good-says P d z e k room t =
     if-equal k (edgeOf (viewOf d P) e) edge
-    (λ ne. let inner = inner-room P d z e k room ne in
+    (λ ne. let inner = inner-room P d e k room ne in
     ⊎-elim (λ on. line inner on)
     (λ off. ⊎-elim (λ g. absurd (⊎-elim ne (λ on. true-not-false _ on off) (gap-either P d z e k g)))
     (λ g. let a = any-at (λ A. any (abreast d z e k A) (liveOf P)) (liveOf P) g in
@@ -249,7 +249,7 @@ module _ (P : Layout) (b : Built P) (s : Split) (d : Direction) (r : Ranged (P .
         by : (e : Side) → Good (viewOf d P) e z (endOf e s)
         by e =
             if-equal (endOf e s) (edgeOf (viewOf d P) e) edge
-            (λ ne. let inner = inner-room P d z e (endOf e s) (end-room e) ne in
+            (λ ne. let inner = inner-room P d e (endOf e s) (end-room e) ne in
             ⊎-elim (λ on. line inner on)
             (λ off. blends inner off (abreast-before e (endOf e s) (ends e inner off)))
             (either (meshOf P d z (outward e (endOf e s)))))

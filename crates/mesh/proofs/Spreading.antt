@@ -155,15 +155,15 @@ flip-used Q s z k on u =
       },
     )
 
-used-flip : (Q : View) (s : SoundView Q) (z k : ℕ) → OnSide (Q .h) k → Used (flip Q) z (Q .h + 1 - k) → Used Q z k
-used-flip Q s z k on u = (opposite (u .0), record { blend = u .1 .blend; live = u .1 .live; column = by (u .0) (u .1 .column); at = u .1 .at })
+used-flip : (Q : View) (z k : ℕ) → OnSide (Q .h) k → Used (flip Q) z (Q .h + 1 - k) → Used Q z k
+used-flip Q z k on u = (opposite (u .0), record { blend = u .1 .blend; live = u .1 .live; column = by (u .0) (u .1 .column); at = u .1 .at })
   where
     by : (y : Side) → StepIn y (Q .h + 1 - k) (mirror (Q .h) (Q .up (u .1 .blend))) → StepIn (opposite y) k (Q .up (u .1 .blend))
     by lower i = (omega arith, omega arith)
     by upper i = (omega arith, omega arith)
 
-flip-rests : (Q : View) (s : SoundView Q) (z : ℕ) → RestsAbove Q z → RestsBelow (flip Q) z
-flip-rests Q s z rests a lo hi off on =
+flip-rests : (Q : View) (z : ℕ) → RestsAbove Q z → RestsBelow (flip Q) z
+flip-rests Q z rests a lo hi off on =
     let r = rests (Q .h + 2 - a) (omega arith) (omega arith) (subst (λ (k : ℕ). Q .uprights z k ≡ true) (omega arith) on)
     (subst (λ (k : ℕ). Q .uprights z k ≡ false) (omega arith) off) in
     let k = r .knot in
@@ -180,7 +180,7 @@ used-along Q s z hz below above a b one le on i lo hi u k klo khi =
     if-at-most k i
     (λ down. all-down Q s z hz below (i - k) k (omega arith) (omega arith) (λ n nlo nhi. on n (omega arith) (omega arith))
     (subst (Used Q z) (omega arith) u))
-    (λ up. used-flip Q s z k (omega arith, omega arith)
-    (all-down (flip Q) (flip-sound Q s) z hz (flip-rests Q s z above) (k - i) (Q .h + 1 - k) (omega arith) (omega arith)
+    (λ up. used-flip Q z k (omega arith, omega arith)
+    (all-down (flip Q) (flip-sound Q s) z hz (flip-rests Q z above) (k - i) (Q .h + 1 - k) (omega arith) (omega arith)
     (λ n nlo nhi. on (Q .h + 1 - n) (omega arith) (omega arith))
     (subst (Used (flip Q) z) (omega arith) (flip-used Q s z i (omega arith, omega arith) u))))
