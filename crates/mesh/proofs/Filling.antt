@@ -85,12 +85,11 @@ module _ (Q : View) (t : TightView Q) where
         let r = t .x w z (inner .0) (inner .1) hz on in
         let k = r .1 in
         let rise = s .y .rises (k .blend) (k .live) in
-        let at = k .at in
         record {
           part = r .0;
           blend = k .blend;
           holds = record { live = k .live; column = k .column; lo = omega arith; hi = omega arith };
-          at = at;
+          at = k .at;
         }
 
     to-standing : (x : Side) (B : Blend) → Holding z w x B → (o : Standing) → (1 < w) × (w < Q .h + 1) → Agree x (o .part) B (o .blend)
@@ -247,9 +246,9 @@ pub record Drawn (Q : View) (z a b : ℕ) (drawn : ℕ → Bool) : Type 0 where
 was-on : (Q : View) {z a b : ℕ} {drawn : ℕ → Bool} → Drawn Q z a b drawn → (k : ℕ) → ((1 < a) × (k < a)) ⊎ ((b ≤ k) × (k ≤ Q .h)) → drawn k ≡ true →
     Q .uprights z k ≡ true
 was-on Q d k (inl off) on =
-    ⊎-elim (λ q. q) (λ o. absurd (⊎-elim (λ q. omega arith) (λ o. ⊎-elim (λ q. omega arith) (λ q. omega arith) o) o)) (d .only k (omega arith) on)
+    ⊎-elim (λ q. q) (⊎-elim (λ q. absurd (omega arith)) (⊎-elim (λ q. absurd (omega arith)) (λ q. absurd (omega arith)))) (d .only k (omega arith) on)
 was-on Q d k (inr off) on =
-    ⊎-elim (λ q. q) (λ o. absurd (⊎-elim (λ q. omega arith) (λ o. ⊎-elim (λ q. omega arith) (λ q. omega arith) o) o)) (d .only k (omega arith) on)
+    ⊎-elim (λ q. q) (⊎-elim (λ q. absurd (omega arith)) (⊎-elim (λ q. absurd (omega arith)) (λ q. absurd (omega arith)))) (d .only k (omega arith) on)
 
 -- the line cuts a blend that it enters
 abbrev pub CutBy : View → (ℕ → Bool) → Blend → Type 0
@@ -265,8 +264,7 @@ module _ (Q : View) (t : TightView Q) (z a b : ℕ) (drawn : ℕ → Bool) (d : 
   -- A level strictly inside a cut blend does not lie below the line,
   level-low : (x : Side) (B : Blend) → Live Q B → KnotIn x z (Q .across B) → CutBy Q drawn B → (w : ℕ) → Q .levels w z ≡ true →
       Q .up B .l < w → w < Q .up B .r → a ≤ w
-  level-low x B m p c w on lo hi =
-      if-at-most a w (λ le. le) (λ lt. absurd (under lt))
+  level-low x B m p c w on lo hi = if-at-most a w (λ le. le) (λ lt. absurd (under lt))
     where
       reach : w < a → a < Q .up B .r
       reach lt =
@@ -298,8 +296,8 @@ flip-drawn Q z a b drawn d =
       out-above = λ e. subst (λ (n : ℕ). drawn n ≡ true) (omega arith) (d .out-below (omega arith));
       only = λ k le e.
           ⊎-elim inl
-          (λ o. inr (⊎-elim (λ q. inl (omega arith, omega arith))
-          (λ o. inr (⊎-elim (λ q. inr (omega arith, omega arith)) (λ q. inl (omega arith, omega arith)) o)) o))
+          (⊎-elim (λ q. inr (inl (omega arith, omega arith)))
+          (⊎-elim (λ q. inr (inr (inr (omega arith, omega arith)))) (λ q. inr (inr (inl (omega arith, omega arith))))))
           (d .only (Q .h + 1 - k) (omega arith) e);
       low-end = flip-good Q upper z b (omega arith, omega arith) (d .high-end);
       high-end = flip-good Q lower z a (omega arith, omega arith) (d .low-end);
@@ -352,8 +350,7 @@ module _ (Q : View) (t : TightView Q) (z a b : ℕ) (drawn : ℕ → Bool) (d : 
           let start = ap (λ (C : Blend). Q .up C .l) is in
           let reach : Q .up (e .abreast .at x) .l ≡ e .abreast .reach = e .abreast .reaches x in
           d .old k (e .covered k (omega arith, khi))
-      by (blends i off e) =
-          absurd (apart i e off (met-at Q t z a (omega arith, omega arith) i lower e x B m p lo hi))
+      by (blends i off e) = absurd (apart i e off (met-at Q t z a (omega arith, omega arith) i lower e x B m p lo hi))
 
   -- and above it, if its anchor lies below the upper end, only past the edge.
   rows-above : (x : Side) (B : Blend) → Live Q B → KnotIn x z (Q .across B) → Q .up B .m < b → (k : ℕ) → b ≤ k → k < Q .up B .r → drawn k ≡ true
@@ -370,9 +367,7 @@ module _ (Q : View) (t : TightView Q) (z a b : ℕ) (drawn : ℕ → Bool) (d : 
           omega arith
 
       by : Good Q upper z b → drawn k ≡ true
-      by (edge e) =
-          let r = t .is-sound .y .rises B m in
-          subst (λ (n : ℕ). drawn n ≡ true) (omega arith) (d .out-above e)
+      by (edge e) = let r = t .is-sound .y .rises B m in subst (λ (n : ℕ). drawn n ≡ true) (omega arith) (d .out-above e)
       by (line i on) =
           absurd (no lower i (line-ends Q t z b (omega arith, omega arith) i lower on (d .free (b - 1) (omega arith) (omega arith)) .abreast))
       by (blends i off r) = absurd (no upper i r)

@@ -243,8 +243,8 @@ module _ (P : Layout) (b : Built P) (s : Split) (d : Direction) (r : Ranged (P .
         drawn-in upper = step-drawn P s d r (s .to + 1 - 1) (inl (omega arith, omega arith))
 
         off-row : (e : Side) → (1 < endOf e s) × (endOf e s < run + 1) → Row run s (outward e (endOf e s)) → ⊥
-        off-row lower i row = ⊎-elim (λ q. omega arith) (λ o. ⊎-elim (λ q. omega arith) (λ q. omega arith) o) row
-        off-row upper i row = ⊎-elim (λ q. omega arith) (λ o. ⊎-elim (λ q. omega arith) (λ q. omega arith) o) row
+        off-row lower i row = ⊎-elim (λ q. omega arith) (⊎-elim (λ q. omega arith) (λ q. omega arith)) row
+        off-row upper i row = ⊎-elim (λ q. omega arith) (⊎-elim (λ q. omega arith) (λ q. omega arith)) row
 
         by : (e : Side) → Good (viewOf d P) e z (endOf e s)
         by e =

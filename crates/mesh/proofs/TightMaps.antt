@@ -14,7 +14,7 @@ use Rattle.axis.proofs.Runs.{if-below, if-equal, throughout, until, downward, D
 use Rattle.axis.proofs.Triples.{rise-of}
 use Rattle.axis.proofs.Sides.{step-within, KnotOf}
 use Rattle.mesh.specs.Lines.{Direction, upright, level, other, side, onLine, Layout, layout, meshOf}
-use Rattle.mesh.specs.Blends.{along, cuts, isCut, halve, live}
+use Rattle.mesh.specs.Blends.{along, cuts, isCut, halve}
 use Rattle.mesh.specs.Order.{Uncut}
 use Rattle.mesh.specs.Sound.{fourEverywhere, sound}
 use Rattle.mesh.specs.Splits.{liveOf, withLine}
@@ -160,11 +160,11 @@ module _ (P : Layout) (b : Built P) (s : Split) (d : Direction) (r : Ranged (P .
         own-end lower off row =
             ⊎-elim
             (λ i. if-equal v (s .from + 1) (λ e. e) (λ ne. absurd (true-not-false _ (step-drawn P s d r (v - 1) (inl (omega arith, omega arith))) off)))
-            (λ o. absurd (⊎-elim (λ i. omega arith) (λ i. omega arith) o)) row
+            (⊎-elim (λ i. absurd (omega arith)) (λ i. absurd (omega arith))) row
         own-end upper off row =
             ⊎-elim
             (λ i. if-equal v (s .to + 1) (λ e. e) (λ ne. absurd (true-not-false _ (step-drawn P s d r v (inl (omega arith, omega arith))) off)))
-            (λ o. absurd (⊎-elim (λ i. omega arith) (λ i. omega arith) o)) row
+            (⊎-elim (λ i. absurd (omega arith)) (λ i. absurd (omega arith))) row
 
         own-in : (e : Side) → meshOf N d z (outward e v) ≡ false → Row run s (inward e v) → (1 < endOf e s) × (endOf e s ≤ run)
         own-in e off row = let q = own-end e off row in (omega arith, omega arith)
@@ -250,7 +250,7 @@ module _ (P : Layout) (b : Built P) (s : Split) (d : Direction) (r : Ranged (P .
           within : (e : Direction) → e ≡ d → (k : ℕ) → OnSide (side (other e) (P .w) (P .h)) k → Row run s k → Gridded N d z k
           within e same k hk row =
               let hk : OnSide run k = subst (λ (i : Direction). OnSide (side (other i) (P .w) (P .h)) k) same hk in
-              ⊎-elim (λ i. new-gridded k (i .0) (i .1)) (λ o. absurd (⊎-elim (λ i. omega arith) (λ i. omega arith) o)) row
+              ⊎-elim (λ i. new-gridded k (i .0) (i .1)) (⊎-elim (λ i. absurd (omega arith)) (λ i. absurd (omega arith))) row
 
 -- A fresh map has no line inside the domain.
 pub fresh-built : (w h : ℕ) → 1 ≤ w → 1 ≤ h → h ≤ 128 → Built (layout w h [])
