@@ -194,19 +194,16 @@ pub data Good (Q : View) (e : Side) (z a : ℕ) : Type 0 where
   line : (1 < a) × (a < Q .h + 1) → Q .uprights z (outward e a) ≡ true → Good Q e z a
   blends : (1 < a) × (a < Q .h + 1) → Q .uprights z (outward e a) ≡ false → Abreast Q e z a → Good Q e z a
 
+flip-outward : (e : Side) (h a : ℕ) → (1 ≤ a) × (a ≤ h + 1) → outward e a ≡ h + 1 - outward (opposite e) (h + 2 - a)
+flip-outward lower h a ha = omega arith
+flip-outward upper h a ha = omega arith
+
 pub flip-good : (Q : View) (e : Side) (z a : ℕ) → (1 ≤ a) × (a ≤ Q .h + 1) → Good Q e z a → Good (flip Q) (opposite e) z (Q .h + 2 - a)
 flip-good Q lower z a ha (edge q) = edge (omega arith)
 flip-good Q upper z a ha (edge q) = edge (omega arith)
-flip-good Q lower z a ha (line i on) =
-    line (omega arith, omega arith) (subst (λ (n : ℕ). Q .uprights z n ≡ true) (omega arith) on)
-flip-good Q upper z a ha (line i on) =
-    line (omega arith, omega arith) (subst (λ (n : ℕ). Q .uprights z n ≡ true) (omega arith) on)
-flip-good Q lower z a ha (blends i off b) =
-    blends (omega arith, omega arith) (subst (λ (n : ℕ). Q .uprights z n ≡ false) (omega arith) off)
-    (flip-abreast Q lower z a b)
-flip-good Q upper z a ha (blends i off b) =
-    blends (omega arith, omega arith) (subst (λ (n : ℕ). Q .uprights z n ≡ false) (omega arith) off)
-    (flip-abreast Q upper z a b)
+flip-good Q e z a ha (line i on) = line (omega arith, omega arith) (subst (λ (n : ℕ). Q .uprights z n ≡ true) (flip-outward e (Q .h) a ha) on)
+flip-good Q e z a ha (blends i off b) =
+    blends (omega arith, omega arith) (subst (λ (n : ℕ). Q .uprights z n ≡ false) (flip-outward e (Q .h) a ha) off) (flip-abreast Q e z a b)
 
 pub swap-good : (Q : View) (s : SoundView Q) (e : Side) (z a : ℕ) → z ≤ Q .w + 2 → Good Q e z a → Good (swap Q) e (Q .w + 2 - z) a
 swap-good Q s lower z a hz (edge q) = edge q

@@ -25,10 +25,10 @@ use Rattle.mesh.proofs.Order.{some-half, left-uncut}
 use Rattle.mesh.proofs.Fresh.{fresh-line}
 use Rattle.mesh.proofs.Quadrants.{four-unnested}
 use Rattle.mesh.proofs.View.{View}
-use Rattle.mesh.proofs.Neighbours.{Abreast, line-ends, inward, outward, level-at}
+use Rattle.mesh.proofs.Neighbours.{Abreast, line-ends, inward, outward}
 use Rattle.mesh.proofs.Filling.{Good, edge, line, blends, edgeOf, Drawn}
 use Rattle.mesh.proofs.OneLineMore.{Ranged, Row, endOf, more-finer, step-drawn, step-either}
-use Rattle.mesh.proofs.TightMaps.{Built, viewOf, tight-view, still-built, twice}
+use Rattle.mesh.proofs.TightMaps.{Built, viewOf, tight-view, still-built, abreast-level, twice}
 use Rattle.mesh.proofs.SoundLines.{cut-either, halve-same, halve-cross, from-before, unless-cut, rise-of, line-four}
 
 module _ (P : Layout) (d : Direction) (z : ℕ) (e : Side) (k : ℕ) where
@@ -178,13 +178,6 @@ module _ (P : Layout) (b : Built P) (s : Split) (d : Direction) (r : Ranged (P .
   unfolding onLine
   good-on-line e good = or-left _ _ (by e (good-says P d z e (endOf e s) (end-room e) good))
     where
-      side-by : (a : Side) (k : ℕ) → Abreast (viewOf d P) a z k → meshOf P (other d) k z ≡ true
-      side-by a k q =
-          let known = tight-view P b d .is-sound in
-          let o = q .over upper in
-          let rise = known .x .rises (q .at upper) (q .live upper) in
-          level-at (viewOf d P) known (q .at upper) (q .live upper) (q .anchored upper) (omega arith) (omega arith)
-
       inside : z < side (other (other d)) (P .w) (P .h) + 2
       inside = subst (λ (f : Direction). z < side f (P .w) (P .h) + 2) (sym (twice d)) (omega arith)
 
@@ -192,15 +185,15 @@ module _ (P : Layout) (b : Built P) (s : Split) (d : Direction) (r : Ranged (P .
       by lower (edge q) = fresh-line (P .w) (P .h) (P .splits) (other d) (s .from + 1) z (inr (inl q)) inside
       by upper (edge q) = fresh-line (P .w) (P .h) (P .splits) (other d) (s .to + 1) z (inr (inr (inl q))) inside
       by lower (line i on) =
-          side-by upper (s .from + 1)
+          abreast-level P b d
           (line-ends (viewOf d P) (tight-view P b d) z (s .from + 1) (omega arith, omega arith) i upper on
           (free (s .from + 1) (omega arith) (omega arith)) .abreast)
       by upper (line i on) =
-          side-by lower (s .to + 1)
+          abreast-level P b d
           (line-ends (viewOf d P) (tight-view P b d) z (s .to + 1) (omega arith, omega arith) i lower on
           (free (s .to + 1 - 1) (omega arith) (omega arith)) .abreast)
-      by lower (blends i off q) = side-by lower (s .from + 1) q
-      by upper (blends i off q) = side-by upper (s .to + 1) q
+      by lower (blends i off q) = abreast-level P b d q
+      by upper (blends i off q) = abreast-level P b d q
 
   -- A sound map is left only by good ends, if the ends lie on crossing lines and the split cuts something.
   module _ (on-lines : (e : Side) → onLine (meshOf P) (other d) (endOf e s) z ≡ true) (some-cut : any (isCut (meshOf (withLine P s))) (liveOf P) ≡ true)

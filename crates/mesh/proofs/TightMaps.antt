@@ -24,7 +24,7 @@ use Rattle.mesh.proofs.Cuts.{RiseB, Cut, cut-exactly, cut-fact, cut-tes
 use Rattle.mesh.proofs.SoundMaps.{live-left, live-proper}
 use Rattle.mesh.proofs.Fresh.{fresh-positions, fresh-live, fresh-sound}
 use Rattle.mesh.proofs.View.{View, turn, Knot, SoundView, TightView, turn-sound}
-use Rattle.mesh.proofs.Neighbours.{grid-knot, level-at, inward, outward, line-ends}
+use Rattle.mesh.proofs.Neighbours.{Abreast, grid-knot, level-at, inward, outward, line-ends}
 use Rattle.mesh.proofs.Spreading.{Used, Rests, used-along}
 use Rattle.mesh.proofs.MapView.{view, sound-view}
 use Rattle.mesh.proofs.Grids.{OnGrid, stays-on-grid, half-on-grid}
@@ -75,6 +75,14 @@ tight-view P b level =
       x = λ v j lo hi hj on. level-knot P (b .wide) (b .high) (b .four) level v j (lo, omega arith) hj (b .tight upright v j (lo, omega arith) hj on);
       y = λ v j lo hi hj on. level-knot P (b .wide) (b .high) (b .four) upright v j (lo, omega arith) hj (b .tight level v j (lo, omega arith) hj on);
     }
+
+-- two blends abreast of an upright have a level beside it
+pub abreast-level : (P : Layout) (b : Built P) (d : Direction) {e : Side} {z k : ℕ} → Abreast (viewOf d P) e z k → meshOf P (other d) k z ≡ true
+abreast-level P b d q =
+    let known = tight-view P b d .is-sound in
+    let over = q .over upper in
+    let rise = known .x .rises (q .at upper) (q .live upper) in
+    level-at (viewOf d P) known (q .at upper) (q .live upper) (q .anchored upper) (omega arith) (omega arith)
 
 pub live-rises : (P : Layout) (b : Built P) (B : Blend) → List·Memᴰ B (liveOf P) → RiseB B
 live-rises P b B m = proper-rises (P .w) (P .h) B (live-proper (P .w) (P .h) (b .wide) (b .high) (meshOf P) B m)
@@ -150,11 +158,9 @@ module _ (P : Layout) (b : Built P) (s : Split) (d : Direction) (r : Ranged (P .
         old : meshOf P d z (inward e v) ≡ true → Rests (viewOf d N) z v
         old here-on =
             let off-before = false-of (meshOf P d z (outward e v)) (λ t. true-not-false _ (more-finer P s d z (outward e v) t) off) in
-            let q = tight-view P b d in
-            let a = line-ends (viewOf d P) q z v (omega arith, omega arith) (omega arith, omega arith) e here-on off-before .abreast in
-            let o = a .over upper in
-            let rise = q .is-sound .x .rises (a .at upper) (a .live upper) in
-            rests-beside v z hv (inl refl) (level-at (viewOf d P) (q .is-sound) (a .at upper) (a .live upper) (a .anchored upper) (omega arith) (omega arith))
+            rests-beside v z hv (inl refl)
+            (abreast-level P b d
+            (line-ends (viewOf d P) (tight-view P b d) z v (omega arith, omega arith) (omega arith, omega arith) e here-on off-before .abreast))
 
         own-end : (e : Side) → meshOf N d z (outward e v) ≡ false → Row run s (inward e v) → v ≡ endOf e s
         own-end lower off row =
