@@ -43,8 +43,7 @@ flip-crossing Q {z} {v} c =
     }
 
 flip-anchor : (Q : View) {z v : ℕ} → v ≤ Q .h + 1 → Anchor (flip Q) z (Q .h + 2 - v) → Anchor Q z v
-flip-anchor Q le a =
-    record { blend = a .blend; live = a .live; across = a .across; up = omega arith }
+flip-anchor Q le a = record { blend = a .blend; live = a .live; across = a .across; up = omega arith }
 
 abbrev Inner : View → ℕ → ℕ → Type 0
 Inner Q z v = (1 < z) × (z ≤ Q .w) × (1 < v) × (v ≤ Q .h)

@@ -208,8 +208,7 @@ flip-good Q e z a ha (blends i off b) =
 pub swap-good : (Q : View) (s : SoundView Q) (e : Side) (z a : ℕ) → z ≤ Q .w + 2 → Good Q e z a → Good (swap Q) e (Q .w + 2 - z) a
 swap-good Q s lower z a hz (edge q) = edge q
 swap-good Q s upper z a hz (edge q) = edge q
-swap-good Q s e z a hz (line i on) =
-    line i (subst (λ (n : ℕ). Q .uprights n (outward e a) ≡ true) (omega arith) on)
+swap-good Q s e z a hz (line i on) = line i (subst (λ (n : ℕ). Q .uprights n (outward e a) ≡ true) (omega arith) on)
 swap-good Q s e z a hz (blends i off b) =
     blends i (subst (λ (n : ℕ). Q .uprights n (outward e a) ≡ false) (omega arith) off)
     (record {

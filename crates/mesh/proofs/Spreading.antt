@@ -96,8 +96,7 @@ module _ (Q : View) (s : SoundView Q) (z : ℕ) (hz : (1 < z) × (z ≤ Q .w)) (
         clash r (r .part) (u (r .part)) (r .knot) (reaches (r .part)) below domain
       where
         reaches : (x : Side) → Q .up (u x .blend) .l ≤ e
-        reaches x =
-            if-at-most (Q .up (u x .blend) .l) e (λ le. le) (λ gt. absurd (bare (u x) (λ k a b. covered k (omega arith) b)))
+        reaches x = if-at-most (Q .up (u x .blend) .l) e (λ le. le) (λ gt. absurd (bare (u x) (λ k a b. covered k (omega arith) b)))
 
         clash : (r : Rests Q z (e + 1)) (x : Side) (w : Under x) → Knot Q x (r .column) (e + 1) → Q .up (w .blend) .l ≤ e → e < v - 1 → 1 ≤ e → ⊥
         clash r x w k le lt one =

@@ -87,7 +87,7 @@ abreast-level P b d q =
 pub live-rises : (P : Layout) (b : Built P) (B : Blend) → List·Memᴰ B (liveOf P) → RiseB B
 live-rises P b B m = proper-rises (P .w) (P .h) B (live-proper (P .w) (P .h) (b .wide) (b .high) (meshOf P) B m)
 
-pub live-uncut : (P : Layout) (b : Built P) (B : Blend) → List·Memᴰ B (liveOf P) → Uncut (meshOf P) B
+live-uncut : (P : Layout) (b : Built P) (B : Blend) → List·Memᴰ B (liveOf P) → Uncut (meshOf P) B
 live-uncut P b B m = live-left (P .w) (P .h) (b .wide) (b .high) (meshOf P) B .0 m .2 .uncut
 
 pub twice : (d : Direction) → other (other d) ≡ d

@@ -23,8 +23,7 @@ pub record View : Type 0 where
   pub blends : List Blend
 
 abbrev pub turn : View → View
-turn Q =
-    record { w = Q .h; h = Q .w; across = Q .up; up = Q .across; uprights = Q .levels; levels = Q .uprights; blends = Q .blends }
+turn Q = record { w = Q .h; h = Q .w; across = Q .up; up = Q .across; uprights = Q .levels; levels = Q .uprights; blends = Q .blends }
 
 abbrev pub flip : View → View
 flip Q =
