@@ -1,17 +1,18 @@
 -- A triple part by part: steps and knots in its lower and its upper part, what a cut there leaves of it, and the triple seen from the other end
 -- of its side. Nothing here knows how many axes there are.
-use Prim.Native.Nat.{ℕ, _+_, _-_, _≤_, _<_, min, max}
+use Prim.Native.Nat.{ℕ, _+_, _-_, _≤_, _<_, max}
 use native.Mathlib.Omega.{arith}
 use mathlib.Core.Path.{_≡_, refl, _∙_}
 use mathlib.Core.Logic.{_⊎_, inl, inr, ⊎-elim}
 use mathlib.Core.Bool.{true, _||_}
 use lib.Dec.{ltb, eqb}
-use borrow.Author.Tests.{eqb-true, eq-eqb, ltb-true, ltb-false, lt-ltb}
+use borrow.Author.Tests.{eqb-true, eq-eqb, ltb-true, lt-ltb}
 use Rattle.axis.specs.Triple.{triple, Side, lower, upper, half, isKnot, knotIn, RisesIn}
 use Rattle.axis.specs.declared.Triple.{Triple}
-use Rattle.axis.proofs.Tests.{either, and-both, and-of, or-either, or-left, or-right, within-of, within-at}
-use Rattle.axis.proofs.Triples.{Rise, Inside, keeps-middle, half-below, half-above}
+use Rattle.axis.proofs.Tests.{and-both, and-of, or-either, or-left, or-right, within-of, within-at}
+use Rattle.axis.proofs.Triples.{Rise, Inside, Knots, keeps-middle, half-below, half-above}
 use Rattle.axis.proofs.Parts.{OnSide, lies}
+use Rattle.axis.proofs.Runs.{if-below, neither}
 
 -- the unit step from knot j lies in the lower or the upper part of a triple
 abbrev pub StepIn : Side → ℕ → Triple → Type 0
@@ -39,6 +40,33 @@ to upper t = t .r
 pub knot-step : (x : Side) (z : ℕ) (t : Triple) → KnotIn x z t → StepIn x z t
 knot-step lower z t p = (omega arith, omega arith)
 knot-step upper z t p = (omega arith, omega arith)
+
+-- the steps beside the knot lie there too
+pub step-beside : (x : Side) (z j : ℕ) (t : Triple) → (j ≤ z) × (z ≤ j + 1) → KnotIn x z t → StepIn x j t
+step-beside lower z j t b p = (omega arith, omega arith)
+step-beside upper z j t b p = (omega arith, omega arith)
+
+-- a step there that does not start where the part begins starts inside it; and what is known of a triple's knots is known of where a part begins
+pub past-start : (x : Side) (z : ℕ) (t : Triple) → StepIn x z t → (from x t ≡ z → ⊥) → KnotIn x z t
+past-start lower z t i ne = (omega arith, omega arith)
+past-start upper z t i ne = (omega arith, omega arith)
+
+pub knots-from : {P : ℕ → Type 0} {t : Triple} (x : Side) → Knots P t → P (from x t)
+knots-from lower k = k .l
+knots-from upper k = k .m
+
+-- a part lies within its triple
+pub part-within : (x : Side) (t : Triple) → Rise t → (t .l ≤ from x t) × (to x t ≤ t .r)
+part-within lower t r = (omega arith, omega arith)
+part-within upper t r = (omega arith, omega arith)
+
+pub step-within : (x : Side) (j : ℕ) (t : Triple) → Rise t → StepIn x j t → (t .l ≤ j) × (j < t .r)
+step-within lower j t r i = (omega arith, omega arith)
+step-within upper j t r i = (omega arith, omega arith)
+
+pub knot-between : (x : Side) (z : ℕ) (t : Triple) → KnotIn x z t → (from x t < z) × (z < to x t)
+knot-between lower z t p = p
+knot-between upper z t p = p
 
 -- The column beside knot z in which a triple with the middle z has that part; and one over it without z for its middle has z inside the part.
 abbrev pub column : Side → ℕ → ℕ
@@ -92,13 +120,12 @@ knot-of z t (inr (inr e)) = or-right (eqb z (t .l) || eqb z (t .m)) _ (eq-eqb _ 
 pub half-knot : (z y : ℕ) (t : Triple) → KnotOf z t → (s : Side) × KnotOf z (half s y t)
 unfolding half
 half-knot z y t (inl e) = (lower, inl e)
-half-knot z y t (inr (inl e)) = let k = keeps-middle y t in (k .0, inr (inl (e ∙ (let m = k .1 in omega arith))))
+half-knot z y t (inr (inl e)) = let k = keeps-middle y t in (k .0, inr (inl (e ∙ (omega arith))))
 half-knot z y t (inr (inr e)) = (upper, inr (inr e))
 
 pub half-step : (k y : ℕ) (t : Triple) → t .l ≤ k → k < t .r → (s : Side) × (half s y t .l ≤ k) × (k < half s y t .r)
 unfolding half
-half-step k y t lo hi =
-    ⊎-elim (λ e. (lower, lo, ltb-true _ _ e)) (λ e. let le = ltb-false k (max y (t .m)) e in (upper, omega arith, hi)) (either (ltb k (max y (t .m))))
+half-step k y t lo hi = if-below k (max y (t .m)) (λ lt. (lower, lo, lt)) (λ le. (upper, omega arith, hi))
 
 -- The halves of a triple by a line inside one of its parts: one has that part for its own, about the line; the other keeps the middle.
 pub halves-of : (x : Side) (z : ℕ) (t : Triple) → KnotIn x z t → half x z t ≡ triple (from x t) z (to x t)
@@ -120,6 +147,14 @@ kept-in lower z t a upper j i = i
 kept-in upper z t a lower j i = i
 kept-in upper z t a upper j i = (omega arith, omega arith)
 
+pub kept-inside : (x : Side) (z y : ℕ) (t : Triple) → KnotIn x z t → Inside y (kept x z t) → Inside y t × (y ≡ z → ⊥)
+kept-inside lower z y t p i = let lo = i .lo in let hi = i .hi in (record { lo = omega arith; hi = hi; off = i .off }, omega arith)
+kept-inside upper z y t p i = let lo = i .lo in (record { lo = lo; hi = omega arith; off = i .off }, omega arith)
+
+pub kept-rises : (x : Side) (z : ℕ) (t : Triple) → Rise t → KnotIn x z t → (kept x z t .l < t .m) × (t .m < kept x z t .r)
+kept-rises lower z t r p = (omega arith, omega arith)
+kept-rises upper z t r p = (omega arith, omega arith)
+
 pub kept-away : (x : Side) (z : ℕ) (t : Triple) (f g j : ℕ) → StepIn x j (kept x z t) → StepIn x j (triple f z g) → ⊥
 kept-away lower z t f g j i k = omega arith
 kept-away upper z t f g j i k = omega arith
@@ -134,8 +169,7 @@ pub part-of : (z : ℕ) (t : Triple) → Inside z t → (x : Side) × KnotIn x z
 part-of z t i =
     let lo = i .lo in
     let hi = i .hi in
-    let off = i .off in
-    ⊎-elim (λ e. (lower, (lo, ltb-true _ _ e))) (λ e. let le = ltb-false z (t .m) e in (upper, (omega arith, hi))) (either (ltb z (t .m)))
+    if-below z (t .m) (λ lt. (lower, (lo, lt))) (λ le. (upper, (omega arith, hi)))
 
 pub inside-of : (x : Side) (z : ℕ) (t : Triple) → Rise t → KnotIn x z t → Inside z t
 inside-of lower z t r p = record { lo = omega arith; hi = omega arith; off = omega arith }
@@ -157,17 +191,13 @@ unfolding half
 still-clear s y z t r i c x p = by s x p
   where
     outside : (t .l < z) × (z < t .r) → z ≡ t .m
-    outside o =
-        ⊎-elim (λ e. absurd (c lower (o .0, ltb-true _ _ e)))
-        (λ e. let le = ltb-false z (t .m) e in
-        ⊎-elim (λ f. absurd (c upper (ltb-true _ _ f, o .1))) (λ f. let ge = ltb-false (t .m) z f in omega arith) (either (ltb (t .m) z)))
-        (either (ltb z (t .m)))
+    outside o = neither z (t .m) (λ lt. c lower (o .0, lt)) (λ gt. c upper (gt, o .1))
 
     by : (s x : Side) → KnotIn x z (half s y t) → ⊥
-    by lower lower p = let lo = i .lo in let hi = i .hi in let o = outside (omega arith, omega arith) in omega arith
-    by lower upper p = let lo = i .lo in let hi = i .hi in let o = outside (omega arith, omega arith) in omega arith
-    by upper lower p = let lo = i .lo in let hi = i .hi in let o = outside (omega arith, omega arith) in omega arith
-    by upper upper p = let lo = i .lo in let hi = i .hi in let o = outside (omega arith, omega arith) in omega arith
+    by lower lower p = let o = outside (omega arith, omega arith) in omega arith
+    by lower upper p = let o = outside (omega arith, omega arith) in omega arith
+    by upper lower p = let o = outside (omega arith, omega arith) in omega arith
+    by upper upper p = let o = outside (omega arith, omega arith) in omega arith
 
 -- The triple, and a knot and a step, seen from the other end of the side.
 abbrev pub mirror : ℕ → Triple → Triple

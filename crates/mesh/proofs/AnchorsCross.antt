@@ -2,13 +2,10 @@
 use Prim.Native.Nat.{ℕ, _+_, _-_, _≤_, _<_}
 use native.Mathlib.Omega.{arith}
 use mathlib.Core.Path.{_≡_, refl, sym, ap, subst}
-use mathlib.Core.Logic.{⊎-elim}
 use mathlib.Core.Bool.{true}
-use lib.Dec.{leb, ltb, eqb}
-use borrow.Author.Tests.{leb-true, leb-false, ltb-true, ltb-false, eqb-true, eqb-false}
 use Rattle.axis.specs.Triple.{Side, lower, upper}
-use Rattle.axis.proofs.Tests.{either}
 use Rattle.axis.proofs.Parts.{OnSide}
+use Rattle.axis.proofs.Runs.{if-at-most, if-below, if-equal}
 use Rattle.mesh.specs.declared.Blend.{Blend}
 use Rattle.mesh.proofs.View.{View, turn, flip, Live, Over, Knot, SoundView, TightView, turn-sound, turn-tight, flip-tight}
 use Rattle.mesh.proofs.Neighbours.{neighbours, grid-at, level-at}
@@ -36,24 +33,17 @@ turn-anchor a = record { blend = a .blend; live = a .live; across = a .up; up = 
 
 flip-crossing : (Q : View) {z v : ℕ} → Crossing Q z v → Crossing (flip Q) z (Q .h + 2 - v)
 flip-crossing Q {z} {v} c =
-    let u = c .up in
-    let e : v - 1 ≡ Q .h + 1 - (Q .h + 2 - v) = omega arith in
-    let f : v ≡ Q .h + 1 - (Q .h + 2 - v - 1) = omega arith in
-    let g : v ≡ Q .h + 2 - (Q .h + 2 - v) = omega arith in
     record {
       across = c .across;
       up = (omega arith, omega arith);
-      below = subst (λ (k : ℕ). Q .uprights z k ≡ true) f (c .above);
-      above = subst (λ (k : ℕ). Q .uprights z k ≡ true) e (c .below);
-      left = subst (λ (k : ℕ). Q .levels k (z - 1) ≡ true) g (c .left);
-      right = subst (λ (k : ℕ). Q .levels k z ≡ true) g (c .right);
+      below = subst (λ (k : ℕ). Q .uprights z k ≡ true) (omega arith) (c .above);
+      above = subst (λ (k : ℕ). Q .uprights z k ≡ true) (omega arith) (c .below);
+      left = subst (λ (k : ℕ). Q .levels k (z - 1) ≡ true) (omega arith) (c .left);
+      right = subst (λ (k : ℕ). Q .levels k z ≡ true) (omega arith) (c .right);
     }
 
-flip-anchor : (Q : View) → SoundView Q → {z v : ℕ} → v ≤ Q .h + 1 → Anchor (flip Q) z (Q .h + 2 - v) → Anchor Q z v
-flip-anchor Q s le a =
-    let r = s .y .rises (a .blend) (a .live) in
-    let e = a .up in
-    record { blend = a .blend; live = a .live; across = a .across; up = omega arith }
+flip-anchor : (Q : View) {z v : ℕ} → v ≤ Q .h + 1 → Anchor (flip Q) z (Q .h + 2 - v) → Anchor Q z v
+flip-anchor Q le a = record { blend = a .blend; live = a .live; across = a .across; up = omega arith }
 
 abbrev Inner : View → ℕ → ℕ → Type 0
 Inner Q z v = (1 < z) × (z ≤ Q .w) × (1 < v) × (v ≤ Q .h)
@@ -76,15 +66,14 @@ module _ (Q : View) (t : TightView Q) (z v : ℕ) (i : Inner Q z v) (c : Crossin
   under = (omega arith, omega arith)
 
   at-over : Over Q upper upper z v B
-  at-over = let r = s .y .rises B (k .live) in let e = k .at in record { live = k .live; column = k .column; row = (omega arith, omega arith) }
+  at-over = let r = s .y .rises B (k .live) in record { live = k .live; column = k .column; row = (omega arith, omega arith) }
 
   at-under : Over Q upper lower z (v - 1) B
-  at-under = let r = s .y .rises B (k .live) in let e = k .at in record { live = k .live; column = k .column; row = (omega arith, omega arith) }
+  at-under = let r = s .y .rises B (k .live) in record { live = k .live; column = k .column; row = (omega arith, omega arith) }
 
   standing : {y : Side} {j : ℕ} → (n : Knot (turn Q) y j z) → Over Q upper y z j (n .blend)
   standing n =
       let r = s .x .rises (n .blend) (n .live) in
-      let e = n .at in
       record { live = n .live; column = (omega arith, omega arith); row = n .column }
 
   module _ (off : Q .across B .m ≡ z → ⊥) where
@@ -92,23 +81,19 @@ module _ (Q : View) (t : TightView Q) (z v : ℕ) (i : Inner Q z v) (c : Crossin
     differ {y} {j} on n o =
         let is = s .one upper y z j B (n .blend) columns on o (standing n) in
         let q = ap (λ (C : Blend). Q .across C .m) is in
-        let e = n .at in
         off (omega arith)
 
     cut : (n : Knot (turn Q) lower v z) (p : Knot (turn Q) upper (v - 1) z) → ⊥
     cut n p =
         let a = neighbours Q s columns over at-over (standing n) in
         let b = neighbours Q s columns under (standing p) at-under in
-        let e = k .at in
-        let col = k .column in
         let rb = s .x .rises B (k .live) in
         let rn = s .y .rises (n .blend) (n .live) in
         let rp = s .y .rises (p .blend) (p .live) in
         s .x .clear B (k .live) z (record { lo = omega arith; hi = omega arith; off = λ q. off (omega arith) })
         (λ r lo hi.
-        ⊎-elim (λ f. let lt = ltb-true r v f in grid-at Q s (p .blend) (p .live) (p .at) (omega arith) (omega arith))
-        (λ f. let le = ltb-false r v f in grid-at Q s (n .blend) (n .live) (n .at) (omega arith) (omega arith))
-        (either (ltb r v)))
+        if-below r v (λ lt. grid-at Q s (p .blend) (p .live) (p .at) (omega arith) (omega arith))
+        (λ le. grid-at Q s (n .blend) (n .live) (n .at) (omega arith) (omega arith)))
 
     no : (y u : Side) → Knot (turn Q) y v z → Knot (turn Q) u (v - 1) z → ⊥
     no upper u n p = differ over n at-over
@@ -123,8 +108,7 @@ module _ (Q : View) (t : TightView Q) (z v : ℕ) (i : Inner Q z v) (c : Crossin
 
   beside-crossing : Anchor Q z v
   beside-crossing =
-      ⊎-elim (λ e. record { blend = B; live = k .live; across = eqb-true _ _ e; up = k .at }) (λ e. absurd (refuted (eqb-false _ _ e)))
-      (either (eqb (Q .across B .m) z))
+      if-equal (Q .across B .m) z (λ e. record { blend = B; live = k .live; across = e; up = k .at }) (λ off. absurd (refuted off))
 
 -- A crossing inside the domain:
 module _ (Q : View) (t : TightView Q) (z v : ℕ) (i : Inner Q z v) (c : Crossing Q z v) where
@@ -141,10 +125,8 @@ module _ (Q : View) (t : TightView Q) (z v : ℕ) (i : Inner Q z v) (c : Crossin
       swapped : (k : Knot Q lower z v) → Q .across (k .blend) .l < z → Anchor Q z v
       swapped k lt =
           let P = flip (turn Q) in
-          let r = s .x .rises (k .blend) (k .live) in
-          let col = k .column in
           turn-anchor
-          (flip-anchor (turn Q) (turn-sound Q s) (omega arith)
+          (flip-anchor (turn Q) (omega arith)
           (turn-anchor
           (beside-crossing (turn P) (turn-tight P (flip-tight (turn Q) (turn-tight Q t))) (Q .w + 2 - z) v (omega arith, omega arith, i .2, i .3)
           (turn-crossing (flip-crossing (turn Q) (turn-crossing c)))
@@ -156,8 +138,6 @@ module _ (Q : View) (t : TightView Q) (z v : ℕ) (i : Inner Q z v) (c : Crossin
           let r = s .some upper upper z v (omega arith, omega arith) (omega arith, omega arith) in
           let o = r .1 in
           let rise = s .y .rises (k .blend) (k .live) in
-          let e = k .at in
-          let col = k .column in
           let n = neighbours (turn Q) (turn-sound Q s) {x = upper} {j = v} {k = z} (omega arith, omega arith) (omega arith, omega arith)
           (record { live = o .live; column = o .row; row = o .column })
           (record { live = k .live; column = (omega arith, omega arith); row = k .column }) in
@@ -167,8 +147,7 @@ module _ (Q : View) (t : TightView Q) (z v : ℕ) (i : Inner Q z v) (c : Crossin
 
       by : (x : Side) → Knot Q x z v → Anchor Q z v
       by upper k = beside-crossing Q t z v i c k
-      by lower k =
-          ⊎-elim (λ e. swapped k (ltb-true _ _ e)) (λ e. turned k (ltb-false _ _ e)) (either (ltb (Q .across (k .blend) .l) z))
+      by lower k = if-below (Q .across (k .blend) .l) z (swapped k) (turned k)
 
 -- One on the left edge:
 module _ (Q : View) (t : TightView Q) (v : ℕ) (i : (1 < v) × (v ≤ Q .h)) (c : Crossing Q 1 v) where
@@ -179,90 +158,65 @@ module _ (Q : View) (t : TightView Q) (v : ℕ) (i : (1 < v) × (v ≤ Q .h)) (c
       s = t .is-sound
 
       found : (x : Side) × Knot Q x 1 v
-      found = let wide = s .x .wide in t .x v 1 (i .0) (omega arith) (omega arith, omega arith) (c .right)
+      found = t .x v 1 (i .0) (omega arith) (omega arith, omega arith) (c .right)
 
       corner : (B : Blend) × Over Q upper upper 1 v B
-      corner = let wide = s .x .wide in s .some upper upper 1 v (omega arith, omega arith) (omega arith, omega arith)
+      corner = s .some upper upper 1 v (omega arith, omega arith) (omega arith, omega arith)
 
       right : Knot Q lower 1 v → (Z : Blend) → Over Q upper upper 1 v Z → Anchor Q 1 v
       right k Z o =
-          let wide = s .x .wide in
           let rz = s .x .rises Z (o .live) in
           let ru = s .y .rises Z (o .live) in
           let rk = s .y .rises (k .blend) (k .live) in
           let rx = s .x .rises (k .blend) (k .live) in
-          let e = k .at in
-          let col = o .column in
-          let row = o .row in
           let n = neighbours (turn Q) (turn-sound Q s) {x = upper} {j = v} {k = 1} (omega arith, omega arith) (omega arith, omega arith)
           (record { live = o .live; column = o .row; row = o .column })
           (record { live = k .live; column = (omega arith, omega arith); row = k .column }) in
-          ⊎-elim (λ q. record { blend = Z; live = o .live; across = omega arith; up = eqb-true _ _ q })
-          (λ q. let off = eqb-false (Q .up Z .m) v q in
-          absurd (s .y .clear Z (o .live) v (record { lo = omega arith; hi = omega arith; off = λ same. off (sym same) })
+          if-equal (Q .up Z .m) v (λ at. record { blend = Z; live = o .live; across = omega arith; up = at })
+          (λ off. absurd (s .y .clear Z (o .live) v (record { lo = omega arith; hi = omega arith; off = λ same. off (sym same) })
           (λ j lo hi.
-          ⊎-elim (λ f. let zero = eqb-true j 0 f in subst (λ (u : ℕ). Q .levels v u ≡ true) (sym zero) (c .left))
-          (λ f. let pos = eqb-false j 0 f in level-at Q s (k .blend) (k .live) (k .at) (omega arith) (omega arith))
-          (either (eqb j 0)))))
-          (either (eqb (Q .up Z .m) v))
+          if-equal j 0 (λ zero. subst (λ (u : ℕ). Q .levels v u ≡ true) (sym zero) (c .left))
+          (λ pos. level-at Q s (k .blend) (k .live) (k .at) (omega arith) (omega arith)))))
 
       by : (x : Side) → Knot Q x 1 v → Anchor Q 1 v
       by upper k =
           let r = s .x .rises (k .blend) (k .live) in
-          let col = k .column in
           record { blend = k .blend; live = k .live; across = omega arith; up = k .at }
       by lower k = right k (corner .0) (corner .1)
 
 -- Anywhere but on the far edges; and then by flipping anywhere.
 low-crossing : (Q : View) (t : TightView Q) (z v : ℕ) → z ≤ Q .w → v ≤ Q .h → Crossing Q z v → Anchor Q z v
 low-crossing Q t z v hz hv c =
-    let a = c .across in
-    let u = c .up in
-    ⊎-elim
-    (λ e. let two = leb-true 2 z e in
-    ⊎-elim (λ f. let dos = leb-true 2 v f in inner-crossing Q t z v (omega arith, hz, omega arith, hv) c)
-    (λ f. let one = leb-false 2 v f in
-    let is : v ≡ 1 = omega arith in
+    if-below 1 z
+    (λ right. if-below 1 v (λ over. inner-crossing Q t z v (right, hz, over, hv) c)
+    (λ low. let is : v ≡ 1 = omega arith in
     turn-anchor (subst (λ (n : ℕ). Anchor (turn Q) n z) (sym is)
-    (edge-crossing (turn Q) (turn-tight Q t) z (omega arith, hz) (turn-crossing (subst (Crossing Q z) is c)))))
-    (either (leb 2 v)))
-    (λ e. let one = leb-false 2 z e in
-    let is : z ≡ 1 = omega arith in
+    (edge-crossing (turn Q) (turn-tight Q t) z (right, hz) (turn-crossing (subst (Crossing Q z) is c))))))
+    (λ first. let is : z ≡ 1 = omega arith in
     subst (λ (n : ℕ). Anchor Q n v) (sym is)
-    (⊎-elim (λ f. let dos = leb-true 2 v f in edge-crossing Q t v (omega arith, hv) (subst (λ (n : ℕ). Crossing Q n v) is c))
-    (λ f. let uno = leb-false 2 v f in
-    let s = t .is-sound in
+    (if-below 1 v (λ over. edge-crossing Q t v (over, hv) (subst (λ (n : ℕ). Crossing Q n v) is c))
+    (λ low. let s = t .is-sound in
     let r = s .some upper upper 1 1 (omega arith, omega arith) (omega arith, omega arith) in
     let o = r .1 in
     let rx = s .x .rises (r .0) (o .live) in
     let ry = s .y .rises (r .0) (o .live) in
-    let col = o .column in
-    let row = o .row in
-    record { blend = r .0; live = o .live; across = omega arith; up = omega arith })
-    (either (leb 2 v))))
-    (either (leb 2 z))
+    record { blend = r .0; live = o .live; across = omega arith; up = omega arith })))
 
 left-crossing : (Q : View) (t : TightView Q) (z v : ℕ) → z ≤ Q .w → Crossing Q z v → Anchor Q z v
 left-crossing Q t z v hz c =
     let u = c .up in
-    let high = t .is-sound .y .wide in
-    ⊎-elim (λ e. low-crossing Q t z v hz (leb-true _ _ e) c)
-    (λ e. let far = leb-false v (Q .h) e in
-    flip-anchor Q (t .is-sound) (u .1) (low-crossing (flip Q) (flip-tight Q t) z (Q .h + 2 - v) hz (omega arith) (flip-crossing Q c)))
-    (either (leb v (Q .h)))
+    if-at-most v (Q .h) (λ le. low-crossing Q t z v hz le c)
+    (λ far. flip-anchor Q (u .1) (low-crossing (flip Q) (flip-tight Q t) z (Q .h + 2 - v) hz (omega arith) (flip-crossing Q c)))
 
 pub crossing-anchored : (Q : View) (t : TightView Q) (z v : ℕ) → Crossing Q z v → Anchor Q z v
 crossing-anchored Q t z v c =
     let a = c .across in
-    let wide = t .is-sound .x .wide in
-    ⊎-elim (λ e. left-crossing Q t z v (leb-true _ _ e) c)
-    (λ e. let far = leb-false z (Q .w) e in
-    turn-anchor
-    (flip-anchor (turn Q) (turn-sound Q (t .is-sound)) (a .1)
+    if-at-most z (Q .w) (λ le. left-crossing Q t z v le c)
+    (λ far. turn-anchor
+    (flip-anchor (turn Q) (a .1)
     (turn-anchor
     (left-crossing (turn (flip (turn Q))) (turn-tight (flip (turn Q)) (flip-tight (turn Q) (turn-tight Q t))) (Q .w + 2 - z) v (omega arith)
     (turn-crossing (flip-crossing (turn Q) (turn-crossing c)))))))
-    (either (leb z (Q .w)))
 
 -- An anchor is a crossing by its blend's grid.
 pub anchor-crosses : (Q : View) (s : SoundView Q) (B : Blend) → Live Q B → Crossing Q (Q .across B .m) (Q .up B .m)

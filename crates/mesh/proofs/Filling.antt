@@ -4,13 +4,12 @@ use native.Mathlib.Omega.{arith}
 use mathlib.Core.Path.{_≡_, sym, ap, subst, _∙_}
 use mathlib.Core.Logic.{_⊎_, inl, inr, ⊎-elim}
 use mathlib.Core.Bool.{Bool, true, false}
-use lib.Dec.{leb, ltb, eqb}
-use borrow.Author.Tests.{leb-true, leb-false, ltb-true, ltb-false, eqb-true, eqb-false}
 use Rattle.axis.specs.Triple.{triple, Side, lower, upper, RisesIn}
-use Rattle.axis.proofs.Tests.{either, true-not-false}
+use Rattle.axis.proofs.Tests.{true-not-false}
 use Rattle.axis.proofs.Parts.{OnSide}
-use Rattle.axis.proofs.Triples.{Inside}
-use Rattle.axis.proofs.Sides.{StepIn, KnotIn, opposite, from, to, knot-step, mirror, in-mirror}
+use Rattle.axis.proofs.Runs.{if-at-most, if-below, if-equal}
+use Rattle.axis.proofs.Triples.{rise-of}
+use Rattle.axis.proofs.Sides.{StepIn, KnotIn, opposite, from, to, knot-step, past-start, knots-from, part-within, inside-of, mirror, in-mirror}
 use Rattle.mesh.specs.declared.Blend.{Blend}
 use Rattle.mesh.proofs.View.{View, turn, flip, swap, Live, Over, SoundView, TightView, turn-sound, flip-tight, swap-tight, flipped, on-mirror}
 use Rattle.mesh.proofs.Neighbours.{neighbours, level-at, Abreast, Ended, line-ends, outward, flip-abreast}
@@ -22,14 +21,9 @@ module _ (Q : View) (t : TightView Q) where
   -- a blend over column z and a row in which the upright z has no step: z lies strictly inside one of its parts
   pub astride : (x : Side) (B : Blend) (z k : ℕ) → Live Q B → StepIn x z (Q .across B) → Q .up B .l ≤ k → k < Q .up B .r → Q .uprights z k ≡ false →
       KnotIn x z (Q .across B)
-  astride lower B z k m i lo hi off =
-      (⊎-elim (λ e. let same = eqb-true (Q .across B .l) z e in
-      absurd (true-not-false _ (subst (λ (n : ℕ). Q .uprights n k ≡ true) same (s .x .grid B m k lo hi .l)) off))
-      (λ e. let ne = eqb-false (Q .across B .l) z e in omega arith) (either (eqb (Q .across B .l) z)), i .1)
-  astride upper B z k m i lo hi off =
-      (⊎-elim (λ e. let same = eqb-true (Q .across B .m) z e in
-      absurd (true-not-false _ (subst (λ (n : ℕ). Q .uprights n k ≡ true) same (s .x .grid B m k lo hi .m)) off))
-      (λ e. let ne = eqb-false (Q .across B .m) z e in omega arith) (either (eqb (Q .across B .m) z)), i .1)
+  astride x B z k m i lo hi off =
+      past-start x z (Q .across B) i
+      (λ same. true-not-false _ (subst (λ (n : ℕ). Q .uprights n k ≡ true) same (knots-from x (s .x .grid B m k lo hi))) off)
 
   -- Blends over one square, with their anchors both above it or both below it, have one part there, whichever it is.
   abbrev pub Agree : Side → Side → Blend → Blend → Type 0
@@ -62,28 +56,19 @@ module _ (Q : View) (t : TightView Q) where
   module _ (z w : ℕ) (hz : OnSide (Q .w) z) where
     inner-level : {x : Side} {B : Blend} → Holding z w x B → (Q .up B .m ≡ w → ⊥) → (1 < w) × (w < Q .h + 1)
     inner-level {x} {B} b off =
-        let r = s .y .rises B (b .live) in
-        let lo = b .lo in
-        let hi = b .hi in (
-          ⊎-elim (λ e. ltb-true 1 w e) (λ e. let le = ltb-false 1 w e in let n = s .y .near B (b .live) (omega arith) in absurd (off (omega arith))) (either (ltb 1 w)),
-          ⊎-elim (λ e. ltb-true w (Q .h + 1) e)
-          (λ e. let le = ltb-false w (Q .h + 1) e in let n = s .y .far B (b .live) (omega arith) in absurd (off (omega arith))) (either (ltb w (Q .h + 1))),
+        let r = s .y .rises B (b .live) in (
+          if-below 1 w (λ lt. lt) (λ le. let n = s .y .near B (b .live) (omega arith) in absurd (off (omega arith))),
+          if-below w (Q .h + 1) (λ lt. lt) (λ le. let n = s .y .far B (b .live) (omega arith) in absurd (off (omega arith))),
         )
 
     both-below : (x u : Side) (B C : Blend) → Holding z w x B → Holding z w u C → Q .up B .m ≤ w → Q .up C .m ≤ w → w ≤ Q .h → Agree x u B C
     both-below x u B C b c p q le =
-        let lo = b .lo in
-        let rb = b .hi in
-        let rc = c .hi in
         over-one x u upper z w B C hz (omega arith, omega arith)
         (record { live = b .live; column = b .column; row = (p, b .hi) }) (record { live = c .live; column = c .column; row = (q, c .hi) })
 
     both-above : (x u : Side) (B C : Blend) → Holding z w x B → Holding z w u C → w ≤ Q .up B .m → w ≤ Q .up C .m → 2 ≤ w → Agree x u B C
     both-above x u B C b c p q two =
         let rb = s .y .rises B (b .live) in
-        let lb = b .lo in
-        let lc = c .lo in
-        let hb = b .hi in
         over-one x u lower z (w - 1) B C hz (omega arith, omega arith)
         (record { live = b .live; column = b .column; row = (omega arith, omega arith) })
         (record { live = c .live; column = c .column; row = (omega arith, omega arith) })
@@ -100,27 +85,22 @@ module _ (Q : View) (t : TightView Q) where
         let r = t .x w z (inner .0) (inner .1) hz on in
         let k = r .1 in
         let rise = s .y .rises (k .blend) (k .live) in
-        let at = k .at in
         record {
           part = r .0;
           blend = k .blend;
           holds = record { live = k .live; column = k .column; lo = omega arith; hi = omega arith };
-          at = at;
+          at = k .at;
         }
 
     to-standing : (x : Side) (B : Blend) → Holding z w x B → (o : Standing) → (1 < w) × (w < Q .h + 1) → Agree x (o .part) B (o .blend)
     to-standing x B b o inner =
-        let at = o .at in
-        ⊎-elim (λ e. both-below x (o .part) B (o .blend) b (o .holds) (leb-true _ _ e) (omega arith) (omega arith))
-        (λ e. let gt = leb-false (Q .up B .m) w e in both-above x (o .part) B (o .blend) b (o .holds) (omega arith) (omega arith) (omega arith))
-        (either (leb (Q .up B .m) w))
+        if-at-most (Q .up B .m) w (λ le. both-below x (o .part) B (o .blend) b (o .holds) le (omega arith) (omega arith))
+        (λ gt. both-above x (o .part) B (o .blend) b (o .holds) (omega arith) (omega arith) (omega arith))
 
     -- Any two blends over the column that hold the level have one part there;
     pub agree : Q .levels w z ≡ true → (x u : Side) (B C : Blend) → Holding z w x B → Holding z w u C → Agree x u B C
     agree on x u B C b c =
-        ⊎-elim (λ e. ⊎-elim (λ f. same (eqb-true _ _ e) (eqb-true _ _ f)) (λ f. through (inner-level c (eqb-false _ _ f))) (either (eqb (Q .up C .m) w)))
-        (λ e. through (inner-level b (eqb-false _ _ e)))
-        (either (eqb (Q .up B .m) w))
+        if-equal (Q .up B .m) w (λ e. if-equal (Q .up C .m) w (same e) (λ off. through (inner-level c off))) (λ off. through (inner-level b off))
       where
         through : (1 < w) × (w < Q .h + 1) → Agree x u B C
         through inner =
@@ -131,36 +111,21 @@ module _ (Q : View) (t : TightView Q) where
 
         same : Q .up B .m ≡ w → Q .up C .m ≡ w → Agree x u B C
         same e f =
-            let rise = s .y .rises B (b .live) in
-            ⊎-elim (λ g. both-below x u B C b c (omega arith) (omega arith) (leb-true w (Q .h) g))
-            (λ g. let gt = leb-false w (Q .h) g in let high = s .y .wide in both-above x u B C b c (omega arith) (omega arith) (omega arith))
-            (either (leb w (Q .h)))
+            if-at-most w (Q .h) (both-below x u B C b c (omega arith) (omega arith))
+            (λ gt. both-above x u B C b c (omega arith) (omega arith) (omega arith))
 
     -- and the level covers it.
     pub level-covers : Q .levels w z ≡ true → (x : Side) (B : Blend) → Holding z w x B → (j : ℕ) → from x (Q .across B) ≤ j → j < to x (Q .across B) →
         Q .levels w j ≡ true
     level-covers on x B b j lo hi =
-        ⊎-elim (λ e. level-at Q s B (b .live) (eqb-true _ _ e) (low x lo) (high x hi))
-        (λ e. let inner = inner-level b (eqb-false _ _ e) in
+        if-equal (Q .up B .m) w (λ e. part-on x B (b .live) e lo hi)
+        (λ ne. let inner = inner-level b ne in
         let o = standing on inner in
         let a = to-standing x B b o inner in
-        level-at Q s (o .blend) (o .holds .live) (o .at)
-        (wide-low (o .part) (o .blend) (o .holds .live) (subst (λ (n : ℕ). n ≤ j) (a .0) lo)) (wide-high (o .part) (o .blend) (o .holds .live) (subst (λ (n : ℕ). j < n) (a .1) hi)))
-        (either (eqb (Q .up B .m) w))
+        part-on (o .part) (o .blend) (o .holds .live) (o .at) (subst (λ (n : ℕ). n ≤ j) (a .0) lo) (subst (λ (n : ℕ). j < n) (a .1) hi))
       where
-        wide-low : (x : Side) (C : Blend) → Live Q C → from x (Q .across C) ≤ j → Q .across C .l ≤ j
-        wide-low lower C m le = le
-        wide-low upper C m le = let r = s .x .rises C m in omega arith
-
-        wide-high : (x : Side) (C : Blend) → Live Q C → j < to x (Q .across C) → j < Q .across C .r
-        wide-high lower C m lt = let r = s .x .rises C m in omega arith
-        wide-high upper C m lt = lt
-
-        low : (x : Side) → from x (Q .across B) ≤ j → Q .across B .l ≤ j
-        low x = wide-low x B (b .live)
-
-        high : (x : Side) → j < to x (Q .across B) → j < Q .across B .r
-        high x = wide-high x B (b .live)
+        part-on : (x : Side) (C : Blend) → Live Q C → Q .up C .m ≡ w → from x (Q .across C) ≤ j → j < to x (Q .across C) → Q .levels w j ≡ true
+        part-on x C m at lo hi = let p = part-within x (Q .across C) (rise-of (s .x .rises C m)) in level-at Q s C m at (omega arith) (omega arith)
 
   -- Two blends abreast of the upright z at level a:
   module _ (z a : ℕ) (hz : OnSide (Q .w) z) (ha : (1 < a) × (a < Q .h + 1)) (e : Abreast Q upper z a) where
@@ -176,14 +141,12 @@ module _ (Q : View) (t : TightView Q) where
         let at = e .anchored x in
         let start = e .reaches x in
         let rise = s .y .rises (e .at x) (e .live x) in
-        ⊎-elim
-        (λ f. let le = leb-true a (Q .up B .m) f in
-        s .one x lower z (a - 1) B (e .at x) hz (omega arith, omega arith)
+        if-at-most a (Q .up B .m)
+        (λ le. s .one x lower z (a - 1) B (e .at x) hz (omega arith, omega arith)
         (record { live = m; column = knot-step x z _ p; row = (omega arith, omega arith) }) (under x (a - 1) (omega arith) (omega arith)))
-        (λ f. let lt = leb-false a (Q .up B .m) f in
-        let n = neighbours Q s hz (omega arith, omega arith) (record { live = m; column = knot-step x z _ p; row = (omega arith, omega arith) }) (under x (a - 1) (omega arith) (omega arith)) in
+        (λ lt. let n = neighbours Q s hz (omega arith, omega arith) (record { live = m; column = knot-step x z _ p; row = (omega arith, omega arith) })
+        (under x (a - 1) (omega arith) (omega arith)) in
         absurd (omega arith))
-        (either (leb a (Q .up B .m)))
 
     -- and no level has a step beside it between their start and their anchors.
     pub between-none : (w : ℕ) → Q .levels w z ≡ true → e .reach < w → w < a → ⊥
@@ -191,12 +154,9 @@ module _ (Q : View) (t : TightView Q) where
         let first = e .reaches upper in
         let anchored = e .anchored upper in
         let inside : 1 ≤ e .reach =
-        ⊎-elim (λ f. leb-true 1 (e .reach) f)
-        (λ f. let none = leb-false 1 (e .reach) f in let n = s .y .near (e .at upper) (e .live upper) (omega arith) in absurd (omega arith))
-        (either (leb 1 (e .reach))) in
+        if-at-most 1 (e .reach) (λ le. le) (λ none. let n = s .y .near (e .at upper) (e .live upper) (omega arith) in absurd (omega arith)) in
         let r = t .x w z (omega arith) (omega arith) hz on in
         let k = r .1 in
-        let at = k .at in
         let anchor = e .anchored (r .0) in
         let rise = s .y .rises (k .blend) (k .live) in
         let is = s .one (r .0) lower z (w - 1) (k .blend) (e .at (r .0)) hz (omega arith, omega arith)
@@ -213,7 +173,6 @@ module _ (Q : View) (t : TightView Q) (z a : ℕ) (hz : OnSide (Q .w) z) (ha : (
   unfolding flip-abreast
   met-at upper b x B m p lo hi = met Q t z a hz ha b x B m p lo hi
   met-at lower b x B m p lo hi =
-      let r = t .is-sound .y .rises B m in
       met (flip Q) (flip-tight Q t) z (Q .h + 2 - a) hz mirrored (flip-abreast Q lower z a b) x B m p (omega arith) (omega arith)
 
   pub above-none : (b : Abreast Q lower z a) (w : ℕ) → Q .levels w z ≡ true → a < w → w < b .reach → ⊥
@@ -221,9 +180,8 @@ module _ (Q : View) (t : TightView Q) (z a : ℕ) (hz : OnSide (Q .w) z) (ha : (
   above-none b w on lo hi =
       let end : Q .up (b .at upper) .r ≡ b .reach = b .reaches upper in
       let r = t .is-sound .y .rises (b .at upper) (b .live upper) in
-      let back : Q .h + 2 - (Q .h + 2 - w) ≡ w = omega arith in
       between-none (flip Q) (flip-tight Q t) z (Q .h + 2 - a) hz mirrored (flip-abreast Q lower z a b) (Q .h + 2 - w)
-      (subst (λ (n : ℕ). Q .levels n z ≡ true) (sym back) on) (omega arith) (omega arith)
+      (subst (λ (n : ℕ). Q .levels n z ≡ true) (omega arith) on) (omega arith) (omega arith)
 
 -- the edges of the domain
 abbrev pub edgeOf : View → Side → ℕ
@@ -236,30 +194,23 @@ pub data Good (Q : View) (e : Side) (z a : ℕ) : Type 0 where
   line : (1 < a) × (a < Q .h + 1) → Q .uprights z (outward e a) ≡ true → Good Q e z a
   blends : (1 < a) × (a < Q .h + 1) → Q .uprights z (outward e a) ≡ false → Abreast Q e z a → Good Q e z a
 
+flip-outward : (e : Side) (h a : ℕ) → (1 ≤ a) × (a ≤ h + 1) → outward e a ≡ h + 1 - outward (opposite e) (h + 2 - a)
+flip-outward lower h a ha = omega arith
+flip-outward upper h a ha = omega arith
+
 pub flip-good : (Q : View) (e : Side) (z a : ℕ) → (1 ≤ a) × (a ≤ Q .h + 1) → Good Q e z a → Good (flip Q) (opposite e) z (Q .h + 2 - a)
 flip-good Q lower z a ha (edge q) = edge (omega arith)
 flip-good Q upper z a ha (edge q) = edge (omega arith)
-flip-good Q lower z a ha (line i on) =
-    line (omega arith, omega arith) (subst (λ (n : ℕ). Q .uprights z n ≡ true) (let q : a - 1 ≡ Q .h + 1 - (Q .h + 2 - a) = omega arith in q) on)
-flip-good Q upper z a ha (line i on) =
-    line (omega arith, omega arith) (subst (λ (n : ℕ). Q .uprights z n ≡ true) (let q : a ≡ Q .h + 1 - (Q .h + 2 - a - 1) = omega arith in q) on)
-flip-good Q lower z a ha (blends i off b) =
-    blends (omega arith, omega arith) (subst (λ (n : ℕ). Q .uprights z n ≡ false) (let q : a - 1 ≡ Q .h + 1 - (Q .h + 2 - a) = omega arith in q) off)
-    (flip-abreast Q lower z a b)
-flip-good Q upper z a ha (blends i off b) =
-    blends (omega arith, omega arith) (subst (λ (n : ℕ). Q .uprights z n ≡ false) (let q : a ≡ Q .h + 1 - (Q .h + 2 - a - 1) = omega arith in q) off)
-    (flip-abreast Q upper z a b)
+flip-good Q e z a ha (line i on) = line (omega arith, omega arith) (subst (λ (n : ℕ). Q .uprights z n ≡ true) (flip-outward e (Q .h) a ha) on)
+flip-good Q e z a ha (blends i off b) =
+    blends (omega arith, omega arith) (subst (λ (n : ℕ). Q .uprights z n ≡ false) (flip-outward e (Q .h) a ha) off) (flip-abreast Q e z a b)
 
 pub swap-good : (Q : View) (s : SoundView Q) (e : Side) (z a : ℕ) → z ≤ Q .w + 2 → Good Q e z a → Good (swap Q) e (Q .w + 2 - z) a
-swap-good Q s e z a hz (edge q) = edge (by e q)
-  where
-    by : (e : Side) → a ≡ edgeOf Q e → a ≡ edgeOf (swap Q) e
-    by lower q = q
-    by upper q = q
-swap-good Q s e z a hz (line i on) =
-    line i (subst (λ (n : ℕ). Q .uprights n (outward e a) ≡ true) (let q : z ≡ Q .w + 2 - (Q .w + 2 - z) = omega arith in q) on)
+swap-good Q s lower z a hz (edge q) = edge q
+swap-good Q s upper z a hz (edge q) = edge q
+swap-good Q s e z a hz (line i on) = line i (subst (λ (n : ℕ). Q .uprights n (outward e a) ≡ true) (omega arith) on)
 swap-good Q s e z a hz (blends i off b) =
-    blends i (subst (λ (n : ℕ). Q .uprights n (outward e a) ≡ false) (let q : z ≡ Q .w + 2 - (Q .w + 2 - z) = omega arith in q) off)
+    blends i (subst (λ (n : ℕ). Q .uprights n (outward e a) ≡ false) (omega arith) off)
     (record {
       reach = b .reach;
       at = λ x. b .at (opposite x);
@@ -282,9 +233,18 @@ pub record Drawn (Q : View) (z a b : ℕ) (drawn : ℕ → Bool) : Type 0 where
   pub new : (k : ℕ) → a ≤ k → k < b → drawn k ≡ true
   pub out-below : a ≡ 1 → drawn 0 ≡ true
   pub out-above : b ≡ Q .h + 1 → drawn (Q .h + 1) ≡ true
-  pub only : (k : ℕ) → k ≤ Q .h + 1 → drawn k ≡ true → (Q .uprights z k ≡ true) ⊎ (((a ≤ k) × (k < b)) ⊎ (((k ≡ 0) × (a ≡ 1)) ⊎ ((k ≡ Q .h + 1) × (b ≡ Q .h + 1))))
+  pub only : (k : ℕ) → k ≤ Q .h + 1 → drawn k ≡ true →
+      (Q .uprights z k ≡ true) ⊎ (((a ≤ k) × (k < b)) ⊎ (((k ≡ 0) × (a ≡ 1)) ⊎ ((k ≡ Q .h + 1) × (b ≡ Q .h + 1))))
   pub low-end : Good Q lower z a
   pub high-end : Good Q upper z b
+
+-- a row that is drawn, below a line that does not start at the edge or above one that does not end there, was on before
+was-on : (Q : View) {z a b : ℕ} {drawn : ℕ → Bool} → Drawn Q z a b drawn → (k : ℕ) → ((1 < a) × (k < a)) ⊎ ((b ≤ k) × (k ≤ Q .h)) → drawn k ≡ true →
+    Q .uprights z k ≡ true
+was-on Q d k (inl off) on =
+    ⊎-elim (λ q. q) (⊎-elim (λ q. absurd (omega arith)) (⊎-elim (λ q. absurd (omega arith)) (λ q. absurd (omega arith)))) (d .only k (omega arith) on)
+was-on Q d k (inr off) on =
+    ⊎-elim (λ q. q) (⊎-elim (λ q. absurd (omega arith)) (⊎-elim (λ q. absurd (omega arith)) (λ q. absurd (omega arith)))) (d .only k (omega arith) on)
 
 -- the line cuts a blend that it enters
 abbrev pub CutBy : View → (ℕ → Bool) → Blend → Type 0
@@ -295,41 +255,24 @@ module _ (Q : View) (t : TightView Q) (z a b : ℕ) (drawn : ℕ → Bool) (d : 
   sound = t .is-sound
 
   abbrev column : OnSide (Q .w) z
-  column = let i = d .inner in (omega arith, omega arith)
-
-  entered : (x : Side) (B : Blend) → Live Q B → KnotIn x z (Q .across B) → Inside z (Q .across B)
-  entered lower B m p = let r = sound .x .rises B m in record { lo = omega arith; hi = omega arith; off = omega arith }
-  entered upper B m p = let r = sound .x .rises B m in record { lo = omega arith; hi = omega arith; off = omega arith }
+  column = (omega arith, omega arith)
 
   -- A level strictly inside a cut blend does not lie below the line,
   level-low : (x : Side) (B : Blend) → Live Q B → KnotIn x z (Q .across B) → CutBy Q drawn B → (w : ℕ) → Q .levels w z ≡ true →
       Q .up B .l < w → w < Q .up B .r → a ≤ w
-  level-low x B m p c w on lo hi =
-      ⊎-elim (λ e. leb-true a w e) (λ e. absurd (under (leb-false a w e))) (either (leb a w))
+  level-low x B m p c w on lo hi = if-at-most a w (λ le. le) (λ lt. absurd (under lt))
     where
       reach : w < a → a < Q .up B .r
       reach lt =
-          ⊎-elim (λ e. ltb-true _ _ e)
-          (λ e. let le = ltb-false a (Q .up B .r) e in
-          absurd (sound .x .clear B m z (entered x B m p)
-          (λ k klo khi.
-          let range = d .range in
-          let rise = sound .y .rises B m in
-          ⊎-elim (λ q. q)
-          (λ o. absurd (⊎-elim (λ q. omega arith)
-          (λ o. ⊎-elim (λ q. omega arith) (λ q. omega arith) o) o))
-          (d .only k (omega arith) (c k klo khi)))))
-          (either (ltb a (Q .up B .r)))
+          if-below a (Q .up B .r) (λ lt. lt)
+          (λ le. absurd (sound .x .clear B m z (inside-of x z (Q .across B) (rise-of (sound .x .rises B m)) p)
+          (λ k klo khi. was-on Q d k (inl (omega arith, omega arith)) (c k klo khi))))
 
       under : w < a → ⊥
       under lt =
-          let range = d .range in
           let up = reach lt in
           let inner : (1 < a) × (a < Q .h + 1) = (omega arith, omega arith) in
-          let on-below : Q .uprights z (a - 1) ≡ true =
-          ⊎-elim (λ q. q) (λ o. absurd (⊎-elim (λ q. omega arith) (λ o. ⊎-elim (λ q. omega arith) (λ q. omega arith) o) o))
-          (d .only (a - 1) (omega arith) (c (a - 1) (omega arith) (omega arith))) in
-          let i = d .inner in
+          let on-below = was-on Q d (a - 1) (inl (omega arith, omega arith)) (c (a - 1) (omega arith) (omega arith)) in
           let e = line-ends Q t z a (omega arith, omega arith) inner upper on-below (d .free a (omega arith) (omega arith)) in
           let is = met-at Q t z a column inner upper (e .abreast) x B m p (omega arith) up in
           let start = ap (λ (C : Blend). Q .up C .l) is in
@@ -339,19 +282,18 @@ module _ (Q : View) (t : TightView Q) (z a b : ℕ) (drawn : ℕ → Bool) (d : 
 -- Seen from the other end, and from the other side:
 pub flip-drawn : (Q : View) (z a b : ℕ) (drawn : ℕ → Bool) → Drawn Q z a b drawn → Drawn (flip Q) z (Q .h + 2 - b) (Q .h + 2 - a) (λ k. drawn (Q .h + 1 - k))
 flip-drawn Q z a b drawn d =
-    let range = d .range in
     record {
       inner = d .inner;
       range = (omega arith, omega arith, omega arith);
       free = λ k lo hi. d .free (Q .h + 1 - k) (omega arith) (omega arith);
       old = λ k. d .old (Q .h + 1 - k);
       new = λ k lo hi. d .new (Q .h + 1 - k) (omega arith) (omega arith);
-      out-below = λ e. subst (λ (n : ℕ). drawn n ≡ true) (let q : Q .h + 1 ≡ Q .h + 1 - 0 = omega arith in q) (d .out-above (omega arith));
-      out-above = λ e. subst (λ (n : ℕ). drawn n ≡ true) (let q : 0 ≡ Q .h + 1 - (Q .h + 1) = omega arith in q) (d .out-below (omega arith));
+      out-below = λ e. subst (λ (n : ℕ). drawn n ≡ true) (omega arith) (d .out-above (omega arith));
+      out-above = λ e. subst (λ (n : ℕ). drawn n ≡ true) (omega arith) (d .out-below (omega arith));
       only = λ k le e.
           ⊎-elim inl
-          (λ o. inr (⊎-elim (λ q. inl (omega arith, omega arith))
-          (λ o. inr (⊎-elim (λ q. inr (omega arith, omega arith)) (λ q. inl (omega arith, omega arith)) o)) o))
+          (⊎-elim (λ q. inr (inl (omega arith, omega arith)))
+          (⊎-elim (λ q. inr (inr (inr (omega arith, omega arith)))) (λ q. inr (inr (inl (omega arith, omega arith))))))
           (d .only (Q .h + 1 - k) (omega arith) e);
       low-end = flip-good Q upper z b (omega arith, omega arith) (d .high-end);
       high-end = flip-good Q lower z a (omega arith, omega arith) (d .low-end);
@@ -359,28 +301,26 @@ flip-drawn Q z a b drawn d =
 
 pub swap-drawn : (Q : View) (s : SoundView Q) (z a b : ℕ) (drawn : ℕ → Bool) → Drawn Q z a b drawn → Drawn (swap Q) (Q .w + 2 - z) a b drawn
 swap-drawn Q s z a b drawn d =
-    let i = d .inner in
-    let back : Q .w + 2 - (Q .w + 2 - z) ≡ z = omega arith in
     record {
       inner = (omega arith, omega arith);
       range = d .range;
-      free = λ k lo hi. subst (λ (n : ℕ). Q .uprights n k ≡ false) (sym back) (d .free k lo hi);
-      old = λ k on. d .old k (subst (λ (n : ℕ). Q .uprights n k ≡ true) back on);
+      free = λ k lo hi. subst (λ (n : ℕ). Q .uprights n k ≡ false) (omega arith) (d .free k lo hi);
+      old = λ k on. d .old k (subst (λ (n : ℕ). Q .uprights n k ≡ true) (omega arith) on);
       new = d .new;
       out-below = d .out-below;
       out-above = d .out-above;
-      only = λ k le e. ⊎-elim (λ q. inl (subst (λ (n : ℕ). Q .uprights n k ≡ true) (sym back) q)) inr (d .only k le e);
+      only = λ k le e. ⊎-elim (λ q. inl (subst (λ (n : ℕ). Q .uprights n k ≡ true) (omega arith) q)) inr (d .only k le e);
       low-end = swap-good Q s lower z a (omega arith) (d .low-end);
       high-end = swap-good Q s upper z b (omega arith) (d .high-end);
     }
 
 pub flip-cut : (Q : View) (s : SoundView Q) (drawn : ℕ → Bool) (B : Blend) → Live Q B → CutBy Q drawn B → CutBy (flip Q) (λ k. drawn (Q .h + 1 - k)) B
-flip-cut Q s drawn B m c k lo hi = let r = s .y .rises B m in c (Q .h + 1 - k) (omega arith) (omega arith)
+flip-cut Q s drawn B m c k lo hi = c (Q .h + 1 - k) (omega arith) (omega arith)
 
 cut-flip : (Q : View) (s : SoundView Q) (drawn : ℕ → Bool) (B : Blend) → Live Q B → CutBy (flip Q) (λ k. drawn (Q .h + 1 - k)) B → CutBy Q drawn B
 cut-flip Q s drawn B m c k lo hi =
     let r = s .y .rises B m in
-    subst (λ (n : ℕ). drawn n ≡ true) (let q : Q .h + 1 - (Q .h + 1 - k) ≡ k = omega arith in q) (c (Q .h + 1 - k) (omega arith) (omega arith))
+    subst (λ (n : ℕ). drawn n ≡ true) (omega arith) (c (Q .h + 1 - k) (omega arith) (omega arith))
 
 module _ (Q : View) (t : TightView Q) (z a b : ℕ) (drawn : ℕ → Bool) (d : Drawn Q z a b drawn) where
   -- nor above it.
@@ -388,30 +328,25 @@ module _ (Q : View) (t : TightView Q) (z a b : ℕ) (drawn : ℕ → Bool) (d : 
       Q .up B .l < w → w < Q .up B .r → w ≤ b
   level-high x B m p c w on lo hi =
       let r = t .is-sound .y .rises B m in
-      let range = d .range in
-      let back : w ≡ Q .h + 2 - (Q .h + 2 - w) = omega arith in
       let le = level-low (flip Q) (flip-tight Q t) z (Q .h + 2 - b) (Q .h + 2 - a) (λ k. drawn (Q .h + 1 - k)) (flip-drawn Q z a b drawn d) x B m p
-      (flip-cut Q (t .is-sound) drawn B m c) (Q .h + 2 - w) (subst (λ (n : ℕ). Q .levels n z ≡ true) back on) (omega arith) (omega arith) in
+      (flip-cut Q (t .is-sound) drawn B m c) (Q .h + 2 - w) (subst (λ (n : ℕ). Q .levels n z ≡ true) (omega arith) on) (omega arith) (omega arith) in
       omega arith
 
   -- A blend that the upright enters is covered below the line, unless it is one abreast of the line's lower end;
   rows-below : (x : Side) (B : Blend) → Live Q B → KnotIn x z (Q .across B) → Q .up B .l < a → a < Q .up B .r →
-      ((1 < a) × (a < Q .h + 1) → (e : Abreast Q lower z a) → Q .uprights z (a - 1) ≡ false → B ≡ e .at x → ⊥) → (k : ℕ) → Q .up B .l ≤ k → k < a → drawn k ≡ true
+      ((1 < a) × (a < Q .h + 1) → (e : Abreast Q lower z a) → Q .uprights z (a - 1) ≡ false → B ≡ e .at x → ⊥) → (k : ℕ) → Q .up B .l ≤ k → k < a →
+      drawn k ≡ true
   rows-below x B m p lo hi apart k klo khi = by (d .low-end)
     where
       by : Good Q lower z a → drawn k ≡ true
-      by (edge e) = subst (λ (n : ℕ). drawn n ≡ true) (let q : 0 ≡ k = omega arith in q) (d .out-below e)
+      by (edge e) = subst (λ (n : ℕ). drawn n ≡ true) (omega arith) (d .out-below e)
       by (line i on) =
-          let range = d .range in
-          let in-side = d .inner in
           let e = line-ends Q t z a (omega arith, omega arith) i upper on (d .free a (omega arith) (omega arith)) in
           let is = met-at Q t z a (omega arith, omega arith) i upper (e .abreast) x B m p lo hi in
           let start = ap (λ (C : Blend). Q .up C .l) is in
           let reach : Q .up (e .abreast .at x) .l ≡ e .abreast .reach = e .abreast .reaches x in
           d .old k (e .covered k (omega arith, khi))
-      by (blends i off e) =
-          let in-side = d .inner in
-          absurd (apart i e off (met-at Q t z a (omega arith, omega arith) i lower e x B m p lo hi))
+      by (blends i off e) = absurd (apart i e off (met-at Q t z a (omega arith, omega arith) i lower e x B m p lo hi))
 
   -- and above it, if its anchor lies below the upper end, only past the edge.
   rows-above : (x : Side) (B : Blend) → Live Q B → KnotIn x z (Q .across B) → Q .up B .m < b → (k : ℕ) → b ≤ k → k < Q .up B .r → drawn k ≡ true
@@ -422,19 +357,14 @@ module _ (Q : View) (t : TightView Q) (z a b : ℕ) (drawn : ℕ → Bool) (d : 
 
       no : (e : Side) → (1 < b) × (b < Q .h + 1) → Abreast Q e z b → ⊥
       no e i r =
-          let in-side = d .inner in
           let is = met-at Q t z b (omega arith, omega arith) i e r x B m p (rise .0) (rise .1) in
           let q = ap (λ (C : Blend). Q .up C .m) is in
           let at = r .anchored x in
           omega arith
 
       by : Good Q upper z b → drawn k ≡ true
-      by (edge e) =
-          let r = t .is-sound .y .rises B m in
-          subst (λ (n : ℕ). drawn n ≡ true) (let q : Q .h + 1 ≡ k = omega arith in q) (d .out-above e)
+      by (edge e) = let r = t .is-sound .y .rises B m in subst (λ (n : ℕ). drawn n ≡ true) (omega arith) (d .out-above e)
       by (line i on) =
-          let range = d .range in
-          let in-side = d .inner in
           absurd (no lower i (line-ends Q t z b (omega arith, omega arith) i lower on (d .free (b - 1) (omega arith) (omega arith)) .abreast))
       by (blends i off r) = absurd (no upper i r)
 
@@ -443,7 +373,7 @@ module _ (Q : View) (t : TightView Q) (z a b : ℕ) (drawn : ℕ → Bool) (d : 
   module _ (x : Side) (X : Blend) (m : Live Q X) (p : KnotIn x z (Q .across X)) (c : CutBy Q drawn X)
       (w : ℕ) (on : Q .levels w z ≡ true) (lo : Q .up X .l < w) (hi : w < Q .up X .r) (row : w ≤ Q .h) where
     abbrev side : OnSide (Q .w) z
-    side = let i = d .inner in (omega arith, omega arith)
+    side = (omega arith, omega arith)
 
     abbrev Y : Blend
     Y = sound Q t z a b drawn d .some upper upper z w side (omega arith, omega arith) .0
@@ -458,7 +388,6 @@ module _ (Q : View) (t : TightView Q) (z a b : ℕ) (drawn : ℕ → Bool) (d : 
     -- where the level is that of the line's upper end, and the line goes on from there
     beside : (B : Blend) → Over Q upper upper z w B → w ≡ b → (1 < b) × (b < Q .h + 1) → Ended Q lower z b → Entered B
     beside B o e inner r =
-        let range = d .range in
         let v = sound Q t z a b drawn d in
         let A = r .abreast .at upper in
         let anchor = r .abreast .anchored upper in
@@ -469,79 +398,51 @@ module _ (Q : View) (t : TightView Q) (z a b : ℕ) (drawn : ℕ → Bool) (d : 
       where
         known : (B : Blend) → Over Q upper upper z w B → w ≡ b → B ≡ r .abreast .at upper → KnotIn upper z (Q .across B) → Entered B
         known B o e is par =
-            let range = d .range in
             let anchor = r .abreast .anchored upper in
             let reach : Q .up (r .abreast .at upper) .r ≡ r .abreast .reach = r .abreast .reaches upper in
             let middle = ap (λ (D : Blend). Q .up D .m) is in
             let top = ap (λ (D : Blend). Q .up D .r) is in
-            let rb = sound Q t z a b drawn d .y .rises B (o .live) in
             record {
               astride = par;
               cut = λ k klo khi.
-                  ⊎-elim
-                  (λ f. let lt = ltb-true k b f in
-                  ⊎-elim (λ g. let le = leb-true a k g in d .new k le lt)
-                  (λ g. let below = leb-false a k g in
-                  rows-below upper B (o .live) par (omega arith) (omega arith)
-                  (λ i e off same. let at = ap (λ (D : Blend). Q .up D .m) same in let an = e .anchored upper in omega arith) k klo below)
-                  (either (leb a k)))
-                  (λ f. let le = ltb-false k b f in d .old k (r .covered k (omega arith, omega arith)))
-                  (either (ltb k b));
+                  if-below k b
+                  (λ lt. if-at-most a k (λ le. d .new k le lt)
+                  (λ below. rows-below upper B (o .live) par (omega arith) (omega arith)
+                  (λ i e off same. let at = ap (λ (D : Blend). Q .up D .m) same in let an = e .anchored upper in omega arith) k klo below))
+                  (λ le. d .old k (r .covered k (omega arith, omega arith)));
             }
 
     at-end : (B : Blend) → Over Q upper upper z w B → w ≡ b → Entered B
     at-end B o e =
-        let range = d .range in
-        let in-side = d .inner in
         let inner : (1 < b) × (b < Q .h + 1) = (omega arith, omega arith) in
-        let going : Q .uprights z b ≡ true =
-        ⊎-elim (λ q. q) (λ o. absurd (⊎-elim (λ q. omega arith) (λ o. ⊎-elim (λ q. omega arith) (λ q. omega arith) o) o))
-        (d .only b (omega arith) (c b (omega arith) (omega arith))) in
+        let going = was-on Q d b (inr (omega arith, omega arith)) (c b (omega arith) (omega arith)) in
         beside B o e inner (line-ends Q t z b (omega arith, omega arith) inner lower going (d .free (b - 1) (omega arith) (omega arith)))
 
     -- where it lies along the line
     along-line : (B : Blend) → Over Q upper upper z w B → a ≤ w → w < b → Entered B
     along-line B o le lt =
-        let range = d .range in
-        let row-of = o .row in
         let rb = sound Q t z a b drawn d .y .rises B (o .live) in
         let par = astride Q t upper B z w (o .live) (o .column) (omega arith) (omega arith) (d .free w le lt) in
         record {
           astride = par;
           cut = λ k klo khi.
-              ⊎-elim
-              (λ f. let below = ltb-true k a f in
-              rows-below upper B (o .live) par (omega arith) (omega arith) (apart par) k klo below)
-              (λ f. let from-a = ltb-false k a f in
-              ⊎-elim (λ g. d .new k from-a (ltb-true k b g))
-              (λ g. let past = ltb-false k b g in rows-above upper B (o .live) par (omega arith) k past khi)
-              (either (ltb k b)))
-              (either (ltb k a));
+              if-below k a (λ below. rows-below upper B (o .live) par (omega arith) (omega arith) (apart par) k klo below)
+              (λ le. if-below k b (d .new k le) (λ past. rows-above upper B (o .live) par (omega arith) k past khi));
         }
       where
         -- a blend abreast of the lower end has no level beside the line above its anchor
         apart : KnotIn upper z (Q .across B) → (1 < a) × (a < Q .h + 1) → (e : Abreast Q lower z a) → Q .uprights z (a - 1) ≡ false → B ≡ e .at upper → ⊥
         apart par i e off is =
-            let range = d .range in
-            let row-of = o .row in
             let reach : Q .up (e .at upper) .r ≡ e .reach = e .reaches upper in
             let top = ap (λ (D : Blend). Q .up D .r) is in
-            let middle = ap (λ (D : Blend). Q .up D .m) is in
-            let at = e .anchored upper in
-            let rb = sound Q t z a b drawn d .y .rises B (o .live) in
-            ⊎-elim
-            (λ f. let gt = ltb-true a w f in above-none Q t z a side i e w on gt (omega arith))
-            (λ f. let is-a = ltb-false a w f in
-            let before = c (a - 1) (omega arith) (omega arith) in
-            true-not-false (Q .uprights z (a - 1))
-            (⊎-elim (λ q. q) (λ o. absurd (⊎-elim (λ q. omega arith) (λ o. ⊎-elim (λ q. omega arith) (λ q. omega arith) o) o)) (d .only (a - 1) (omega arith) before)) off)
-            (either (ltb a w))
+            if-below a w (λ gt. above-none Q t z a side i e w on gt (omega arith))
+            (λ is-a. true-not-false (Q .uprights z (a - 1)) (was-on Q d (a - 1) (inl (omega arith, omega arith)) (c (a - 1) (omega arith) (omega arith))) off)
 
     entered-there : Entered Y
     entered-there =
         let low = level-low Q t z a b drawn d x X m p c w on lo hi in
         let high = level-high x X m p c w on lo hi in
-        ⊎-elim (λ e. along-line Y over low (ltb-true w b e)) (λ e. let le = ltb-false w b e in at-end Y over (omega arith)) (either (ltb w b))
+        if-below w b (along-line Y over low) (λ le. at-end Y over (omega arith))
 
     pub also-cut : (next : ℕ) → ((v : ℕ) → w < v → v < next → Q .levels v z ≡ true → ⊥) →
         (j k : ℕ) → z ≤ j → j < to x (Q .across X) → w ≤ k → k < next → OnSide (Q .w) j → OnSide (Q .h) k →
@@ -551,16 +452,13 @@ module _ (Q : View) (t : TightView Q) (z a b : ℕ) (drawn : ℕ → Bool) (d : 
         let r = v .y .rises Y (over .live) in
         let rx = v .x .rises Y (over .live) in
         let row-of = over .row in
-        let col = over .column in
         let in-there = entered-there in
         let par = in-there .astride in
         let same = agree Q t z w side on x upper X Y (record { live = m; column = knot-step x z _ p; lo = lo; hi = hi })
         (record { live = over .live; column = over .column; lo = omega arith; hi = over .row .1 }) in
-        let end = same .1 in
         let above : k < Q .up Y .r =
-        ⊎-elim (λ e. ltb-true _ _ e)
-        (λ e. let le = ltb-false k (Q .up Y .r) e in absurd (none (Q .up Y .r) (over .row .1) (omega arith) (v .y .grid Y (over .live) z (omega arith) (omega arith) .r)))
-        (either (ltb k (Q .up Y .r))) in
+        if-below k (Q .up Y .r) (λ lt. lt)
+        (λ le. absurd (none (Q .up Y .r) (over .row .1) (omega arith) (v .y .grid Y (over .live) z (omega arith) (omega arith) .r))) in
         let is = v .one upper upper j k B Y hj hk o (record { live = over .live; column = (omega arith, omega arith); row = (omega arith, above) }) in
         (subst (λ (C : Blend). KnotIn upper z (Q .across C)) (sym is) par, subst (CutBy Q drawn) (sym is) (in-there .cut))
 
@@ -579,26 +477,21 @@ pub record Piece (Q : View) (z : ℕ) (drawn : ℕ → Bool) (x : Side) (X : Ble
   pub alone-right : (i : ℕ) → u < i → i < v → Q .levels i z ≡ true → i ≡ w
 
 -- A square in one of its quadrants: the blend of the map before with the square in the same quadrant is cut as well.
-module _ (z a b u w v : ℕ) where
-  abbrev Taken : View → (ℕ → Bool) → Side → Side → ℕ → ℕ → Type 0
-  Taken Q drawn p q j k = (B : Blend) → Over Q p q j k B → KnotIn p z (Q .across B) × CutBy Q drawn B
+abbrev Taken : View → ℕ → (ℕ → Bool) → Side → Side → ℕ → ℕ → Type 0
+Taken Q z drawn p q j k = (B : Blend) → Over Q p q j k B → KnotIn p z (Q .across B) × CutBy Q drawn B
 
+module _ (z a b u w v : ℕ) where
   upper-upper : (Q : View) (t : TightView Q) (drawn : ℕ → Bool) → Drawn Q z a b drawn → (x : Side) (X : Blend) → Piece Q z drawn x X u w v →
       (j k : ℕ) → OnSide (Q .w) j → OnSide (Q .h) k → StepIn upper j (triple (from x (Q .across X)) z (to x (Q .across X))) → StepIn upper k (triple u w v) →
-      Taken Q drawn upper upper j k
+      Taken Q z drawn upper upper j k
   upper-upper Q t drawn d x X p j k hj hk i e B o =
       also-cut Q t z a b drawn d x X (p .live) (p .astride) (p .cut) w (p .right) (p .lo) (p .hi) (omega arith) v
-      (λ n lo hi on. let r = p .rises in let same = p .alone-right n (omega arith) hi on in omega arith)
+      (λ n lo hi on. let same = p .alone-right n (omega arith) hi on in omega arith)
       j k (i .0) (i .1) (e .0) (e .1) hj hk B o
 
 flip-piece : (Q : View) (s : SoundView Q) (z : ℕ) (drawn : ℕ → Bool) (x : Side) (X : Blend) (u w v : ℕ) → Piece Q z drawn x X u w v →
     Piece (flip Q) z (λ k. drawn (Q .h + 1 - k)) x X (Q .h + 2 - v) (Q .h + 2 - w) (Q .h + 2 - u)
 flip-piece Q s z drawn x X u w v p =
-    let r = p .rises in
-    let rx = s .y .rises X (p .live) in
-    let lo = p .lo in
-    let hi = p .hi in
-    let back : w ≡ Q .h + 2 - (Q .h + 2 - w) = omega arith in
     record {
       live = p .live;
       astride = p .astride;
@@ -606,17 +499,15 @@ flip-piece Q s z drawn x X u w v p =
       lo = omega arith;
       hi = omega arith;
       rises = (omega arith, omega arith, omega arith);
-      left = subst (λ (n : ℕ). Q .levels n (z - 1) ≡ true) back (p .left);
-      right = subst (λ (n : ℕ). Q .levels n z ≡ true) back (p .right);
+      left = subst (λ (n : ℕ). Q .levels n (z - 1) ≡ true) (omega arith) (p .left);
+      right = subst (λ (n : ℕ). Q .levels n z ≡ true) (omega arith) (p .right);
       alone-left = λ i a b on. let e = p .alone-left (Q .h + 2 - i) (omega arith) (omega arith) on in omega arith;
       alone-right = λ i a b on. let e = p .alone-right (Q .h + 2 - i) (omega arith) (omega arith) on in omega arith;
     }
 
-swap-piece : (Q : View) (s : SoundView Q) (z : ℕ) → (1 < z) × (z ≤ Q .w) → (drawn : ℕ → Bool) (x : Side) (X : Blend) (u w v : ℕ) →
+swap-piece : (Q : View) (z : ℕ) → (1 < z) × (z ≤ Q .w) → (drawn : ℕ → Bool) (x : Side) (X : Blend) (u w v : ℕ) →
     Piece Q z drawn x X u w v → Piece (swap Q) (Q .w + 2 - z) drawn (opposite x) X u w v
-swap-piece Q s z i drawn x X u w v p =
-    let l : z - 1 ≡ Q .w + 1 - (Q .w + 2 - z) = omega arith in
-    let r : z ≡ Q .w + 1 - (Q .w + 2 - z - 1) = omega arith in
+swap-piece Q z i drawn x X u w v p =
     record {
       live = p .live;
       astride = by x (p .astride);
@@ -624,22 +515,22 @@ swap-piece Q s z i drawn x X u w v p =
       lo = p .lo;
       hi = p .hi;
       rises = p .rises;
-      left = subst (λ (n : ℕ). Q .levels w n ≡ true) r (p .right);
-      right = subst (λ (n : ℕ). Q .levels w n ≡ true) l (p .left);
-      alone-left = λ i a b on. p .alone-right i a b (subst (λ (n : ℕ). Q .levels i n ≡ true) (sym r) on);
-      alone-right = λ i a b on. p .alone-left i a b (subst (λ (n : ℕ). Q .levels i n ≡ true) (sym l) on);
+      left = subst (λ (n : ℕ). Q .levels w n ≡ true) (omega arith) (p .right);
+      right = subst (λ (n : ℕ). Q .levels w n ≡ true) (omega arith) (p .left);
+      alone-left = λ v a b on. p .alone-right v a b (subst (λ (n : ℕ). Q .levels v n ≡ true) (omega arith) on);
+      alone-right = λ v a b on. p .alone-left v a b (subst (λ (n : ℕ). Q .levels v n ≡ true) (omega arith) on);
     }
   where
     by : (x : Side) → KnotIn x z (Q .across X) → KnotIn (opposite x) (Q .w + 2 - z) (mirror (Q .w) (Q .across X))
-    by lower a = let r = s .x .rises X (p .live) in (omega arith, omega arith)
-    by upper a = let r = s .x .rises X (p .live) in (omega arith, omega arith)
+    by lower a = (omega arith, omega arith)
+    by upper a = (omega arith, omega arith)
 
 module _ (Q : View) (t : TightView Q) (z a b : ℕ) (drawn : ℕ → Bool) (d : Drawn Q z a b drawn) (x : Side) (X : Blend) (u w v : ℕ)
     (p : Piece Q z drawn x X u w v) (j k : ℕ) (hj : OnSide (Q .w) j) (hk : OnSide (Q .h) k) where
-  upper-any : (q : Side) → StepIn upper j (triple (from x (Q .across X)) z (to x (Q .across X))) → StepIn q k (triple u w v) → Taken z a b u w v Q drawn upper q j k
+  upper-any : (q : Side) → StepIn upper j (triple (from x (Q .across X)) z (to x (Q .across X))) → StepIn q k (triple u w v) →
+      Taken Q z drawn upper q j k
   upper-any upper i e B o = upper-upper z a b u w v Q t drawn d x X p j k hj hk i e B o
   upper-any lower i e B o =
-      let r = p .rises in
       let s = t .is-sound in
       let got = upper-upper z (Q .h + 2 - b) (Q .h + 2 - a) (Q .h + 2 - v) (Q .h + 2 - w) (Q .h + 2 - u) (flip Q) (flip-tight Q t) (λ n. drawn (Q .h + 1 - n))
       (flip-drawn Q z a b drawn d) x X (flip-piece Q s z drawn x X u w v p) j (Q .h + 1 - k) hj (on-mirror Q s k hk) i (omega arith, omega arith) B
@@ -648,21 +539,20 @@ module _ (Q : View) (t : TightView Q) (z a b : ℕ) (drawn : ℕ → Bool) (d : 
 
 swap-any : (Q : View) (t : TightView Q) (z a b : ℕ) (drawn : ℕ → Bool) (d : Drawn Q z a b drawn) (x : Side) (X : Blend) (u w v : ℕ)
     (p : Piece Q z drawn x X u w v) (j k : ℕ) (hj : OnSide (Q .w) j) (hk : OnSide (Q .h) k) (q : Side) →
-    StepIn lower j (triple (from x (Q .across X)) z (to x (Q .across X))) → StepIn q k (triple u w v) → Taken z a b u w v Q drawn lower q j k
+    StepIn lower j (triple (from x (Q .across X)) z (to x (Q .across X))) → StepIn q k (triple u w v) → Taken Q z drawn lower q j k
 swap-any Q t z a b drawn d x X u w v p j k hj hk q i e B o =
     let s = t .is-sound in
     let r = s .x .rises B (o .live) in
     let inner = d .inner in
     let got = upper-any (swap Q) (swap-tight Q t) (Q .w + 2 - z) a b drawn (swap-drawn Q s z a b drawn d) (opposite x) X u w v
-    (swap-piece Q s z inner drawn x X u w v p) (Q .w + 1 - j) k (omega arith, omega arith) hk q (turned x (s .x .rises X (p .live)) i) e B
+    (swap-piece Q z inner drawn x X u w v p) (Q .w + 1 - j) k (omega arith, omega arith) hk q (turned x (s .x .rises X (p .live)) i) e B
     (record { live = o .live; column = in-mirror (Q .w) lower j (Q .across B) r hj (o .column); row = o .row }) in
-    let par = got .0 in
     ((omega arith, omega arith), got .1)
   where
     turned : (x : Side) → RisesIn (Q .w) (Q .across X) → StepIn lower j (triple (from x (Q .across X)) z (to x (Q .across X))) →
         StepIn upper (Q .w + 1 - j) (triple (from (opposite x) (mirror (Q .w) (Q .across X))) (Q .w + 2 - z) (to (opposite x) (mirror (Q .w) (Q .across X))))
-    turned lower r i = let inner = d .inner in (omega arith, omega arith)
-    turned upper r i = let inner = d .inner in (omega arith, omega arith)
+    turned lower r i = (omega arith, omega arith)
+    turned upper r i = (omega arith, omega arith)
 
 pub taken-too : (Q : View) (t : TightView Q) (z a b : ℕ) (drawn : ℕ → Bool) (d : Drawn Q z a b drawn) (x : Side) (X : Blend) (u w v : ℕ)
     (p : Piece Q z drawn x X u w v) (j k : ℕ) (hj : OnSide (Q .w) j) (hk : OnSide (Q .h) k) (g q : Side) →

@@ -3,15 +3,16 @@ use Prim.Native.Nat.{ℕ, _+_, _-_, _≤_, _<_}
 use native.Mathlib.Omega.{arith}
 use mathlib.Core.Path.{_≡_, refl, sym, subst, _∙_}
 use mathlib.Core.Logic.{_⊎_, inl, inr, ⊎-elim}
-use mathlib.Core.Bool.{true, false, _&&_}
+use mathlib.Core.Bool.{true, false}
 use mathlib.Core.List.{List·Memᴰ}
 use lib.Dec.{eqb}
-use borrow.Author.Tests.{eqb-true, eqb-false, eq-eqb}
+use borrow.Author.Tests.{eqb-true, eq-eqb}
 use Rattle.axis.specs.Range.{any}
 use Rattle.axis.specs.Triple.{Side, lower, upper, knotIn}
 use Rattle.axis.proofs.Tests.{either, true-not-false, false-of, and-both, and-of, or-either, or-left, or-right, any-at, any-of}
-use Rattle.axis.proofs.Sides.{KnotIn, from, to, part-says, part-test, Clear, half-clear, still-clear}
-use Rattle.mesh.specs.Lines.{Direction, upright, level, other, side, Mesh, Layout, meshOf, onLine}
+use Rattle.axis.proofs.Runs.{if-equal}
+use Rattle.axis.proofs.Sides.{KnotIn, part-says, part-test, Clear, half-clear, still-clear}
+use Rattle.mesh.specs.Lines.{Direction, other, side, Mesh, Layout, meshOf, onLine}
 use Rattle.mesh.specs.Blends.{crossed, along, cuts, halve, isCut}
 use Rattle.mesh.specs.Order.{Comes, here, cut}
 use Rattle.mesh.specs.Sound.{sound}
@@ -24,10 +25,10 @@ use Rattle.mesh.proofs.Order.{some-half, left-uncut}
 use Rattle.mesh.proofs.Fresh.{fresh-line}
 use Rattle.mesh.proofs.Quadrants.{four-unnested}
 use Rattle.mesh.proofs.View.{View}
-use Rattle.mesh.proofs.Neighbours.{Abreast, line-ends, inward, outward, level-at}
+use Rattle.mesh.proofs.Neighbours.{Abreast, line-ends, inward, outward}
 use Rattle.mesh.proofs.Filling.{Good, edge, line, blends, edgeOf, Drawn}
 use Rattle.mesh.proofs.OneLineMore.{Ranged, Row, endOf, more-finer, step-drawn, step-either}
-use Rattle.mesh.proofs.TightMaps.{Built, viewOf, tight-view, still-built}
+use Rattle.mesh.proofs.TightMaps.{Built, viewOf, tight-view, still-built, abreast-level, twice}
 use Rattle.mesh.proofs.SoundLines.{cut-either, halve-same, halve-cross, from-before, unless-cut, rise-of, line-four}
 
 module _ (P : Layout) (d : Direction) (z : ℕ) (e : Side) (k : ℕ) where
@@ -74,7 +75,9 @@ module _ (P : Layout) (d : Direction) (z : ℕ) (e : Side) (k : ℕ) where
       any-of _ (liveOf P) (b .at upper) (b .live upper)
       (any-of _ (liveOf P) (b .at lower) (b .live lower)
       (and-of _ _
-      (and-of _ _ (and-of _ _ (and-of _ _ (part-test upper z (crossed d (b .at upper)) (b .over upper)) (part-test lower z (crossed d (b .at lower)) (b .over lower))) (eq-eqb _ _ (b .anchored upper))) (eq-eqb _ _ (b .anchored lower)))
+      (and-of _ _
+      (and-of _ _ (and-of _ _ (part-test upper z (crossed d (b .at upper)) (b .over upper)) (part-test lower z (crossed d (b .at lower)) (b .over lower)))
+      (eq-eqb _ _ (b .anchored upper))) (eq-eqb _ _ (b .anchored lower)))
       (eq-eqb _ _ (b .reaches upper ∙ sym (b .reaches lower)))))
 
 -- where an end of a line may be
@@ -82,12 +85,14 @@ abbrev Room : Layout → Direction → Side → ℕ → Type 0
 Room P d lower k = (1 ≤ k) × (k < side (other d) (P .w) (P .h) + 1)
 Room P d upper k = (1 < k) × (k ≤ side (other d) (P .w) (P .h) + 1)
 
-inner-room : (P : Layout) (d : Direction) (z : ℕ) (e : Side) (k : ℕ) → Room P d e k → (k ≡ edgeOf (viewOf d P) e → ⊥) → (1 < k) × (k < side (other d) (P .w) (P .h) + 1)
-inner-room P d z lower k r ne = (omega arith, omega arith)
-inner-room P d z upper k r ne = (omega arith, omega arith)
+inner-room : (P : Layout) (d : Direction) (e : Side) (k : ℕ) → Room P d e k → (k ≡ edgeOf (viewOf d P) e → ⊥) →
+    (1 < k) × (k < side (other d) (P .w) (P .h) + 1)
+inner-room P d lower k r ne = (omega arith, omega arith)
+inner-room P d upper k r ne = (omega arith, omega arith)
 
 -- a gap's end: the domain's edge, or a line that goes on
-pub gap-either : (P : Layout) (d : Direction) (z : ℕ) (e : Side) (k : ℕ) → gapEnds P d z e k ≡ true → (k ≡ edgeOf (viewOf d P) e) ⊎ (meshOf P d z (outward e k) ≡ true)
+pub gap-either : (P : Layout) (d : Direction) (z : ℕ) (e : Side) (k : ℕ) → gapEnds P d z e k ≡ true →
+    (k ≡ edgeOf (viewOf d P) e) ⊎ (meshOf P d z (outward e k) ≡ true)
 gap-either P d z lower k t = ⊎-elim (λ q. inl (eqb-true _ _ q)) inr (or-either _ _ t)
 gap-either P d z upper k t = ⊎-elim (λ q. inl (eqb-true _ _ q)) inr (or-either _ _ t)
 
@@ -106,16 +111,15 @@ gap-good P d z e k t = or-left _ _ t
 pub good-says : (P : Layout) (d : Direction) (z : ℕ) (e : Side) (k : ℕ) → Room P d e k → goodEnd P d z e k ≡ true → Good (viewOf d P) e z k
 unfolding goodEnd
 good-says P d z e k room t =
-    ⊎-elim (λ q. edge (eqb-true _ _ q))
-    (λ q. let inner = inner-room P d z e k room (eqb-false _ _ q) in
+    if-equal k (edgeOf (viewOf d P) e) edge
+    (λ ne. let inner = inner-room P d e k room ne in
     ⊎-elim (λ on. line inner on)
-    (λ off. ⊎-elim (λ g. absurd (⊎-elim (λ i. eqb-false _ _ q i) (λ on. true-not-false _ on off) (gap-either P d z e k g)))
+    (λ off. ⊎-elim (λ g. absurd (⊎-elim ne (λ on. true-not-false _ on off) (gap-either P d z e k g)))
     (λ g. let a = any-at (λ A. any (abreast d z e k A) (liveOf P)) (liveOf P) g in
     let c = any-at (abreast d z e k (a .0)) (liveOf P) (a .2) in
     blends inner off (abreast-says P d z e k (a .0) (c .0) (a .1) (c .1) (c .2)))
     (or-either (gapEnds P d z e k) (any (λ A. any (abreast d z e k A) (liveOf P)) (liveOf P)) t))
     (either (meshOf P d z (outward e k))))
-    (either (eqb k (edgeOf (viewOf d P) e)))
 
 pub good-of : (P : Layout) (d : Direction) (z : ℕ) (e : Side) (k : ℕ) → Good (viewOf d P) e z k → goodEnd P d z e k ≡ true
 unfolding goodEnd
@@ -144,8 +148,8 @@ module _ (P : Layout) (b : Built P) (s : Split) (d : Direction) (r : Ranged (P .
   run = side (other d) (P .w) (P .h)
 
   end-room : (e : Side) → Room P d e (endOf e s)
-  end-room lower = let g = r .range in (omega arith, omega arith)
-  end-room upper = let g = r .range in (omega arith, omega arith)
+  end-room lower = (omega arith, omega arith)
+  end-room upper = (omega arith, omega arith)
 
   drawn-line : ((e : Side) → Good (viewOf d P) e z (endOf e s)) → Drawn (viewOf d P) z (s .from + 1) (s .to + 1) (meshOf (withLine P s) d z)
   drawn-line good =
@@ -174,33 +178,22 @@ module _ (P : Layout) (b : Built P) (s : Split) (d : Direction) (r : Ranged (P .
   unfolding onLine
   good-on-line e good = or-left _ _ (by e (good-says P d z e (endOf e s) (end-room e) good))
     where
-      side-by : (a : Side) (k : ℕ) → Abreast (viewOf d P) a z k → meshOf P (other d) k z ≡ true
-      side-by a k q =
-          let known = tight-view P b d .is-sound in
-          let o = q .over upper in
-          let rise = known .x .rises (q .at upper) (q .live upper) in
-          level-at (viewOf d P) known (q .at upper) (q .live upper) (q .anchored upper) (omega arith) (omega arith)
-
-      twice : (d : Direction) → other (other d) ≡ d
-      twice upright = refl
-      twice level = refl
-
       inside : z < side (other (other d)) (P .w) (P .h) + 2
-      inside = let i = r .inner in subst (λ (f : Direction). z < side f (P .w) (P .h) + 2) (sym (twice d)) (omega arith)
+      inside = subst (λ (f : Direction). z < side f (P .w) (P .h) + 2) (sym (twice d)) (omega arith)
 
       by : (e : Side) → Good (viewOf d P) e z (endOf e s) → meshOf P (other d) (endOf e s) z ≡ true
       by lower (edge q) = fresh-line (P .w) (P .h) (P .splits) (other d) (s .from + 1) z (inr (inl q)) inside
       by upper (edge q) = fresh-line (P .w) (P .h) (P .splits) (other d) (s .to + 1) z (inr (inr (inl q))) inside
       by lower (line i on) =
-          let g = r .range in
-          let inn = r .inner in
-          side-by upper (s .from + 1) (line-ends (viewOf d P) (tight-view P b d) z (s .from + 1) (omega arith, omega arith) i upper on (free (s .from + 1) (omega arith) (omega arith)) .abreast)
+          abreast-level P b d
+          (line-ends (viewOf d P) (tight-view P b d) z (s .from + 1) (omega arith, omega arith) i upper on
+          (free (s .from + 1) (omega arith) (omega arith)) .abreast)
       by upper (line i on) =
-          let g = r .range in
-          let inn = r .inner in
-          side-by lower (s .to + 1) (line-ends (viewOf d P) (tight-view P b d) z (s .to + 1) (omega arith, omega arith) i lower on (free (s .to + 1 - 1) (omega arith) (omega arith)) .abreast)
-      by lower (blends i off q) = side-by lower (s .from + 1) q
-      by upper (blends i off q) = side-by upper (s .to + 1) q
+          abreast-level P b d
+          (line-ends (viewOf d P) (tight-view P b d) z (s .to + 1) (omega arith, omega arith) i lower on
+          (free (s .to + 1 - 1) (omega arith) (omega arith)) .abreast)
+      by lower (blends i off q) = abreast-level P b d q
+      by upper (blends i off q) = abreast-level P b d q
 
   -- A sound map is left only by good ends, if the ends lie on crossing lines and the split cuts something.
   module _ (on-lines : (e : Side) → onLine (meshOf P) (other d) (endOf e s) z ≡ true) (some-cut : any (isCut (meshOf (withLine P s))) (liveOf P) ≡ true)
@@ -214,7 +207,14 @@ module _ (P : Layout) (b : Built P) (s : Split) (d : Direction) (r : Ranged (P .
     -- the blends beside an end are blends of the map before: the line would have cut them
     abreast-before : (e : Side) (k : ℕ) → Abreast (viewOf d (withLine P s)) e z k → Abreast (viewOf d P) e z k
     abreast-before e k q =
-        record { reach = q .reach; at = q .at; live = λ x. before x (q .at x) (q .live x) (q .over x); over = q .over; anchored = q .anchored; reaches = q .reaches }
+        record {
+          reach = q .reach;
+          at = q .at;
+          live = λ x. before x (q .at x) (q .live x) (q .over x);
+          over = q .over;
+          anchored = q .anchored;
+          reaches = q .reaches;
+        }
       where
         before : (x : Side) (B : Blend) → List·Memᴰ B (liveOf (withLine P s)) → KnotIn x z (crossed d B) → List·Memᴰ B (liveOf P)
         before x B m p =
@@ -232,25 +232,24 @@ module _ (P : Layout) (b : Built P) (s : Split) (d : Direction) (r : Ranged (P .
     sound-good e = good-of P d z e (endOf e s) (by e)
       where
         drawn-in : (e : Side) → meshOf (withLine P s) d z (inward e (endOf e s)) ≡ true
-        drawn-in lower = let g = r .range in step-drawn P s d r (s .from + 1) (inl (omega arith, omega arith))
-        drawn-in upper = let g = r .range in step-drawn P s d r (s .to + 1 - 1) (inl (omega arith, omega arith))
+        drawn-in lower = step-drawn P s d r (s .from + 1) (inl (omega arith, omega arith))
+        drawn-in upper = step-drawn P s d r (s .to + 1 - 1) (inl (omega arith, omega arith))
 
         off-row : (e : Side) → (1 < endOf e s) × (endOf e s < run + 1) → Row run s (outward e (endOf e s)) → ⊥
-        off-row lower i row = let g = r .range in ⊎-elim (λ q. omega arith) (λ o. ⊎-elim (λ q. omega arith) (λ q. omega arith) o) row
-        off-row upper i row = let g = r .range in ⊎-elim (λ q. omega arith) (λ o. ⊎-elim (λ q. omega arith) (λ q. omega arith) o) row
+        off-row lower i row = ⊎-elim (λ q. omega arith) (⊎-elim (λ q. omega arith) (λ q. omega arith)) row
+        off-row upper i row = ⊎-elim (λ q. omega arith) (⊎-elim (λ q. omega arith) (λ q. omega arith)) row
 
         by : (e : Side) → Good (viewOf d P) e z (endOf e s)
         by e =
-            ⊎-elim (λ q. edge (eqb-true _ _ q))
-            (λ q. let inner = inner-room P d z e (endOf e s) (end-room e) (eqb-false _ _ q) in
+            if-equal (endOf e s) (edgeOf (viewOf d P) e) edge
+            (λ ne. let inner = inner-room P d e (endOf e s) (end-room e) ne in
             ⊎-elim (λ on. line inner on)
             (λ off. blends inner off (abreast-before e (endOf e s) (ends e inner off)))
             (either (meshOf P d z (outward e (endOf e s)))))
-            (either (eqb (endOf e s) (edgeOf (viewOf d P) e)))
           where
-            ends : (e : Side) → (1 < endOf e s) × (endOf e s < run + 1) → meshOf P d z (outward e (endOf e s)) ≡ false → Abreast (viewOf d (withLine P s)) e z (endOf e s)
+            ends : (e : Side) → (1 < endOf e s) × (endOf e s < run + 1) → meshOf P d z (outward e (endOf e s)) ≡ false →
+                Abreast (viewOf d (withLine P s)) e z (endOf e s)
             ends e inner off =
-                let i = r .inner in
                 line-ends (viewOf d (withLine P s)) (tight-view (withLine P s) built-on d) z (endOf e s) (omega arith, omega arith) inner e (drawn-in e)
                 (false-of _ (λ on. ⊎-elim (λ t. true-not-false _ t off) (λ q. off-row e inner (q .2)) (step-either P s d r d z (outward e (endOf e s)) on)))
                 .abreast

@@ -5,16 +5,15 @@ use mathlib.Core.Path.{_≡_, refl, sym, ap, subst, _∙_}
 use mathlib.Core.Logic.{_⊎_, inl, inr, ⊎-elim}
 use mathlib.Core.Bool.{true, false}
 use mathlib.Core.List.{List·Memᴰ}
-use lib.Dec.{eqb}
-use borrow.Author.Tests.{eqb-true, eqb-false, eq-eqb}
+use borrow.Author.Tests.{eq-eqb}
 use Rattle.axis.specs.Triple.{triple, Side, lower, upper, half}
 use Rattle.axis.specs.declared.Triple.{Triple}
 use Rattle.axis.proofs.Tests.{either, true-not-false, false-of, and-both, every-of}
 use Rattle.axis.proofs.Triples.{Rise, Inside, Knots, half-rises, half-within, half-knots, triple-eq}
 use Rattle.axis.proofs.Parts.{OnSide, lies, beside}
 use Rattle.axis.proofs.Counts.{one-at-most}
-use Rattle.axis.proofs.Runs.{Downward, throughout, until, downward, neither}
-use Rattle.axis.proofs.Sides.{KnotIn, opposite, from, to, knot-step, lies-at, halves-of, kept, kept-is, kept-in, kept-away, one-part, part-of, inside-of, StepIn}
+use Rattle.axis.proofs.Runs.{if-equal, neither}
+use Rattle.axis.proofs.Sides.{KnotIn, opposite, from, to, knot-step, lies-at, step-beside, part-within, knot-between, halves-of, kept, kept-is, kept-in, kept-inside, kept-rises, kept-away, one-part, part-of, inside-of, StepIn}
 use Rattle.mesh.specs.Lines.{Direction, upright, level, other, side, Mesh, Layout, meshOf}
 use Rattle.mesh.specs.Blends.{crossed, along, cuts, halve, live}
 use Rattle.mesh.specs.Order.{Uncut, Comes, here, cut, Left}
@@ -22,16 +21,16 @@ use Rattle.mesh.specs.Sound.{fourEverywhere}
 use Rattle.mesh.specs.Splits.{liveOf, withLine}
 use Rattle.mesh.specs.declared.Split.{Split}
 use Rattle.mesh.specs.declared.Blend.{Blend}
-use Rattle.mesh.proofs.Cuts.{RiseB, Cut, cut-fact, cut-test, proper-rises}
+use Rattle.mesh.proofs.Cuts.{RiseB, cut-fact, cut-test}
 use Rattle.mesh.proofs.Order.{some-half, left-uncut, finer}
 use Rattle.mesh.proofs.Fresh.{firstFour-rises}
-use Rattle.mesh.proofs.SoundMaps.{live-left, live-proper, live-distinct}
+use Rattle.mesh.proofs.SoundMaps.{live-left, live-distinct}
 use Rattle.mesh.proofs.Quadrants.{quadrant, four-of}
 use Rattle.mesh.proofs.View.{View, Live, Over, SoundView, TightView}
 use Rattle.mesh.proofs.AnchorsCross.{crossing-anchored}
 use Rattle.mesh.proofs.Filling.{Holding, agree, level-covers, Drawn, CutBy, Piece, taken-too}
 use Rattle.mesh.proofs.OneLineMore.{Ranged, more-finer, step-either}
-use Rattle.mesh.proofs.TightMaps.{Built, viewOf, tight-view}
+use Rattle.mesh.proofs.TightMaps.{Built, viewOf, tight-view, live-rises, only-there}
 
 -- No live blend's anchor lies strictly inside another's support, in the words of a view.
 pub unnested : (Q : View) (s : SoundView Q) (E X : Blend) → Live Q E → Live Q X → (Q .across X .l < Q .across E .m) × (Q .across E .m < Q .across X .r) →
@@ -40,9 +39,9 @@ unnested Q s E X mE mX a u =
     let wx = s .x .rises X mX in
     let wy = s .y .rises X mX in
     let p = beside (Q .w) (Q .across E) (Q .across X) (s .x .wide) (s .x .rises E mE) wx (a .0) (a .1)
-    (λ i. let lo = i .lo in i .off (sym (s .x .near X mX (omega arith)))) (λ i. let hi = i .hi in i .off (sym (s .x .far X mX (omega arith)))) in
+    (λ i. i .off (sym (s .x .near X mX (omega arith)))) (λ i. i .off (sym (s .x .far X mX (omega arith)))) in
     let q = beside (Q .h) (Q .up E) (Q .up X) (s .y .wide) (s .y .rises E mE) wy (u .0) (u .1)
-    (λ i. let lo = i .lo in i .off (sym (s .y .near X mX (omega arith)))) (λ i. let hi = i .hi in i .off (sym (s .y .far X mX (omega arith)))) in
+    (λ i. i .off (sym (s .y .near X mX (omega arith)))) (λ i. i .off (sym (s .y .far X mX (omega arith)))) in
     s .one (p .0) (q .0) (p .1) (q .1) E X (p .2) (q .2)
     (record { live = mE; column = lies-at (p .0) (p .1) _ (p .3); row = lies-at (q .0) (q .1) _ (q .3) })
     (record { live = mX; column = lies-at (p .0) (p .1) _ (p .4); row = lies-at (q .0) (q .1) _ (q .4) })
@@ -56,8 +55,8 @@ cut-either M upright level y B c = let f = cut-fact M level y B c in inr (refl, 
 cut-either M level upright y B c = let f = cut-fact M upright y B c in inr (refl, f .inside, f .covered)
 cut-either M level level y B c = let f = cut-fact M level y B c in inl (refl, f .inside, f .covered)
 
-pub level-cuts : (M : Mesh) (d : Direction) (y : ℕ) (B : Blend) → Inside y (along d B) → ((j : ℕ) → crossed d B .l ≤ j → j < crossed d B .r → M (other d) y j ≡ true) →
-    cuts M (other d) y B ≡ true
+pub level-cuts : (M : Mesh) (d : Direction) (y : ℕ) (B : Blend) → Inside y (along d B) →
+    ((j : ℕ) → crossed d B .l ≤ j → j < crossed d B .r → M (other d) y j ≡ true) → cuts M (other d) y B ≡ true
 level-cuts M upright y B i c = cut-test M level y B (record { inside = i; covered = c })
 level-cuts M level y B i c = cut-test M upright y B (record { inside = i; covered = c })
 
@@ -88,7 +87,8 @@ in-view d p q x y B e = by d (lies-at p x (B .across) (b .0)) (lies-at q y (B .u
     b : (lies p x (B .across) ≡ true) × (lies q y (B .up) ≡ true)
     b = and-both (lies p x (B .across)) (lies q y (B .up)) e
 
-    by : (d : Direction) → StepIn p x (B .across) → StepIn q y (B .up) → StepIn (pick d p q) (side d x y) (crossed d B) × StepIn (pick (other d) p q) (side (other d) x y) (along d B)
+    by : (d : Direction) → StepIn p x (B .across) → StepIn q y (B .up) →
+        StepIn (pick d p q) (side d x y) (crossed d B) × StepIn (pick (other d) p q) (side (other d) x y) (along d B)
     by upright i k = (i, k)
     by level i k = (k, i)
 
@@ -114,7 +114,10 @@ module _ (P : Layout) (b : Built P) (s : Split) (d : Direction) (r : Ranged (P .
   known = t .is-sound
 
   pub rise-of : (B : Blend) → Live Q B → RiseB B
-  rise-of B m = proper-rises (P .w) (P .h) B (live-proper (P .w) (P .h) (b .wide) (b .high) (meshOf P) B m)
+  rise-of = live-rises P b
+
+  rise-across : (B : Blend) → Live Q B → Rise (crossed d B)
+  rise-across B m = let r = known .x .rises B m in omega arith
 
   -- elsewhere the steps are those of before
   same-elsewhere : (y k : ℕ) → (y ≡ z → ⊥) → N d y k ≡ true → meshOf P d y k ≡ true
@@ -131,24 +134,9 @@ module _ (P : Layout) (b : Built P) (s : Split) (d : Direction) (r : Ranged (P .
       apart upright e = let q : _≡_ {A = ℕ} 1 0 = ap number-of e in omega arith
       apart level e = let q : _≡_ {A = ℕ} 0 1 = ap number-of e in omega arith
 
-  -- a live blend of the map before that is cut is cut by the line
-  only-there : (X : Blend) → Live Q X → (e : Direction) (y : ℕ) → cuts N e y X ≡ true → cuts N d z X ≡ true
-  only-there X m e y c = search (downward (meshOf P e y) (along e X .l) (along e X .r))
-    where
-      f : Cut N e y X
-      f = cut-fact N e y X c
-
-      search : Downward (meshOf P e y) (along e X .l) (along e X .r) → cuts N d z X ≡ true
-      search (throughout g) =
-          absurd (true-not-false _ (cut-test (meshOf P) e y X (record { inside = f .inside; covered = g }))
-          (live-left (P .w) (P .h) (b .wide) (b .high) (meshOf P) X .0 m .2 .uncut e y))
-      search (until k lo hi off g) =
-          ⊎-elim (λ on. absurd (true-not-false _ on off))
-          (λ q. subst (λ (i : Direction). cuts N i z X ≡ true) (q .0) (subst (λ (n : ℕ). cuts N e n X ≡ true) (q .1) c))
-          (step-either P s d r e y k (f .covered k lo hi))
-
+  -- a live blend of the map before that the line does not cut is uncut
   pub unless-cut : (X : Blend) → Live Q X → cuts N d z X ≡ false → Uncut N X
-  unless-cut X m off e y = false-of _ (λ c. true-not-false _ (only-there X m e y c) off)
+  unless-cut X m off e y = false-of _ (λ c. true-not-false _ (only-there P b s d r X m e y c) off)
 
   -- what is left of the map before
   pub from-before : (C : Blend) → List·Memᴰ C (liveOf (withLine P s)) → (X : Blend) × Live Q X × Left N X C
@@ -166,22 +154,20 @@ module _ (P : Layout) (b : Built P) (s : Split) (d : Direction) (r : Ranged (P .
     G = to x (crossed d X)
 
     spans : (F < z) × (z < G) × (crossed d X .l ≤ F) × (G ≤ crossed d X .r)
-    spans = by x p
-      where
-        by : (x : Side) → KnotIn x z (crossed d X) → (from x (crossed d X) < z) × (z < to x (crossed d X)) × (crossed d X .l ≤ from x (crossed d X)) × (to x (crossed d X) ≤ crossed d X .r)
-        by lower p = let rx = known .x .rises X m in (p .0, p .1, omega arith, omega arith)
-        by upper p = let rx = known .x .rises X m in (p .0, p .1, omega arith, omega arith)
+    spans =
+        let k = knot-between x z (crossed d X) p in
+        let w = part-within x (crossed d X) (rise-across X m) in
+        (k .0, k .1, w .0, w .1)
 
     -- a crossing strictly inside it would be an anchor there
     no-crossing : (y v : ℕ) → (crossed d X .l < y) × (y < crossed d X .r) → (along d X .l < v) × (v < along d X .r) →
-        ((y ≡ crossed d X .m) × (v ≡ along d X .m) → ⊥) → Q .uprights y (v - 1) ≡ true → Q .uprights y v ≡ true → Q .levels v (y - 1) ≡ true → Q .levels v y ≡ true → ⊥
+        ((y ≡ crossed d X .m) × (v ≡ along d X .m) → ⊥) → Q .uprights y (v - 1) ≡ true → Q .uprights y v ≡ true → Q .levels v (y - 1) ≡ true →
+        Q .levels v y ≡ true → ⊥
     no-crossing y v hy hv off a e f g =
         let rx = known .x .rises X m in
         let ry = known .y .rises X m in
         let k = crossing-anchored Q t y v
         (record { across = (omega arith, omega arith); up = (omega arith, omega arith); below = a; above = e; left = f; right = g }) in
-        let at = k .across in
-        let up = k .up in
         let is = unnested Q known (k .blend) X (k .live) m (omega arith, omega arith) (omega arith, omega arith) in
         let mid = ap (λ (B : Blend). crossed d B .m) is in
         let top = ap (λ (B : Blend). along d B .m) is in
@@ -199,22 +185,16 @@ module _ (P : Layout) (b : Built P) (s : Split) (d : Direction) (r : Ranged (P .
         false-of _
         (λ q.
         ⊎-elim
-        (λ f. by-upright x p (subst (Inside y) H-across (f .1)) (subst (λ (T : Triple). (k : ℕ) → T .l ≤ k → k < T .r → N d y k ≡ true) up-is (f .2)))
-        (λ f. by-level x p (subst (Inside y) up-is (f .1)) (subst (λ (T : Triple). (j : ℕ) → T .l ≤ j → j < T .r → N (other d) y j ≡ true) H-across (f .2)))
+        (λ f. by-upright (subst (Inside y) H-across (f .1)) (subst (λ (T : Triple). (k : ℕ) → T .l ≤ k → k < T .r → N d y k ≡ true) up-is (f .2)))
+        (λ f. by-level (subst (Inside y) up-is (f .1)) (subst (λ (T : Triple). (j : ℕ) → T .l ≤ j → j < T .r → N (other d) y j ≡ true) H-across (f .2)))
         (cut-either N d e y H q))
       where
         up-is : along d H ≡ along d X
         up-is = halve-same d (opposite x) z X .1
 
-        by-upright : (x : Side) → KnotIn x z (crossed d X) → Inside y (kept x z (crossed d X)) → ((k : ℕ) → along d X .l ≤ k → k < along d X .r → N d y k ≡ true) → ⊥
-        by-upright lower p i f =
-            let lo = i .lo in
-            let hi = i .hi in
-            known .x .clear X m y (record { lo = omega arith; hi = hi; off = i .off }) (λ k klo khi. same-elsewhere y k (omega arith) (f k klo khi))
-        by-upright upper p i f =
-            let lo = i .lo in
-            let hi = i .hi in
-            known .x .clear X m y (record { lo = lo; hi = omega arith; off = i .off }) (λ k klo khi. same-elsewhere y k (omega arith) (f k klo khi))
+        by-upright : Inside y (kept x z (crossed d X)) → ((k : ℕ) → along d X .l ≤ k → k < along d X .r → N d y k ≡ true) → ⊥
+        by-upright i f =
+            let q = kept-inside x z y (crossed d X) p i in known .x .clear X m y (q .0) (λ k klo khi. same-elsewhere y k (q .1) (f k klo khi))
 
         passed : Inside y (along d X) → Q .levels y (crossed d X .m - 1) ≡ true → Q .levels y (crossed d X .m) ≡ true → ⊥
         passed i f g =
@@ -225,12 +205,9 @@ module _ (P : Layout) (b : Built P) (s : Split) (d : Direction) (r : Ranged (P .
             no-crossing (crossed d X .m) y (omega arith, omega arith) (lo, hi) (λ q. off (q .1)) (known .x .grid X m (y - 1) (omega arith) (omega arith) .m)
             (known .x .grid X m y (omega arith) (omega arith) .m) f g
 
-        by-level : (x : Side) → KnotIn x z (crossed d X) → Inside y (along d X) → ((j : ℕ) → kept x z (crossed d X) .l ≤ j → j < kept x z (crossed d X) .r → N (other d) y j ≡ true) → ⊥
-        by-level lower p i f =
-            let rx = known .x .rises X m in
-            passed i (same-across y _ (f (crossed d X .m - 1) (omega arith) (omega arith))) (same-across y _ (f (crossed d X .m) (omega arith) (omega arith)))
-        by-level upper p i f =
-            let rx = known .x .rises X m in
+        by-level : Inside y (along d X) → ((j : ℕ) → kept x z (crossed d X) .l ≤ j → j < kept x z (crossed d X) .r → N (other d) y j ≡ true) → ⊥
+        by-level i f =
+            let about = kept-rises x z (crossed d X) (rise-across X m) p in
             passed i (same-across y _ (f (crossed d X .m - 1) (omega arith) (omega arith))) (same-across y _ (f (crossed d X .m) (omega arith) (omega arith)))
 
     -- The other half is cut by levels only, those that have a step beside the line.
@@ -238,7 +215,7 @@ module _ (P : Layout) (b : Built P) (s : Split) (d : Direction) (r : Ranged (P .
     holding v lo hi = record { live = m; column = knot-step x z (crossed d X) p; lo = lo; hi = hi }
 
     abbrev column : OnSide (Q .w) z
-    column = let i = r .inner in (omega arith, omega arith)
+    column = (omega arith, omega arith)
 
     covers : (v j : ℕ) → along d X .l < v → v < along d X .r → Q .levels v z ≡ true → F ≤ j → j < G → Q .levels v j ≡ true
     covers v j lo hi on jlo jhi = level-covers Q t z v column on x X (holding v lo hi) j jlo jhi
@@ -253,7 +230,6 @@ module _ (P : Layout) (b : Built P) (s : Split) (d : Direction) (r : Ranged (P .
     between-first : Between (halve d x z X)
     between-first =
         let e = halve-same d x z X in
-        let rx = known .x .rises X m in
         let ry = known .y .rises X m in
         let f = spans in
         record {
@@ -271,9 +247,6 @@ module _ (P : Layout) (b : Built P) (s : Split) (d : Direction) (r : Ranged (P .
         let hi = g .hi in
         let off = g .off in
         let sp = spans in
-        let ql = q .lo in
-        let qh = q .hi in
-        let rise = q .rises in
         let v = along d D .m in
         let on = q .knots .m in
         no-crossing y v (omega arith, omega arith) (omega arith, omega arith) (λ e. middle x p y lo hi (e .0))
@@ -284,15 +257,14 @@ module _ (P : Layout) (b : Built P) (s : Split) (d : Direction) (r : Ranged (P .
         middle lower p y lo hi e = omega arith
         middle upper p y lo hi e = omega arith
 
-    between-half : (D : Blend) → Between D → (y : ℕ) (s : Side) → Inside y (along d D) → ((j : ℕ) → crossed d D .l ≤ j → j < crossed d D .r → N (other d) y j ≡ true) →
-        Between (halve (other d) s y D)
+    between-half : (D : Blend) → Between D → (y : ℕ) (s : Side) → Inside y (along d D) →
+        ((j : ℕ) → crossed d D .l ≤ j → j < crossed d D .r → N (other d) y j ≡ true) → Between (halve (other d) s y D)
     between-half D q y s i f =
         let e = halve-cross d s y D in
         let w = half-within s y (along d D) (q .rises) i in
         let sp = spans in
-        let ql = q .lo in
-        let qh = q .hi in
-        let g : (j : ℕ) → F ≤ j → j < G → N (other d) y j ≡ true = subst (λ (T : Triple). (j : ℕ) → T .l ≤ j → j < T .r → N (other d) y j ≡ true) (q .across) f in
+        let g : (j : ℕ) → F ≤ j → j < G → N (other d) y j ≡ true =
+        subst (λ (T : Triple). (j : ℕ) → T .l ≤ j → j < T .r → N (other d) y j ≡ true) (q .across) f in
         record {
           across = e .0 ∙ q .across;
           rises = subst Rise (sym (e .1)) (half-rises s y (along d D) (q .rises) i);
@@ -315,9 +287,6 @@ module _ (P : Layout) (b : Built P) (s : Split) (d : Direction) (r : Ranged (P .
     -- so of what is left of it each lies about one level, between the next ones
     piece-of : (C : Blend) → Between C → Uncut N C → Piece Q z (N d z) x X (along d C .l) (along d C .m) (along d C .r)
     piece-of C q u =
-        let ql = q .lo in
-        let qh = q .hi in
-        let rise = q .rises in
         let sp = spans in
         let on = q .knots .m in
         let ry = known .y .rises X m in
@@ -336,27 +305,20 @@ module _ (P : Layout) (b : Built P) (s : Split) (d : Direction) (r : Ranged (P .
       where
         alone : (i : ℕ) → along d C .l < i → i < along d C .r → Q .levels i z ≡ true → i ≡ along d C .m
         alone i lo hi step =
-            let ql = q .lo in
-            let qh = q .hi in
-            ⊎-elim (λ e. eqb-true _ _ e)
-            (λ e. absurd (true-not-false _
-            (level-cuts N d i C (record { lo = lo; hi = hi; off = eqb-false i (along d C .m) e })
+            if-equal i (along d C .m) (λ e. e)
+            (λ off. absurd (true-not-false _
+            (level-cuts N d i C (record { lo = lo; hi = hi; off = off })
             (λ j jlo jhi. more-finer P s (other d) i j
-            (covers i j (omega arith) (omega arith) step (subst (λ (T : Triple). T .l ≤ j) (q .across) jlo) (subst (λ (T : Triple). j < T .r) (q .across) jhi))))
+            (covers i j (omega arith) (omega arith) step (subst (λ (T : Triple). T .l ≤ j) (q .across) jlo)
+            (subst (λ (T : Triple). j < T .r) (q .across) jhi))))
             (u (other d) i)))
-            (either (eqb i (along d C .m)))
 
         beside-line : (i : ℕ) → along d C .l < i → i < along d C .r → Q .levels i (z - 1) ≡ true → Q .levels i z ≡ true
         beside-line i lo hi step =
-            let ql = q .lo in
-            let qh = q .hi in
             let sp = spans in
-            let inn = r .inner in
-            level-covers Q t (z - 1) i (omega arith, omega arith) step x X (record { live = m; column = before x p; lo = omega arith; hi = omega arith }) z (omega arith) (omega arith)
-          where
-            before : (x : Side) → KnotIn x z (crossed d X) → StepIn x (z - 1) (crossed d X)
-            before lower p = (omega arith, omega arith)
-            before upper p = (omega arith, omega arith)
+            level-covers Q t (z - 1) i (omega arith, omega arith) step x X
+            (record { live = m; column = step-beside x z (z - 1) (crossed d X) (omega arith, omega arith) p; lo = omega arith; hi = omega arith })
+            z (omega arith) (omega arith)
 
   -- What the line leaves of the map before: a blend that it does not cut, the half with the anchor of one that it cuts, or a piece beside the line.
   data Kind (C : Blend) : Type 0 where
@@ -385,7 +347,8 @@ module _ (P : Layout) (b : Built P) (s : Split) (d : Direction) (r : Ranged (P .
               let q = between-left x X mX p c (between-first x X mX p c) (l .comes) in
               piece x X (piece-of x X mX p c C q (l .uncut)) (q .across) (q .knots)
 
-          own-half : (X : Blend) (mX : Live Q X) (x : Side) (p : KnotIn x z (crossed d X)) (c : CutBy Q (N d z) X) → Left N (halve d (opposite x) z X) C → Kind C
+          own-half : (X : Blend) (mX : Live Q X) (x : Side) (p : KnotIn x z (crossed d X)) (c : CutBy Q (N d z) X) →
+              Left N (halve d (opposite x) z X) C → Kind C
           own-half X mX x p c l = kept-half x X mX p c (left-uncut (kept-uncut x X mX p c) l)
 
           by : (X : Blend) (mX : Live Q X) (x : Side) (p : KnotIn x z (crossed d X)) (c : CutBy Q (N d z) X) (w : Side) → Left N (halve d w z X) C → Kind C
@@ -397,15 +360,14 @@ module _ (P : Layout) (b : Built P) (s : Split) (d : Direction) (r : Ranged (P .
   -- In one quadrant of a square lies one of them only.
   module _ (dr : Drawn Q z (s .from + 1) (s .to + 1) (N d z)) (g q : Side) (j k : ℕ) (hj : OnSide (Q .w) j) (hk : OnSide (Q .h) k) where
     cut-is : (x : Side) (X : Blend) → Live Q X → KnotIn x z (crossed d X) → CutBy Q (N d z) X → cuts N d z X ≡ true
-    cut-is x X m p c =
-        let rx = known .x .rises X m in
-        cut-test N d z X (record { inside = inside-of x z (crossed d X) (record { low = rx .low; high = rx .high }) p; covered = c })
+    cut-is x X m p c = cut-test N d z X (record { inside = inside-of x z (crossed d X) (rise-across X m) p; covered = c })
 
     record Sits (C : Blend) : Type 0 where
       column : StepIn g j (crossed d C)
       row : StepIn q k (along d C)
 
-    kept-sits : (x : Side) (X : Blend) → Live Q X → (p : KnotIn x z (crossed d X)) → Sits (halve d (opposite x) z X) → Over Q g q j k X × StepIn g j (kept x z (crossed d X))
+    kept-sits : (x : Side) (X : Blend) → Live Q X → (p : KnotIn x z (crossed d X)) → Sits (halve d (opposite x) z X) →
+        Over Q g q j k X × StepIn g j (kept x z (crossed d X))
     kept-sits x X m p o =
         let e = halve-same d (opposite x) z X in
         let i = subst (StepIn g j) (e .0 ∙ kept-is x z (crossed d X) p) (o .column) in
@@ -422,7 +384,8 @@ module _ (P : Layout) (b : Built P) (s : Split) (d : Direction) (r : Ranged (P .
         crossed d C ≡ triple (from x (crossed d X)) z (to x (crossed d X)) → Sits C → (B : Blend) → Over Q g q j k B →
         KnotIn g z (crossed d B) × CutBy Q (N d z) B
     taken x X C p e o B over =
-        taken-too Q t z (s .from + 1) (s .to + 1) (N d z) dr x X (along d C .l) (along d C .m) (along d C .r) p j k hj hk g q (subst (StepIn g j) e (o .column)) (o .row) B over
+        taken-too Q t z (s .from + 1) (s .to + 1) (N d z) dr x X (along d C .l) (along d C .m) (along d C .r) p j k hj hk g q
+        (subst (StepIn g j) e (o .column)) (o .row) B over
 
     whole-half : (B C : Blend) → Live Q B → cuts N d z B ≡ false → (x : Side) (X : Blend) → Live Q X → KnotIn x z (crossed d X) → CutBy Q (N d z) X →
         C ≡ halve d (opposite x) z X → Sits B → Sits C → ⊥
@@ -430,7 +393,8 @@ module _ (P : Layout) (b : Built P) (s : Split) (d : Direction) (r : Ranged (P .
         let is = one-before B X (over-whole B mB oB) (kept-sits x X mX p (subst Sits e oC) .0) in
         true-not-false _ (cut-is x X mX p c) (ap (cuts N d z) (sym is) ∙ off)
 
-    whole-piece : (B C : Blend) → Live Q B → cuts N d z B ≡ false → (x : Side) (X : Blend) → Piece Q z (N d z) x X (along d C .l) (along d C .m) (along d C .r) →
+    whole-piece : (B C : Blend) → Live Q B → cuts N d z B ≡ false → (x : Side) (X : Blend) →
+        Piece Q z (N d z) x X (along d C .l) (along d C .m) (along d C .r) →
         crossed d C ≡ triple (from x (crossed d X)) z (to x (crossed d X)) → Sits B → Sits C → ⊥
     whole-piece B C mB off x X p e oB oC =
         let r = taken x X C p e oC B (over-whole B mB oB) in
@@ -451,9 +415,11 @@ module _ (P : Layout) (b : Built P) (s : Split) (d : Direction) (r : Ranged (P .
         ((i : ℕ) → u < i → i < v → Q .levels i z ≡ true → i ≡ w) → ((i : ℕ) → a < i → i < f → Q .levels i z ≡ true → i ≡ e) →
         Q .levels w z ≡ true → Q .levels e z ≡ true → w ≡ e
     same-level lower u w v a e f i o r p alone other won eon =
-        neither w e (λ lt. let same = other w (omega arith) (omega arith) won in omega arith) (λ gt. let same = alone e (omega arith) (omega arith) eon in omega arith)
+        neither w e (λ lt. let same = other w (omega arith) (omega arith) won in omega arith)
+        (λ gt. let same = alone e (omega arith) (omega arith) eon in omega arith)
     same-level upper u w v a e f i o r p alone other won eon =
-        neither w e (λ lt. let same = alone e (omega arith) (omega arith) eon in omega arith) (λ gt. let same = other w (omega arith) (omega arith) won in omega arith)
+        neither w e (λ lt. let same = alone e (omega arith) (omega arith) eon in omega arith)
+        (λ gt. let same = other w (omega arith) (omega arith) won in omega arith)
 
     pieces : (B C : Blend) (x y : Side) (X Y : Blend) → Piece Q z (N d z) x X (along d B .l) (along d B .m) (along d B .r) →
         crossed d B ≡ triple (from x (crossed d X)) z (to x (crossed d X)) → Knots (λ (v : ℕ). Q .levels v z ≡ true) (along d B) →
@@ -463,26 +429,21 @@ module _ (P : Layout) (b : Built P) (s : Split) (d : Direction) (r : Ranged (P .
         let rp = p .rises in
         let ro = o .rises in
         let w = same-level q _ _ _ _ _ _ (sB .row) (sC .row) (rp .0, rp .1) (ro .0, ro .1) (p .alone-right) (o .alone-right) (p .right) (o .right) in
-        let i = r .inner in
         let cl : Q .up B .l ≡ Q .up C .l = low w in
         let cr : Q .up B .r ≡ Q .up C .r = high w in
         let hold : Holding Q t z (along d B .m) y Y =
-        record { live = o .live; column = knot-step y z (crossed d Y) (o .astride); lo = let lo = o .lo in omega arith; hi = let hi = o .hi in omega arith } in
+        record { live = o .live; column = knot-step y z (crossed d Y) (o .astride); lo = omega arith; hi = omega arith } in
         let same = agree Q t z (along d B .m) (omega arith, omega arith) (p .right) x y X Y
         (record { live = p .live; column = knot-step x z (crossed d X) (p .astride); lo = p .lo; hi = p .hi }) hold in
         blend-eq d B C (e ∙ triple-eq (same .0) refl (same .1) ∙ sym f) (triple-eq cl w cr)
       where
         low : along d B .m ≡ along d C .m → along d B .l ≡ along d C .l
         low w =
-            let rp = p .rises in
-            let ro = o .rises in
             neither (along d B .l) (along d C .l) (λ lt. let is = p .alone-right (along d C .l) lt (omega arith) (m .l) in omega arith)
             (λ lt. let is = o .alone-right (along d B .l) lt (omega arith) (n .l) in omega arith)
 
         high : along d B .m ≡ along d C .m → along d B .r ≡ along d C .r
         high w =
-            let rp = p .rises in
-            let ro = o .rises in
             neither (along d B .r) (along d C .r) (λ lt. let is = o .alone-right (along d B .r) (omega arith) lt (n .r) in omega arith)
             (λ lt. let is = p .alone-right (along d C .r) (omega arith) lt (m .r) in omega arith)
 
@@ -510,8 +471,8 @@ module _ (P : Layout) (b : Built P) (s : Split) (d : Direction) (r : Ranged (P .
       (λ p q. one-at-most (quadrant p q x y) (live (P .w) (P .h) N) (live-distinct (P .w) (P .h) (b .wide) (b .high) N)
       (one p q x y (lx, hx) (ly, hy))))))
     where
-      one : (p q : Side) (x y : ℕ) → OnSide (P .w) x → OnSide (P .h) y → (B C : Blend) → List·Memᴰ B (liveOf (withLine P s)) → List·Memᴰ C (liveOf (withLine P s)) →
-          quadrant p q x y B ≡ true → quadrant p q x y C ≡ true → B ≡ C
+      one : (p q : Side) (x y : ℕ) → OnSide (P .w) x → OnSide (P .h) y → (B C : Blend) → List·Memᴰ B (liveOf (withLine P s)) →
+          List·Memᴰ C (liveOf (withLine P s)) → quadrant p q x y B ≡ true → quadrant p q x y C ≡ true → B ≡ C
       one p q x y hx hy B C mB mC e f =
           let hs = on-side d (P .w) (P .h) x y hx hy in
           let i = in-view d p q x y B e in

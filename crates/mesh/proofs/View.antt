@@ -23,8 +23,7 @@ pub record View : Type 0 where
   pub blends : List Blend
 
 abbrev pub turn : View → View
-turn Q =
-    record { w = Q .h; h = Q .w; across = Q .up; up = Q .across; uprights = Q .levels; levels = Q .uprights; blends = Q .blends }
+turn Q = record { w = Q .h; h = Q .w; across = Q .up; up = Q .across; uprights = Q .levels; levels = Q .uprights; blends = Q .blends }
 
 abbrev pub flip : View → View
 flip Q =
@@ -103,10 +102,6 @@ turn-sound Q s =
 pub turn-tight : (Q : View) → TightView Q → TightView (turn Q)
 turn-tight Q t = record { is-sound = turn-sound Q (t .is-sound); x = t .y; y = t .x }
 
--- what is true at a number is true at one that equals it
-carry : (P : ℕ → Type 0) {a b : ℕ} → a ≡ b → P a → P b
-carry P e p = subst P e p
-
 module _ (Q : View) (s : SoundView Q) where
   rising : (B : Blend) → Live Q B → RisesIn (Q .h) (Q .up B)
   rising = s .y .rises
@@ -118,11 +113,11 @@ module _ (Q : View) (s : SoundView Q) where
         rises = s .x .rises;
         near = s .x .near;
         far = s .x .far;
-        grid = λ B m k lo hi. let r = rising B m in s .x .grid B m (Q .h + 1 - k) (omega arith) (omega arith);
+        grid = λ B m k lo hi. s .x .grid B m (Q .h + 1 - k) (omega arith) (omega arith);
         clear = λ B m z i c.
             let r = rising B m in
             s .x .clear B m z i
-            (λ k lo hi. carry (λ (n : ℕ). Q .uprights z n ≡ true) (let e : Q .h + 1 - (Q .h + 1 - k) ≡ k = omega arith in e) (c (Q .h + 1 - k) (omega arith) (omega arith)));
+            (λ k lo hi. subst (λ (n : ℕ). Q .uprights z n ≡ true) (omega arith) (c (Q .h + 1 - k) (omega arith) (omega arith)));
       }
 
   flip-up : OneWay (turn (flip Q))
@@ -131,19 +126,16 @@ module _ (Q : View) (s : SoundView Q) where
         wide = s .y .wide;
         rises = λ B m. let r = rising B m in record { low = omega arith; high = omega arith; most = omega arith };
         near = λ B m e. let r = rising B m in let f = s .y .far B m (omega arith) in omega arith;
-        far = λ B m e. let r = rising B m in let f = s .y .near B m (omega arith) in omega arith;
+        far = λ B m e. let f = s .y .near B m (omega arith) in omega arith;
         grid = λ B m k lo hi.
             let r = rising B m in
             let g = s .y .grid B m k lo hi in
             record {
-              l = carry (λ (n : ℕ). Q .levels n k ≡ true) (let e : Q .up B .r ≡ Q .h + 2 - (Q .h + 2 - Q .up B .r) = omega arith in e) (g .r);
-              m = carry (λ (n : ℕ). Q .levels n k ≡ true) (let e : Q .up B .m ≡ Q .h + 2 - (Q .h + 2 - Q .up B .m) = omega arith in e) (g .m);
-              r = carry (λ (n : ℕ). Q .levels n k ≡ true) (let e : Q .up B .l ≡ Q .h + 2 - (Q .h + 2 - Q .up B .l) = omega arith in e) (g .l);
+              l = subst (λ (n : ℕ). Q .levels n k ≡ true) (omega arith) (g .r);
+              m = subst (λ (n : ℕ). Q .levels n k ≡ true) (omega arith) (g .m);
+              r = subst (λ (n : ℕ). Q .levels n k ≡ true) (omega arith) (g .l);
             };
         clear = λ B m z i c.
-            let r = rising B m in
-            let lo = i .lo in
-            let hi = i .hi in
             let off = i .off in
             s .y .clear B m (Q .h + 2 - z) (record { lo = omega arith; hi = omega arith; off = λ e. off (omega arith) }) c;
       }
@@ -159,8 +151,8 @@ module _ (Q : View) (s : SoundView Q) where
   over-flip x y j k B on o = record { live = o .live; column = o .column; row = back y (o .row) }
     where
       back : (y : Side) → StepIn (opposite y) (Q .h + 1 - k) (Q .up B) → StepIn y k (mirror (Q .h) (Q .up B))
-      back lower i = let r = rising B (o .live) in (omega arith, omega arith)
-      back upper i = let r = rising B (o .live) in (omega arith, omega arith)
+      back lower i = (omega arith, omega arith)
+      back upper i = (omega arith, omega arith)
 
   pub flipped : {x y : Side} {j k : ℕ} {B : Blend} → OnSide (Q .h) k → Over Q x y j k B → Over (flip Q) x (opposite y) j (Q .h + 1 - k) B
   flipped {x} {y} {j} {k} {B} on o =
@@ -184,18 +176,16 @@ module _ (Q : View) (t : TightView Q) where
         is-sound = flip-sound Q (t .is-sound);
         x = λ v j lo hi on e.
             let r = t .x (Q .h + 2 - v) j (omega arith) (omega arith) on e in
-            let at = r .1 .at in
             (r .0, record { blend = r .1 .blend; live = r .1 .live; column = r .1 .column; at = omega arith });
         y = λ v j lo hi on e.
             let r = t .y v (Q .h + 1 - j) lo hi (omega arith, omega arith) e in
-            let B = r .1 .blend in
-            (
+            let B = r .1 .blend in (
               opposite (r .0),
               record {
                 blend = B;
                 live = r .1 .live;
                 column =
-                    carry (λ (n : ℕ). StepIn (opposite (r .0)) n (mirror (Q .h) (Q .up B))) (let q : Q .h + 1 - (Q .h + 1 - j) ≡ j = omega arith in q)
+                    subst (λ (n : ℕ). StepIn (opposite (r .0)) n (mirror (Q .h) (Q .up B))) (omega arith)
                     (in-mirror (Q .h) (r .0) (Q .h + 1 - j) (Q .up B) (t .is-sound .y .rises B (r .1 .live)) (omega arith, omega arith) (r .1 .column));
                 at = r .1 .at;
               },
