@@ -6,13 +6,14 @@ use mathlib.Core.Logic.{_⊎_, inl, inr, ⊎-elim}
 use mathlib.Core.Bool.{Bool, true, false, cond, _||_}
 use mathlib.Core.List.{List, [], _∷_, _++_, map, List·Memᴰ, List·Memᴰ·not-nil}
 use mathlib.Core.List.List·Memᴰ.{List·Memᴰ·head}
-use lib.Dec.{leb, ltb, eqb}
+use lib.Dec.{ltb, eqb}
 use lib.ListN.{length}
-use borrow.Author.Tests.{eqb-true, eqb-false, eq-eqb, leb-true, leb-false, ltb-true}
+use borrow.Author.Tests.{eq-eqb, ltb-true}
 use Rattle.axis.specs.Range.{each, all, any, only}
 use Rattle.axis.specs.Triple.{Side, lower, upper}
 use Rattle.axis.specs.declared.Triple.{Triple}
-use Rattle.axis.proofs.Tests.{either, true-not-false, and-both, and-of, or-either, or-left, or-right, same-test, all-at, any-at, any-of, only-mem, mem-only, each-same}
+use Rattle.axis.proofs.Tests.{true-not-false, and-both, and-of, or-either, or-left, or-right, same-test, all-at, any-at, any-of, only-mem, mem-only, each-same}
+use Rattle.axis.proofs.Runs.{if-at-most, if-equal}
 use Rattle.axis.proofs.Counts.{one-at-most}
 use Rattle.axis.proofs.Triples.{Knots, AtFresh}
 use Rattle.axis.proofs.Sides.{from, KnotOf, StepIn, column}
@@ -128,21 +129,14 @@ module _ (P : Layout) (b : Built P) where
           let r = known .some x upper (column x z) k on (lk, omega arith) in
           let o = r .1 in
           let rise = known .y .rises (r .0) (o .live) in
-          let row = o .row in
           (r .0, o .live, record { knot = inr (inl (is (r .0) (o .live) (o .column))); lo = omega arith; hi = omega arith })
 
       gridded : meshOf P d z k ≡ true → Gridded P d z k
       gridded on =
           let wide = known .x .wide in
-          ⊎-elim
-          (λ e. let one = eqb-true z 1 e in
-          at-edge upper (omega arith, omega arith) (λ B m i. let r = known .x .rises B m in omega arith))
-          (λ e. let ne = eqb-false z 1 e in
-          ⊎-elim (λ f. b .tight d z k (omega arith, leb-true _ _ f) (lk, omega arith) on)
-          (λ f. let gt = leb-false z (side d (P .w) (P .h)) f in
-          at-edge lower (omega arith, omega arith) (λ B m i. let r = known .x .rises B m in omega arith))
-          (either (leb z (side d (P .w) (P .h)))))
-          (either (eqb z 1))
+          if-equal z 1 (λ one. at-edge upper (omega arith, omega arith) (λ B m i. let r = known .x .rises B m in omega arith))
+          (λ ne. if-at-most z (side d (P .w) (P .h)) (λ le. b .tight d z k (omega arith, le) (lk, omega arith) on)
+          (λ gt. at-edge lower (omega arith, omega arith) (λ B m i. let r = known .x .rises B m in omega arith)))
 
 -- A line inside the domain runs out exactly where it reaches the domain's edge.
 abbrev Ranges : Layout → Type 0
@@ -199,7 +193,6 @@ module _ (P R : Layout) (b : Built P) (c : Built R) (ok : Ranges P) (fine : Rang
         by : StepOf R d z 1 → meshOf R d z 0 ≡ true
         by (fresh-step at lt) = absurd (not-fresh at)
         by (split-step s m r e row) =
-            let g = r .range in
             subst (λ (y : ℕ). meshOf R d y 0 ≡ true) (sym e)
             (split-on R d s m r 0 (⊎-elim (λ i. inr (inl (refl, omega arith))) (λ o. absurd (⊎-elim (λ i. omega arith) (λ i. omega arith) o)) row))
 
@@ -209,7 +202,6 @@ module _ (P R : Layout) (b : Built P) (c : Built R) (ok : Ranges P) (fine : Rang
         by : StepOf R d z (side (other d) (R .w) (R .h)) → meshOf R d z (side (other d) (R .w) (R .h) + 1) ≡ true
         by (fresh-step at lt) = absurd (not-fresh at)
         by (split-step s m r e row) =
-            let g = r .range in
             subst (λ (y : ℕ). meshOf R d y (side (other d) (R .w) (R .h) + 1) ≡ true) (sym e)
             (split-on R d s m r (side (other d) (R .w) (R .h) + 1)
             (⊎-elim (λ i. inr (inr (refl, omega arith))) (λ o. absurd (⊎-elim (λ i. omega arith) (λ i. omega arith) o)) row))
@@ -223,8 +215,6 @@ module _ (P R : Layout) (b : Built P) (c : Built R) (ok : Ranges P) (fine : Rang
           let f = sides (other d) in
           fresh-line (R .w) (R .h) (R .splits) d z k (subst (λ (n : ℕ). AtFresh n z) (sym e) at) (omega arith)
       by (split-step s m r e row) =
-          let g = r .range in
-          let i = r .inner in
           let f = sides (other d) in
           ⊎-elim (λ q. inside-told d z k (omega arith) (omega arith) (omega arith) (omega arith) on)
           (⊎-elim
@@ -233,7 +223,7 @@ module _ (P R : Layout) (b : Built P) (c : Built R) (ok : Ranges P) (fine : Rang
           (λ q. let last = side (other d) (P .w) (P .h) in
           let beside = inside-told d z last (omega arith) (omega arith) (omega arith) (omega arith) (drawn last (inl (omega arith, omega arith))) in
           let there = last-out d z (omega arith, omega arith) (subst (λ (n : ℕ). meshOf R d z n ≡ true) (sym f) beside) in
-          subst (λ (n : ℕ). meshOf R d z n ≡ true) (let p : side (other d) (R .w) (R .h) + 1 ≡ k = omega arith in p) there))
+          subst (λ (n : ℕ). meshOf R d z n ≡ true) (omega arith) there))
           row
         where
           drawn : (n : ℕ) → Row (side (other d) (P .w) (P .h)) s n → meshOf P d z n ≡ true

@@ -2,14 +2,14 @@
 use Prim.Native.Nat.{ℕ, _+_, _≤_, _<_}
 use native.Mathlib.Omega.{arith}
 use mathlib.Core.Path.{_≡_, refl}
-use mathlib.Core.Logic.{inl, inr, ⊎-elim}
+use mathlib.Core.Logic.{inl, inr}
 use mathlib.Core.Bool.{true}
 use mathlib.Core.List.{List, List·Memᴰ}
-use lib.Dec.{eqb}
-use borrow.Author.Tests.{eqb-true, eqb-false}
+use borrow.Author.Tests.{eqb-true}
 use Rattle.axis.specs.Triple.{Side}
 use Rattle.axis.specs.declared.Triple.{Triple}
-use Rattle.axis.proofs.Tests.{either, true-not-false, and-both, and-of, every-at}
+use Rattle.axis.proofs.Tests.{true-not-false, and-both, and-of, every-at}
+use Rattle.axis.proofs.Runs.{if-equal}
 use Rattle.axis.proofs.Triples.{Knots, half-knots, First, is-low, is-high}
 use Rattle.axis.proofs.Parts.{lies, first, first-lies}
 use Rattle.axis.proofs.Sides.{lies-of, lies-at}
@@ -92,17 +92,13 @@ module _ (w h : ℕ) (hw : 1 ≤ w) (hh : 1 ≤ h) (splits : List Split) where
         rises = λ B m. crossed-in d (facts w h hw hh splits B m);
         near = λ B m e.
             let r = crossed-in d (facts w h hw hh splits B m) in
-            ⊎-elim (λ q. eqb-true _ 1 q)
-            (λ q. let ne = eqb-false (crossed d B .m) 1 q in
-            absurd (fresh-clear w h hw hh splits B m d 1 (inl refl) (record { lo = omega arith; hi = omega arith; off = λ f. ne (omega arith) })))
-            (either (eqb (crossed d B .m) 1));
+            if-equal (crossed d B .m) 1 (λ e. e)
+            (λ ne. absurd (fresh-clear w h hw hh splits B m d 1 (inl refl) (record { lo = omega arith; hi = omega arith; off = λ f. ne (omega arith) })));
         far = λ B m e.
             let r = crossed-in d (facts w h hw hh splits B m) in
-            ⊎-elim (λ q. eqb-true _ _ q)
-            (λ q. let ne = eqb-false (crossed d B .m) (side d w h + 1) q in
-            absurd (fresh-clear w h hw hh splits B m d (side d w h + 1) (inr refl)
-                (record { lo = omega arith; hi = omega arith; off = λ f. ne (omega arith) })))
-            (either (eqb (crossed d B .m) (side d w h + 1)));
+            if-equal (crossed d B .m) (side d w h + 1) (λ e. e)
+            (λ ne. absurd (fresh-clear w h hw hh splits B m d (side d w h + 1) (inr refl)
+                (record { lo = omega arith; hi = omega arith; off = λ f. ne (omega arith) })));
         grid = λ B m k lo hi. live-grid B m d k lo hi;
         clear = λ B m z i c.
             let l = live-left w h hw hh M B .0 m in

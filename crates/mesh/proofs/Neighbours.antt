@@ -5,12 +5,10 @@ use native.Mathlib.Omega.{arith}
 use mathlib.Core.Path.{_≡_, sym, ap, subst}
 use mathlib.Core.Logic.{_⊎_, inl, inr, ⊎-elim}
 use mathlib.Core.Bool.{true, false}
-use lib.Dec.{leb, ltb, eqb}
-use borrow.Author.Tests.{leb-true, leb-false, ltb-true, ltb-false, eqb-true, eqb-false}
 use Rattle.axis.specs.Triple.{Side, lower, upper}
-use Rattle.axis.proofs.Tests.{either, true-not-false}
+use Rattle.axis.proofs.Tests.{true-not-false}
 use Rattle.axis.proofs.Parts.{OnSide}
-use Rattle.axis.proofs.Runs.{Compared, less, equal, more, compare}
+use Rattle.axis.proofs.Runs.{if-at-most, if-below, if-equal, Compared, less, equal, more, compare}
 use Rattle.axis.proofs.Sides.{StepIn, KnotIn, opposite, mirror, same-back, other-end, back-flip, column, own-column, past-column, on-column}
 use Rattle.axis.proofs.Triples.{rise-of}
 use Rattle.mesh.specs.Ends.{back}
@@ -32,12 +30,8 @@ module _ (Q : View) (s : SoundView Q) (x : Side) (j k : ℕ) (hj : OnSide (Q .w)
       by (less lt) =
           let ra = s .y .rises A (a .live) in
           let rc = s .y .rises C (c .live) in
-          let pa = a .row in
-          let pc = c .row in
           let low : 2 ≤ Q .up A .m =
-          ⊎-elim (λ e. leb-true 2 (Q .up A .m) e)
-          (λ e. let one = leb-false 2 (Q .up A .m) e in let n = s .y .near C (c .live) (omega arith) in absurd (omega arith))
-          (either (leb 2 (Q .up A .m))) in
+          if-at-most 2 (Q .up A .m) (λ le. le) (λ one. let n = s .y .near C (c .live) (omega arith) in absurd (omega arith)) in
           let i = Q .up A .m - 1 in
           let is = s .one x lower j i A C hj (omega arith, omega arith)
           (at lower i A (a .live) (a .column) (omega arith, omega arith))
@@ -47,28 +41,23 @@ module _ (Q : View) (s : SoundView Q) (x : Side) (j k : ℕ) (hj : OnSide (Q .w)
       by (more gt) =
           let ra = s .y .rises A (a .live) in
           let rc = s .y .rises C (c .live) in
-          let pa = a .row in
-          let pc = c .row in
           let i = Q .up C .l - 1 in
           let r = s .some x lower j i hj (omega arith, omega arith) in
           let D : Blend = r .0 in
           let o = r .1 in
           let pd = o .row in
           let rd = s .y .rises D (o .live) in
-          ⊎-elim
-          (λ e. let m = eqb-true (Q .up D .m) (i + 1) e in
-          let is = s .one x upper j (i + 1) D A hj (omega arith, omega arith)
+          if-equal (Q .up D .m) (i + 1)
+          (λ m. let is = s .one x upper j (i + 1) D A hj (omega arith, omega arith)
           (at upper (i + 1) D (o .live) (o .column) (omega arith, omega arith))
           (at upper (i + 1) A (a .live) (a .column) (omega arith, omega arith)) in
           let q = ap (λ (B : Blend). Q .up B .m) is in
           absurd (omega arith))
-          (λ e. let m = eqb-false (Q .up D .m) (i + 1) e in
-          let is = s .one x lower j (i + 1) D C hj (omega arith, omega arith)
+          (λ m. let is = s .one x lower j (i + 1) D C hj (omega arith, omega arith)
           (at lower (i + 1) D (o .live) (o .column) (omega arith, omega arith))
           (at lower (i + 1) C (c .live) (c .column) (omega arith, omega arith)) in
           let q = ap (λ (B : Blend). Q .up B .l) is in
           absurd (omega arith))
-          (either (eqb (Q .up D .m) (i + 1)))
 
 pub neighbours : (Q : View) (s : SoundView Q) {x : Side} {j k : ℕ} (hj : OnSide (Q .w) j) (hk : OnSide (Q .h) k) {A C : Blend} →
     Over Q x upper j k A → Over Q x lower j k C → (Q .up C .l ≡ Q .up A .m) × (Q .up A .r ≡ Q .up C .m)
@@ -89,7 +78,7 @@ level-at Q s B m {v} {j} e lo hi = subst (λ (i : ℕ). Q .levels i j ≡ true) 
 pub grid-knot : (Q : View) (s : SoundView Q) (B : Blend) → Live Q B → (j v : ℕ) → OnSide (Q .w) j → (1 < v) × (v < Q .h + 1) →
     Q .across B .l ≤ j → j < Q .across B .r → (v ≡ Q .up B .l) ⊎ ((v ≡ Q .up B .m) ⊎ (v ≡ Q .up B .r)) → (x : Side) × Knot Q x j v
 grid-knot Q s B m j v hj hv lo hi at =
-    ⊎-elim (λ e. (lower, by lower (lo, ltb-true j _ e) at)) (λ e. (upper, by upper (ltb-false j _ e, hi) at)) (either (ltb j (Q .across B .m)))
+    if-below j (Q .across B .m) (λ lt. (lower, by lower (lo, lt) at)) (λ le. (upper, by upper (le, hi) at))
   where
     by : (x : Side) → StepIn x j (Q .across B) → (v ≡ Q .up B .l) ⊎ ((v ≡ Q .up B .m) ⊎ (v ≡ Q .up B .r)) → Knot Q x j v
     by x i (inl e) =
@@ -158,19 +147,15 @@ module _ (Q : View) (t : TightView Q) (z a : ℕ) (hz : (1 < z) × (z < Q .w + 1
       by : (y : Side) → Knot (turn Q) y (a - 1) z → Last
       by lower k =
           let r = s .y .rises (k .blend) (k .live) in
-          let c = k .column in
           absurd (past (k .blend) (k .live) (k .at) (omega arith) (omega arith))
       by upper k =
           let r = s .y .rises (k .blend) (k .live) in
-          let c = k .column in
           record {
             blend = k .blend;
             live = k .live;
             at = k .at;
-            row = c;
-            ends = ⊎-elim (λ e. let lt = ltb-true a (Q .up (k .blend) .r) e in absurd (past (k .blend) (k .live) (k .at) (omega arith) lt))
-                (λ e. let le = ltb-false a (Q .up (k .blend) .r) e in omega arith)
-                (either (ltb a (Q .up (k .blend) .r)));
+            row = k .column;
+            ends = if-below a (Q .up (k .blend) .r) (λ lt. absurd (past (k .blend) (k .live) (k .at) (omega arith) lt)) (λ le. omega arith);
           }
 
   abbrev X : Blend
