@@ -1,8 +1,8 @@
 -- The anchors of a map that accepted splits build are its crossings, as lists; and its lines are told by its live blends.
-use Prim.Native.Nat.{ℕ, zero, suc, _+_, _-_, _≤_, _<_}
+use Prim.Native.Nat.{ℕ, zero, suc, _+_, _≤_, _<_}
 use native.Mathlib.Omega.{arith}
 use mathlib.Core.Path.{_≡_, refl, sym, ap, subst, _∙_}
-use mathlib.Core.Logic.{_⊎_, inl, inr, ⊎-elim}
+use mathlib.Core.Logic.{inl, inr, ⊎-elim}
 use mathlib.Core.Bool.{Bool, true, false, cond, _||_}
 use mathlib.Core.List.{List, [], _∷_, _++_, map, List·Memᴰ, List·Memᴰ·not-nil}
 use mathlib.Core.List.List·Memᴰ.{List·Memᴰ·head}
@@ -16,14 +16,14 @@ use Rattle.axis.proofs.Tests.{true-not-false, and-both, and-of, or-either, or-l
 use Rattle.axis.proofs.Runs.{if-at-most, if-equal}
 use Rattle.axis.proofs.Counts.{one-at-most}
 use Rattle.axis.proofs.Triples.{Knots, AtFresh}
-use Rattle.axis.proofs.Sides.{from, KnotOf, StepIn, column}
+use Rattle.axis.proofs.Sides.{KnotOf, StepIn, column}
 use Rattle.axis.proofs.Parts.{OnSide}
 use Rattle.mesh.specs.Lines.{Direction, upright, level, other, side, direction, mesh, freshMesh, draws, inRange, Layout, meshOf}
 use Rattle.mesh.specs.Blends.{anchored, once, leavesOf, inTableOrder, refine, live, firstFour, crossed}
 use Rattle.mesh.specs.Order.{Coarser}
 use Rattle.mesh.specs.Sound.{sound}
 use Rattle.mesh.specs.Splits.{liveOf}
-use Rattle.mesh.specs.Crossings.{point, passes, crosses, crossings, anchors, onGrid, Tight}
+use Rattle.mesh.specs.Crossings.{point, crosses, crossings, anchors, onGrid, Tight}
 use Rattle.mesh.specs.declared.Split.{Split}
 use Rattle.mesh.specs.declared.Blend.{Blend}
 use Rattle.mesh.proofs.TableOrder.{anchored-at, order-mem, mem-order, once-distinct}
@@ -194,7 +194,7 @@ module _ (P R : Layout) (b : Built P) (c : Built R) (ok : Ranges P) (fine : Rang
         by (fresh-step at lt) = absurd (not-fresh at)
         by (split-step s m r e row) =
             subst (λ (y : ℕ). meshOf R d y 0 ≡ true) (sym e)
-            (split-on R d s m r 0 (⊎-elim (λ i. inr (inl (refl, omega arith))) (λ o. absurd (⊎-elim (λ i. omega arith) (λ i. omega arith) o)) row))
+            (split-on R d s m r 0 (⊎-elim (λ i. inr (inl (refl, omega arith))) (⊎-elim (λ i. absurd (omega arith)) (λ i. absurd (omega arith))) row))
 
     last-out : meshOf R d z (side (other d) (R .w) (R .h)) ≡ true → meshOf R d z (side (other d) (R .w) (R .h) + 1) ≡ true
     last-out on = by (step-says R fine d z _ on)
@@ -204,7 +204,7 @@ module _ (P R : Layout) (b : Built P) (c : Built R) (ok : Ranges P) (fine : Rang
         by (split-step s m r e row) =
             subst (λ (y : ℕ). meshOf R d y (side (other d) (R .w) (R .h) + 1) ≡ true) (sym e)
             (split-on R d s m r (side (other d) (R .w) (R .h) + 1)
-            (⊎-elim (λ i. inr (inr (refl, omega arith))) (λ o. absurd (⊎-elim (λ i. omega arith) (λ i. omega arith) o)) row))
+            (⊎-elim (λ i. inr (inr (refl, omega arith))) (⊎-elim (λ i. absurd (omega arith)) (λ i. absurd (omega arith))) row))
 
   pub blends-tell-lines : Coarser (meshOf P) (meshOf R)
   blends-tell-lines d z k on = by (step-says P ok d z k on)

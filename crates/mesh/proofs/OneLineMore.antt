@@ -1,5 +1,5 @@
 -- The mesh of a layout with one split more: which unit steps the split adds.
-use Prim.Native.Nat.{ℕ, _+_, _-_, _≤_, _<_}
+use Prim.Native.Nat.{ℕ, _+_, _≤_, _<_}
 use native.Mathlib.Omega.{arith}
 use mathlib.Core.Path.{_≡_, refl, sym, ap, _∙_}
 use mathlib.Core.Logic.{_⊎_, inl, inr, ⊎-elim}
@@ -11,7 +11,6 @@ use Rattle.axis.specs.Range.{any}
 use Rattle.axis.specs.Triple.{Side, lower, upper}
 use Rattle.axis.proofs.Tests.{either, and-both, and-of, or-either, or-left, or-right, any-append}
 use Rattle.axis.proofs.Runs.{if-equal}
-use Rattle.axis.proofs.Sides.{from, to}
 use Rattle.mesh.specs.Lines.{Direction, upright, level, number, other, side, direction, mesh, freshMesh, draws, start, end, fits, inRange, Layout, meshOf}
 use Rattle.mesh.specs.Splits.{withLine}
 use Rattle.mesh.specs.Order.{Coarser}
@@ -90,13 +89,13 @@ module _ (w h : ℕ) (d : Direction) (s : Split) (r : Ranged w h d s) where
     where
       first : (k : ℕ) → Row run s k → start s ≤ k
       first k (inl i) = ⊎-elim (λ p. rw p (omega arith)) (λ p. rw p (i .0)) (either (eqb (s .from) 0))
-      first k (inr (inl i)) = let e : s .from ≡ 0 = omega arith in rw (eq-eqb _ _ e) (omega arith)
+      first k (inr (inl i)) = rw (eq-eqb (s .from) 0 (omega arith)) (omega arith)
       first k (inr (inr i)) = ⊎-elim (λ p. rw p (omega arith)) (λ p. rw p (omega arith)) (either (eqb (s .from) 0))
 
       last : (k : ℕ) → Row run s k → k < end run s
       last k (inl i) = ⊎-elim (λ p. rw p (omega arith)) (λ p. rw p (i .1)) (either (eqb (s .to) run))
       last k (inr (inl i)) = ⊎-elim (λ p. rw p (omega arith)) (λ p. rw p (omega arith)) (either (eqb (s .to) run))
-      last k (inr (inr i)) = let e : s .to ≡ run = omega arith in rw (eq-eqb _ _ e) (omega arith)
+      last k (inr (inr i)) = rw (eq-eqb (s .to) run (omega arith)) (omega arith)
 
 -- The steps of a layout with the split are its own and those that the split draws.
 pub more-steps : (P : Layout) (s : Split) (e : Direction) (z k : ℕ) → meshOf (withLine P s) e z k ≡ (meshOf P e z k || draws (P .w) (P .h) e z k s)

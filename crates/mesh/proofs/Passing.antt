@@ -6,14 +6,14 @@ use mathlib.Core.Logic.{⊎-elim}
 use mathlib.Core.Bool.{Bool, true, false, cond, _&&_, not}
 use lib.Dec.{leb, ltb, eqb}
 use lib.ListN.{length}
-use borrow.Author.Tests.{leb-false, le-leb, lt-ltb, ne-eqb, eqb-true, not-true, not-false}
+use borrow.Author.Tests.{leb-false, le-leb, lt-ltb, ne-eqb, not-true, not-false}
 use Rattle.axis.specs.Range.{any}
-use Rattle.mesh.specs.Lines.{Layout, meshOf, upright, level, fits, inRange, shares, ended}
+use Rattle.mesh.specs.Lines.{Layout, meshOf, fits, inRange, shares, ended}
 use Rattle.mesh.specs.Blends.{isCut}
 use Rattle.mesh.specs.Splits.{liveOf, withLine, soundWith, candidate, given, exactNumber, run, reaching}
 use Rattle.mesh.specs.declared.Split.{Split}
 use Rattle.axis.proofs.Tests.{either, and-both, and-of, cond-true, cond-false}
-use Rattle.mesh.proofs.Ranges.{in-range-says}
+use Rattle.mesh.proofs.OneLineMore.{ranged}
 
 -- what it says that no refusal of 3 to 7 applies, and that an exact split is accepted
 pub record Given (P : Layout) (s : Split) : Type 0 where
@@ -85,11 +85,4 @@ reaching-fits P s from n e lo hi =
 
 -- the ends of a split in range
 pub ends-in : (P : Layout) (s : Split) → inRange (P .w) (P .h) s ≡ true → (s .from < s .to) × (s .to ≤ run P s)
-unfolding inRange
-ends-in P s e =
-    ⊎-elim (λ q. let r = in-range-says (P .w) (P .h) upright s e (eqb-true _ _ q) in rw q (r .1, r .2))
-    (λ q. let r = in-range-says (P .w) (P .h) level s e (is-level q) in rw q (r .1, r .2))
-    (either (eqb (s .direction) 0))
-  where
-    is-level : eqb (s .direction) 0 ≡ false → s .direction ≡ 1
-    is-level q = eqb-true _ _ (and-both (eqb (s .direction) 1) (fits (P .h) (P .w) s) (rw q at e) .0)
+ends-in P s e = let r = ranged (P .w) (P .h) s e .range in (omega arith, omega arith)

@@ -2,16 +2,15 @@
 use Prim.Native.Nat.{ℕ, _+_, _-_, _≤_, _<_}
 use native.Mathlib.Omega.{arith}
 use mathlib.Core.Path.{_≡_, refl, sym, ap, subst, _∙_}
-use mathlib.Core.Logic.{_⊎_, ⊎-elim}
+use mathlib.Core.Logic.{⊎-elim}
 use mathlib.Core.Bool.{Bool, true, false, cond, _&&_, not}
 use mathlib.Core.List.{[], _∷_, List·Memᴰ}
 use borrow.Author.Tests.{eq-eqb}
-use Rattle.axis.specs.Range.{any, some}
+use Rattle.axis.specs.Range.{any}
 use Rattle.axis.specs.Triple.{Side, lower, upper}
 use Rattle.axis.proofs.Tests.{true-not-false, false-of, and-both, and-of, same-test, some-fails, fails-some}
 use Rattle.axis.proofs.Runs.{if-at-most}
 use Rattle.axis.proofs.Nearest.{below-last, above-first}
-use Rattle.axis.proofs.Sides.{from, to}
 use Rattle.mesh.specs.Lines.{Direction, other, direction, Layout, meshOf, inRange, shares, ended, onLine}
 use Rattle.mesh.specs.Blends.{isCut}
 use Rattle.mesh.specs.Splits.{liveOf, withLine, soundWith, given, exactNumber, run, Contains, candidate, chosen}
@@ -220,13 +219,8 @@ module _ (P : Layout) (b : Built P) (s : Split) (e : given P s ≡ 0) where
           let there : List·Memᴰ c (chosen P s) = subst (List·Memᴰ c) (sym q) (List·Memᴰ.List·Memᴰ·head refl) in
           let t = least .taken c there in
           let i = nearest-in c (t .0) (t .1) in
-          let begins = i .begins in
-          let ends = i .ends in
-          ⊎-elim (λ e. e)
-          (λ p. let own = nearest-contains in
-          let lo = own .begins in
-          let hi = own .ends in
-          absurd (⊎-elim (λ short. omega arith) (λ low. omega arith) p))
+          let own = nearest-contains in
+          ⊎-elim (λ e. e) (λ p. absurd (⊎-elim (λ short. omega arith) (λ low. omega arith) p))
           (least .first (nearestGood P s) c there nearest-contains nearest-candidate)
 
   pub two-looks : TwoLooks P s
