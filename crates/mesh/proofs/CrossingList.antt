@@ -90,9 +90,11 @@ module _ (P : Layout) (b : Built P) where
           let j = anchored-at m n C f in
           own-anchors (P .w) (P .h) (b .wide) (b .high) (meshOf P) is-sound B C (listed B mB (i .0) (i .1)) (listed C mC (j .0) (j .1)) (i .0 ∙ sym (j .0))
           (i .1 ∙ sym (j .1))))
-          (λ e. let a = crossing-anchored (viewOf upright P) (tight-view P b upright) m n (crosses-says P m n hm hn e) in
-          (a .blend, mem-only (anchored m n) bs (a .blend) (order-mem (P .w) (P .h) bs (a .blend) (a .live) .0)
-          (and-of _ _ (eq-eqb _ _ (a .across)) (eq-eqb _ _ (a .up)))))
+          (λ e. let a = crossing-anchored (viewOf upright P) (tight-view P b upright) m n (crosses-says P m n hm hn e) in (
+            a .blend,
+            mem-only (anchored m n) bs (a .blend) (order-mem (P .w) (P .h) bs (a .blend) (a .live) .0)
+                (and-of _ _ (eq-eqb _ _ (a .across)) (eq-eqb _ _ (a .up))),
+          ))
           (λ e B k. let o = only-mem (anchored m n) bs B k in
           let i = anchored-at m n B (o .1) in
           true-not-false _

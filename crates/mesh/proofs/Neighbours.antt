@@ -9,7 +9,7 @@ use Rattle.axis.specs.Triple.{Side, lower, upper}
 use Rattle.axis.proofs.Tests.{true-not-false}
 use Rattle.axis.proofs.Parts.{OnSide}
 use Rattle.axis.proofs.Runs.{if-at-most, if-below, if-equal, Compared, less, equal, more, compare}
-use Rattle.axis.proofs.Sides.{StepIn, KnotIn, opposite, mirror, same-back, other-end, column, own-column, past-column, on-column}
+use Rattle.axis.proofs.Sides.{StepIn, KnotIn, opposite, mirror, column, own-column, past-column, on-column}
 use Rattle.axis.proofs.Triples.{rise-of}
 use Rattle.mesh.specs.Ends.{back}
 use Rattle.mesh.specs.declared.Blend.{Blend}
@@ -18,7 +18,6 @@ use Rattle.mesh.proofs.View.{View, turn, flip, Live, Over, Knot, SoundV
 -- Over one square, in one part across: A with its anchor below the square, and C with its anchor above it.
 module _ (Q : View) (s : SoundView Q) (x : Side) (j k : ℕ) (hj : OnSide (Q .w) j) (hk : OnSide (Q .h) k) (A C : Blend)
     (a : Over Q x upper j k A) (c : Over Q x lower j k C) where
-
   start-is-anchor : Q .up C .l ≡ Q .up A .m
   start-is-anchor = by (compare (Q .up C .l) (Q .up A .m))
     where
@@ -219,8 +218,6 @@ line-ends Q t z a hz ha lower on off =
     (subst (λ (n : ℕ). Q .uprights z n ≡ true) (omega arith) on)
     (subst (λ (n : ℕ). Q .uprights z n ≡ false) (omega arith) off) in
     let b = r .abreast in
-    let rise : (x : Side) → (Q .up (b .at x) .m ≤ Q .h + 2) × (Q .up (b .at x) .r ≤ Q .h + 2) =
-    λ x. let r = t .is-sound .y .rises (b .at x) (b .live x) in (omega arith, omega arith) in
     record {
       abreast =
           record {
@@ -228,8 +225,8 @@ line-ends Q t z a hz ha lower on off =
             at = b .at;
             live = b .live;
             over = b .over;
-            anchored = λ x. same-back (Q .h + 2) _ a (rise x .0) (omega arith) (b .anchored x);
-            reaches = λ x. other-end (Q .h + 2) _ _ (rise x .1) (b .reaches x);
+            anchored = λ x. omega (arith, t .is-sound .y .rises (b .at x) (b .live x), b .anchored x);
+            reaches = λ x. omega (arith, t .is-sound .y .rises (b .at x) (b .live x), b .reaches x);
           };
       covered = λ n range. subst (λ (u : ℕ). Q .uprights z u ≡ true) (omega arith) (r .covered (Q .h + 1 - n) (omega arith, omega arith));
     }

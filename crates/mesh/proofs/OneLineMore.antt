@@ -3,9 +3,9 @@ use Prim.Native.Nat.{ℕ, _+_, _≤_, _<_}
 use native.Mathlib.Omega.{arith}
 use mathlib.Core.Path.{_≡_, refl, sym, ap, _∙_}
 use mathlib.Core.Logic.{_⊎_, inl, inr, ⊎-elim}
-use mathlib.Core.Bool.{Bool, true, _&&_, _||_, or-assoc, or-false}
+use mathlib.Core.Bool.{Bool, true, _||_, or-assoc, or-false}
 use mathlib.Core.List.{[], _∷_}
-use lib.Dec.{leb, ltb, eqb}
+use lib.Dec.{ltb, eqb}
 use borrow.Author.Tests.{eqb-true, eq-eqb, leb-true, le-leb, ltb-true, lt-ltb}
 use Rattle.axis.specs.Range.{any}
 use Rattle.axis.specs.Triple.{Side, lower, upper}
@@ -57,9 +57,9 @@ module _ (w h : ℕ) (d : Direction) (s : Split) (r : Ranged w h d s) where
   pub draws-says : (e : Direction) (z k : ℕ) → draws w h e z k s ≡ true → (e ≡ d) × (z ≡ s .position + 1) × Row run s k
   unfolding draws
   draws-says e z k t =
-      let a = and-both (eqb (s .direction) (number e) && eqb z (s .position + 1) && leb (start s) k) (ltb k (end (side (other e) w h) s)) t in
-      let b = and-both (eqb (s .direction) (number e) && eqb z (s .position + 1)) (leb (start s) k) (a .0) in
-      let c = and-both (eqb (s .direction) (number e)) (eqb z (s .position + 1)) (b .0) in
+      let a = and-both _ _ t in
+      let b = and-both _ _ (a .0) in
+      let c = and-both _ _ (b .0) in
       let same : e ≡ d = number-one e d (sym (eqb-true _ _ (c .0)) ∙ r .way) in
       (same, eqb-true _ _ (c .1), row k (leb-true _ _ (b .1)) (ap (λ (f : Direction). ltb k (end (side (other f) w h) s)) (sym same) ∙ a .1))
     where

@@ -31,11 +31,11 @@ chain false n rest lt e = (refl, e)
 pub given-says : (P : Layout) (s : Split) → given P s ≡ 0 → Given P s
 unfolding given
 given-says P s e =
-    let a = chain (not (inRange (P .w) (P .h) s)) 3 _ (omega arith) e in
-    let b = chain (leb 60 (length (P .splits))) 4 _ (omega arith) (a .1) in
-    let c = chain (shares (meshOf P) s) 5 _ (omega arith) (b .1) in
-    let d = chain (not (ended (meshOf P) s)) 6 _ (omega arith) (c .1) in
-    let f = chain (not (any (isCut (meshOf (withLine P s))) (liveOf P))) 7 0 (omega arith) (d .1) in
+    let a = chain _ 3 _ (omega arith) e in
+    let b = chain _ 4 _ (omega arith) (a .1) in
+    let c = chain _ 5 _ (omega arith) (b .1) in
+    let d = chain _ 6 _ (omega arith) (c .1) in
+    let f = chain _ 7 0 (omega arith) (d .1) in
     record {
       fits = not-false _ (a .0);
       room = leb-false 60 (length (P .splits)) (b .0);
@@ -62,8 +62,8 @@ pub record Candidate (P : Layout) (c : Split) : Type 0 where
 pub candidate-says : (P : Layout) (c : Split) → candidate P c ≡ true → Candidate P c
 unfolding candidate
 candidate-says P c e =
-    let a = and-both (ended (meshOf P) c && not (shares (meshOf P) c)) (soundWith P c) e in
-    let f = and-both (ended (meshOf P) c) (not (shares (meshOf P) c)) (a .0) in
+    let a = and-both _ _ e in
+    let f = and-both _ _ (a .0) in
     record { ends = f .0; apart = not-true _ (f .1); is-sound = a .1 }
 
 -- a line in range keeps to its ranges with other ends within the side that it runs along

@@ -194,7 +194,7 @@ module _ (P : Layout) (b : Built P) (s : Split) (e : given P s ≡ 0) where
   nearest-in c i t =
       let good = candidate-good c i t in
       let f : (good-ends lower (c .from + 1) && good-ends upper (c .to + 1)) ≡ true = rw (i .same-way, i .same-place) at good in
-      let a = and-both (good-ends lower (c .from + 1)) (good-ends upper (c .to + 1)) f in
+      let a = and-both _ _ f in
       let low = low-end P b s (g .fits) (g .apart) good-ends all-gaps in
       let high = high-end P b s (g .fits) (g .apart) good-ends all-gaps in
       record {
@@ -207,8 +207,7 @@ module _ (P : Layout) (b : Built P) (s : Split) (e : given P s ≡ 0) where
 
   taken-is : chosen P s ≡ nearestGood P s ∷ []
   taken-is =
-      let in-side = ends-in P s (g .fits) in
-      let least = chosen-least P s (omega arith) in
+      let least = chosen-least P s (omega (arith, ends-in P s (g .fits))) in
       let f = least .some (nearestGood P s) nearest-contains nearest-candidate in
       f .1 ∙ ap (λ (c : Split). c ∷ []) (sym (same (f .0) (f .1)))
     where
