@@ -136,9 +136,9 @@ module _ (P : Layout) (b : Built P) where
       gridded : meshOf P d z k ≡ true → Gridded P d z k
       gridded on =
           let wide = known .x .wide in
-          if-equal z 1 (λ one. at-edge upper (omega arith, omega arith) (λ B m i. let r = known .x .rises B m in omega arith))
+          if-equal z 1 (λ one. at-edge upper (omega arith, omega arith) (λ B m i. omega (arith, known .x .rises B m)))
           (λ ne. if-at-most z (side d (P .w) (P .h)) (λ le. b .tight d z k (omega arith, le) (lk, omega arith) on)
-          (λ gt. at-edge lower (omega arith, omega arith) (λ B m i. let r = known .x .rises B m in omega arith)))
+          (λ gt. at-edge lower (omega arith, omega arith) (λ B m i. omega (arith, known .x .rises B m))))
 
 -- A line inside the domain runs out exactly where it reaches the domain's edge.
 abbrev Ranges : Layout → Type 0
@@ -213,20 +213,17 @@ module _ (P R : Layout) (b : Built P) (c : Built R) (ok : Ranges P) (fine : Rang
     where
       by : StepOf P d z k → meshOf R d z k ≡ true
       by (fresh-step at lt) =
-          let e = sides d in
-          let f = sides (other d) in
-          fresh-line (R .w) (R .h) (R .splits) d z k (subst (λ (n : ℕ). AtFresh n z) (sym e) at) (omega arith)
+          fresh-line (R .w) (R .h) (R .splits) d z k (subst (λ (n : ℕ). AtFresh n z) (sym (sides d)) at) (omega (arith, sides (other d)))
       by (split-step s m r e row) =
           let f = sides (other d) in
           ⊎-elim (λ q. inside-told d z k (omega arith) (omega arith) (omega arith) (omega arith) on)
           (⊎-elim
-          (λ q. let beside = inside-told d z 1 (omega arith) (omega arith) (omega arith) (omega arith) (drawn 1 (inl (omega arith, omega arith))) in
-          subst (λ (n : ℕ). meshOf R d z n ≡ true) (sym (q .0)) (first-out d z (omega arith, omega arith) beside))
-          (λ q. let last = side (other d) (P .w) (P .h) in
-          let beside = inside-told d z last (omega arith) (omega arith) (omega arith) (omega arith) (drawn last (inl (omega arith, omega arith))) in
-          let there = last-out d z (omega arith, omega arith) (subst (λ (n : ℕ). meshOf R d z n ≡ true) (sym f) beside) in
-          subst (λ (n : ℕ). meshOf R d z n ≡ true) (omega arith) there))
+          (λ q. subst (λ (n : ℕ). meshOf R d z n ≡ true) (sym (q .0)) (first-out d z (omega arith, omega arith) (told 1 (omega arith) (omega arith))))
+          (λ q. subst (λ (n : ℕ). meshOf R d z n ≡ true) (omega arith) (last-out d z (omega arith, omega arith) (told _ (omega arith) (omega arith)))))
           row
         where
-          drawn : (n : ℕ) → Row (side (other d) (P .w) (P .h)) s n → meshOf P d z n ≡ true
-          drawn n o = subst (λ (y : ℕ). meshOf P d y n ≡ true) (sym e) (split-on P d s m r n o)
+          -- the split's own steps
+          told : (n : ℕ) → s .from + 1 ≤ n → n < s .to + 1 → meshOf R d z n ≡ true
+          told n lo hi =
+              inside-told d z n (omega arith) (omega arith) (omega arith) (omega arith)
+              (subst (λ (y : ℕ). meshOf P d y n ≡ true) (sym e) (split-on P d s m r n (inl (lo, hi))))

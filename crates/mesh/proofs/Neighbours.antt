@@ -34,8 +34,8 @@ module _ (Q : View) (s : SoundView Q) (x : Side) (j k : ℕ) (hj : OnSide (Q .w)
           let low : 2 ≤ Q .up A .m =
           if-at-most 2 (Q .up A .m) (λ le. le) (λ one. let n = s .y .near C (c .live) (omega arith) in absurd (omega arith)) in
           let i = Q .up A .m - 1 in
-          let q = ap (λ (B : Blend). Q .up B .m) (same lower i (omega arith, omega arith) a (omega arith, omega arith) c (omega arith, omega arith)) in
-          absurd (omega arith)
+          let is = same lower i (omega arith, omega arith) a (omega arith, omega arith) c (omega arith, omega arith) in
+          absurd (omega (arith, ap (λ (B : Blend). Q .up B .m) is))
       by (more gt) =
           let ra = s .y .rises A (a .live) in
           let rc = s .y .rises C (c .live) in
@@ -45,10 +45,10 @@ module _ (Q : View) (s : SoundView Q) (x : Side) (j k : ℕ) (hj : OnSide (Q .w)
           let o = r .1 in
           let rd = s .y .rises D (o .live) in
           if-equal (Q .up D .m) (i + 1)
-          (λ m. let q = ap (λ (B : Blend). Q .up B .m) (same upper (i + 1) (omega arith, omega arith) o (omega arith, omega arith) a (omega arith, omega arith)) in
-          absurd (omega arith))
-          (λ m. let q = ap (λ (B : Blend). Q .up B .l) (same lower (i + 1) (omega arith, omega arith) o (omega arith, omega arith) c (omega arith, omega arith)) in
-          absurd (omega arith))
+          (λ m. let is = same upper (i + 1) (omega arith, omega arith) o (omega arith, omega arith) a (omega arith, omega arith) in
+          absurd (omega (arith, ap (λ (B : Blend). Q .up B .m) is)))
+          (λ m. let is = same lower (i + 1) (omega arith, omega arith) o (omega arith, omega arith) c (omega arith, omega arith) in
+          absurd (omega (arith, ap (λ (B : Blend). Q .up B .l) is)))
 
 pub neighbours : (Q : View) (s : SoundView Q) {x : Side} {j k : ℕ} (hj : OnSide (Q .w) j) (hk : OnSide (Q .h) k) {A C : Blend} →
     Over Q x upper j k A → Over Q x lower j k C → (Q .up C .l ≡ Q .up A .m) × (Q .up A .r ≡ Q .up C .m)

@@ -21,7 +21,7 @@ use Rattle.mesh.proofs.Ranges.{in-range-says}
 pub direction-named : (w h : ℕ) (s : Split) → inRange w h s ≡ true → s .direction ≡ number (direction (s .direction))
 unfolding inRange
 direction-named w h s e =
-    ⊎-elim (λ q. rw q (eqb-true _ _ q)) (λ q. rw q (eqb-true _ _ (and-both (eqb (s .direction) 1) (fits h w s) (rw q at e) .0))) (either (eqb (s .direction) 0))
+    ⊎-elim (λ q. rw q (eqb-true _ _ q)) (λ q. rw q (eqb-true _ _ (and-both _ _ (rw q at e) .0))) (either (eqb (s .direction) 0))
 
 number-one : (d e : Direction) → number d ≡ number e → d ≡ e
 number-one upright upright q = refl
