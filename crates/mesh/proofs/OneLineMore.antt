@@ -11,7 +11,7 @@ use Rattle.axis.specs.Range.{any}
 use Rattle.axis.specs.Triple.{Side, lower, upper}
 use Rattle.axis.proofs.Tests.{either, and-both, and-of, or-either, or-left, or-right, any-append}
 use Rattle.axis.proofs.Runs.{if-equal}
-use Rattle.mesh.specs.Lines.{Direction, upright, level, number, other, side, direction, mesh, freshMesh, draws, start, end, fits, inRange, Layout, meshOf}
+use Rattle.mesh.specs.Lines.{Direction, upright, level, number, other, side, direction, mesh, freshMesh, draws, start, end, inRange, Layout, meshOf}
 use Rattle.mesh.specs.Splits.{withLine}
 use Rattle.mesh.specs.Order.{Coarser}
 use Rattle.mesh.specs.declared.Split.{Split}

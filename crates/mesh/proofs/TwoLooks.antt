@@ -153,20 +153,19 @@ module _ (P : Layout) (b : Built P) (s : Split) (e : given P s ≡ 0) where
   in-whole-gap : (c : Split) → Contains P s c → candidate P c ≡ true → Contains P c (gap P s)
   unfolding gap shares
   in-whole-gap c i t =
-      let f = candidate-says P c t in
       let low = low-end P b s (g .fits) (g .apart) gaps (λ k n t. t) in
       let high = high-end P b s (g .fits) (g .apart) gaps (λ k n t. t) in
       let in-side = ends-in P s (g .fits) in
       let rows : (k : ℕ) → c .from + 1 ≤ k → k < c .to + 1 → meshOf P (direction (s .direction)) (s .position + 1) k ≡ false =
-      λ k lo hi. some-fails (c .from + 1) (c .to - c .from) _ (rw (i .same-way, i .same-place) at (f .apart)) k lo (omega arith) in
+      λ k lo hi. some-fails (c .from + 1) (c .to - c .from) _ (rw (i .same-way, i .same-place) at (candidate-says P c t .apart)) k lo (omega arith) in
       record {
         same-way = sym (i .same-way);
         same-place = sym (i .same-place);
         begins = if-at-most (between gaps P s .from) (c .from) (λ le. le)
-            (λ gt. absurd (⊎-elim (λ one. omega arith) (λ on. true-not-false _ on (rows _ (omega arith) (omega (arith, low .0))))
+            (λ gt. absurd (⊎-elim (λ one. omega arith) (λ on. true-not-false _ on (rows _ (omega arith) (omega arith)))
             (gap-either P (direction (s .direction)) (s .position + 1) lower (between gaps P s .from + 1) (low .1))));
         ends = if-at-most (c .to) (between gaps P s .to) (λ le. le)
-            (λ gt. absurd (⊎-elim (λ last. omega (arith, high .1)) (λ on. true-not-false _ on (rows _ (omega (arith, high .0)) (omega arith)))
+            (λ gt. absurd (⊎-elim (λ last. omega arith) (λ on. true-not-false _ on (rows _ (omega arith) (omega arith)))
             (gap-either P (direction (s .direction)) (s .position + 1) upper (between gaps P s .to + 1) (high .2))));
         within = rw (i .same-way) (high .1);
       }
