@@ -136,7 +136,7 @@ below-last test (suc n) first =
     let rest = below-last test n first in
     rw e
     (⊎-elim (λ t. rw t (omega arith, t, λ k lo hi. absurd (omega arith)))
-    (λ t. rw t (omega (arith, rest .0), rest .1, λ k lo hi. if-equal k (suc n) (λ e. rw e t) (λ ne. rest .2 k lo (omega arith))))
+    (λ t. rw t (omega arith, rest .1, λ k lo hi. if-equal k (suc n) (λ e. rw e t) (λ ne. rest .2 k lo (omega arith))))
     (either (test (suc n))))
 
 -- and the first of the n numbers before r that does, where the last of them does.
@@ -149,5 +149,5 @@ above-first test r (suc n) pos le last =
     (λ t. rw t
     (if-equal n 0 (λ one. absurd (true-not-false (test (r - 1)) last (rw one at t)))
     (λ more. let rest = above-first test r n (omega arith) (omega arith) last in
-    (omega (arith, rest .0), rest .1, rest .2, λ k lo hi. if-equal k (r - suc n) (λ e. rw e t) (λ ne. rest .3 k (omega arith) hi)))))
+    (omega arith, rest .1, rest .2, λ k lo hi. if-equal k (r - suc n) (λ e. rw e t) (λ ne. rest .3 k (omega arith) hi)))))
     (either (test (r - suc n)))

@@ -85,7 +85,7 @@ module _ (P : Layout) (b : Built P) (s : Split) (fits : inRange (P .w) (P .h) s 
       let in-side = ends-in P s fits in
       let f = above-first (λ k. ends upper (k + 1)) (run P s + 1) (run P s + 1 - s .to) (omega arith) (omega arith)
       (subst (λ (k : ℕ). ends upper k ≡ true) (omega arith) (gaps upper (run P s + 1) (gap-edge P way at upper (run P s + 1) refl))) in
-      (omega (arith, f .0), omega (arith, f .1), f .2, λ k lo hi. f .3 k (omega arith) hi)
+      (omega arith, omega arith, f .2, λ k lo hi. f .3 k (omega arith) hi)
 
   pub contains : Contains P s line
   contains = record { same-way = refl; same-place = refl; begins = low-end .0; ends = high-end .0; within = high-end .1 }
