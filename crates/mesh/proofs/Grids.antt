@@ -7,7 +7,7 @@ use Rattle.axis.specs.Triple.{Side}
 use Rattle.axis.proofs.Tests.{and-both, and-of, within-of, within-at}
 use Rattle.axis.proofs.Sides.{KnotOf, knot-says, knot-of, half-knot, half-step}
 use Rattle.mesh.specs.Lines.{Direction, upright, level, Mesh}
-use Rattle.mesh.specs.Blends.{crossed, along, cuts, halve, live}
+use Rattle.mesh.specs.Blends.{crossed, along, halve, live}
 use Rattle.mesh.specs.Order.{Left, Coarser}
 use Rattle.mesh.specs.Crossings.{onGrid}
 use Rattle.mesh.specs.declared.Blend.{Blend}
@@ -52,7 +52,7 @@ module _ (w h : ℕ) (hw : 1 ≤ w) (hh : 1 ≤ h) (M N : Mesh) (finer : Coarser
       (r .0, live-left w h hw hh N (r .0) .1 (l .0, l .1, finer-back finer (l .2) (r .1)), r .2)
 
   -- and a half of one keeps its grid too.
-  pub half-on-grid : (d e : Direction) (z k y : ℕ) (s : Side) (B : Blend) → List·Memᴰ B (live w h M) → cuts N e y B ≡ true →
+  pub half-on-grid : (d e : Direction) (z k y : ℕ) (s : Side) (B : Blend) → List·Memᴰ B (live w h M) → Rattle.mesh.specs.Blends.cuts N e y B ≡ true →
       RiseB (halve e s y B) → OnGrid d z k (halve e s y B) → (C : Blend) × List·Memᴰ C (live w h N) × OnGrid d z k C
   half-on-grid d e z k y s B m c rise g =
       let r = left-on-grid N d z k (halve e s y B) rise g in
