@@ -2,7 +2,7 @@
 -- Nothing here knows how many axes there are.
 use Prim.Native.Nat.{ℕ, zero, suc, _+_, _-_, _≤_, _<_}
 use native.Mathlib.Omega.{arith}
-use mathlib.Core.Path.{_≡_, refl, sym, ap, _∙_}
+use mathlib.Core.Path.{_≡_, refl, ap, _∙_}
 use mathlib.Core.Logic.{⊎-elim}
 use mathlib.Core.Bool.{Bool, true, false, cond}
 use borrow.Author.Tests.{eqb-true, eqb-false, eq-eqb, ne-eqb, ltb-true, ltb-false}
@@ -10,6 +10,7 @@ use lib.Dec.{eqb, ltb}
 use Rattle.axis.specs.Nearest.{below, above, nearest}
 use Rattle.axis.specs.declared.Triple.{Triple}
 use Rattle.axis.proofs.Tests.{either, true-not-false}
+use Rattle.axis.proofs.Runs.{if-equal}
 use Rattle.axis.proofs.Triples.{Rise, Inside}
 
 -- What a search over the places 1 to n for a line answers: one of them that has a line, or 0 where none has.
@@ -135,8 +136,7 @@ below-last test (suc n) first =
     let rest = below-last test n first in
     rw e
     (⊎-elim (λ t. rw t (omega arith, t, λ k lo hi. absurd (omega arith)))
-    (λ t. rw t (omega (arith, rest .0), rest .1,
-    λ k lo hi. ⊎-elim (λ q. rw (eqb-true k (suc n) q) t) (λ q. let ne = eqb-false k (suc n) q in rest .2 k lo (omega arith)) (either (eqb k (suc n)))))
+    (λ t. rw t (omega arith, rest .1, λ k lo hi. if-equal k (suc n) (λ e. rw e t) (λ ne. rest .2 k lo (omega arith))))
     (either (test (suc n))))
 
 -- and the first of the n numbers before r that does, where the last of them does.
@@ -147,14 +147,7 @@ above-first test r zero pos le last = absurd (omega arith)
 above-first test r (suc n) pos le last =
     ⊎-elim (λ t. rw t (omega arith, omega arith, t, λ k lo hi. absurd (omega arith)))
     (λ t. rw t
-    (⊎-elim
-    (λ z. let one = eqb-true n 0 z in
-    let e : r - suc n ≡ r - 1 = omega arith in
-    absurd (true-not-false (test (r - 1)) last (ap test (sym e) ∙ t)))
-    (λ z. let more = eqb-false n 0 z in
-    let rest = above-first test r n (omega arith) (omega arith) last in
-    (omega (arith, rest .0), rest .1, rest .2,
-    λ k lo hi. ⊎-elim (λ q. rw (eqb-true k (r - suc n) q) t) (λ q. let ne = eqb-false k (r - suc n) q in rest .3 k (omega arith) hi)
-        (either (eqb k (r - suc n)))))
-    (either (eqb n 0))))
+    (if-equal n 0 (λ one. absurd (true-not-false (test (r - 1)) last (rw one at t)))
+    (λ more. let rest = above-first test r n (omega arith) (omega arith) last in
+    (omega arith, rest .1, rest .2, λ k lo hi. if-equal k (r - suc n) (λ e. rw e t) (λ ne. rest .3 k (omega arith) hi)))))
     (either (test (r - suc n)))

@@ -1,28 +1,29 @@
 -- The anchors of a map that accepted splits build are its crossings, as lists; and its lines are told by its live blends.
-use Prim.Native.Nat.{ℕ, zero, suc, _+_, _-_, _≤_, _<_}
+use Prim.Native.Nat.{ℕ, zero, suc, _+_, _≤_, _<_}
 use native.Mathlib.Omega.{arith}
 use mathlib.Core.Path.{_≡_, refl, sym, ap, subst, _∙_}
-use mathlib.Core.Logic.{_⊎_, inl, inr, ⊎-elim}
+use mathlib.Core.Logic.{inl, inr, ⊎-elim}
 use mathlib.Core.Bool.{Bool, true, false, cond, _||_}
 use mathlib.Core.List.{List, [], _∷_, _++_, map, List·Memᴰ, List·Memᴰ·not-nil}
 use mathlib.Core.List.List·Memᴰ.{List·Memᴰ·head}
-use lib.Dec.{leb, ltb, eqb}
+use lib.Dec.{ltb, eqb}
 use lib.ListN.{length}
-use borrow.Author.Tests.{eqb-true, eqb-false, eq-eqb, leb-true, leb-false, ltb-true}
+use borrow.Author.Tests.{eq-eqb, ltb-true}
 use Rattle.axis.specs.Range.{each, all, any, only}
 use Rattle.axis.specs.Triple.{Side, lower, upper}
 use Rattle.axis.specs.declared.Triple.{Triple}
-use Rattle.axis.proofs.Tests.{either, true-not-false, and-both, and-of, or-either, or-left, or-right, same-test, all-at, any-at, any-of, only-mem, mem-only, each-same}
+use Rattle.axis.proofs.Tests.{true-not-false, and-both, and-of, or-either, or-left, or-right, same-test, all-at, any-at, any-of, only-mem, mem-only, each-same}
+use Rattle.axis.proofs.Runs.{if-at-most, if-equal}
 use Rattle.axis.proofs.Counts.{one-at-most}
 use Rattle.axis.proofs.Triples.{Knots, AtFresh}
-use Rattle.axis.proofs.Sides.{from, KnotOf, StepIn, column}
+use Rattle.axis.proofs.Sides.{KnotOf, StepIn, column}
 use Rattle.axis.proofs.Parts.{OnSide}
 use Rattle.mesh.specs.Lines.{Direction, upright, level, other, side, direction, mesh, freshMesh, draws, inRange, Layout, meshOf}
 use Rattle.mesh.specs.Blends.{anchored, once, leavesOf, inTableOrder, refine, live, firstFour, crossed}
 use Rattle.mesh.specs.Order.{Coarser}
 use Rattle.mesh.specs.Sound.{sound}
 use Rattle.mesh.specs.Splits.{liveOf}
-use Rattle.mesh.specs.Crossings.{point, passes, crosses, crossings, anchors, onGrid, Tight}
+use Rattle.mesh.specs.Crossings.{point, crosses, crossings, anchors, onGrid, Tight}
 use Rattle.mesh.specs.declared.Split.{Split}
 use Rattle.mesh.specs.declared.Blend.{Blend}
 use Rattle.mesh.proofs.TableOrder.{anchored-at, order-mem, mem-order, once-distinct}
@@ -89,9 +90,11 @@ module _ (P : Layout) (b : Built P) where
           let j = anchored-at m n C f in
           own-anchors (P .w) (P .h) (b .wide) (b .high) (meshOf P) is-sound B C (listed B mB (i .0) (i .1)) (listed C mC (j .0) (j .1)) (i .0 ∙ sym (j .0))
           (i .1 ∙ sym (j .1))))
-          (λ e. let a = crossing-anchored (viewOf upright P) (tight-view P b upright) m n (crosses-says P m n hm hn e) in
-          (a .blend, mem-only (anchored m n) bs (a .blend) (order-mem (P .w) (P .h) bs (a .blend) (a .live) .0)
-          (and-of _ _ (eq-eqb _ _ (a .across)) (eq-eqb _ _ (a .up)))))
+          (λ e. let a = crossing-anchored (viewOf upright P) (tight-view P b upright) m n (crosses-says P m n hm hn e) in (
+            a .blend,
+            mem-only (anchored m n) bs (a .blend) (order-mem (P .w) (P .h) bs (a .blend) (a .live) .0)
+                (and-of _ _ (eq-eqb _ _ (a .across)) (eq-eqb _ _ (a .up))),
+          ))
           (λ e B k. let o = only-mem (anchored m n) bs B k in
           let i = anchored-at m n B (o .1) in
           true-not-false _
@@ -128,21 +131,14 @@ module _ (P : Layout) (b : Built P) where
           let r = known .some x upper (column x z) k on (lk, omega arith) in
           let o = r .1 in
           let rise = known .y .rises (r .0) (o .live) in
-          let row = o .row in
           (r .0, o .live, record { knot = inr (inl (is (r .0) (o .live) (o .column))); lo = omega arith; hi = omega arith })
 
       gridded : meshOf P d z k ≡ true → Gridded P d z k
       gridded on =
           let wide = known .x .wide in
-          ⊎-elim
-          (λ e. let one = eqb-true z 1 e in
-          at-edge upper (omega arith, omega arith) (λ B m i. let r = known .x .rises B m in omega arith))
-          (λ e. let ne = eqb-false z 1 e in
-          ⊎-elim (λ f. b .tight d z k (omega arith, leb-true _ _ f) (lk, omega arith) on)
-          (λ f. let gt = leb-false z (side d (P .w) (P .h)) f in
-          at-edge lower (omega arith, omega arith) (λ B m i. let r = known .x .rises B m in omega arith))
-          (either (leb z (side d (P .w) (P .h)))))
-          (either (eqb z 1))
+          if-equal z 1 (λ one. at-edge upper (omega arith, omega arith) (λ B m i. omega (arith, known .x .rises B m)))
+          (λ ne. if-at-most z (side d (P .w) (P .h)) (λ le. b .tight d z k (omega arith, le) (lk, omega arith) on)
+          (λ gt. at-edge lower (omega arith, omega arith) (λ B m i. omega (arith, known .x .rises B m))))
 
 -- A line inside the domain runs out exactly where it reaches the domain's edge.
 abbrev Ranges : Layout → Type 0
@@ -199,9 +195,8 @@ module _ (P R : Layout) (b : Built P) (c : Built R) (ok : Ranges P) (fine : Rang
         by : StepOf R d z 1 → meshOf R d z 0 ≡ true
         by (fresh-step at lt) = absurd (not-fresh at)
         by (split-step s m r e row) =
-            let g = r .range in
             subst (λ (y : ℕ). meshOf R d y 0 ≡ true) (sym e)
-            (split-on R d s m r 0 (⊎-elim (λ i. inr (inl (refl, omega arith))) (λ o. absurd (⊎-elim (λ i. omega arith) (λ i. omega arith) o)) row))
+            (split-on R d s m r 0 (⊎-elim (λ i. inr (inl (refl, omega arith))) (⊎-elim (λ i. absurd (omega arith)) (λ i. absurd (omega arith))) row))
 
     last-out : meshOf R d z (side (other d) (R .w) (R .h)) ≡ true → meshOf R d z (side (other d) (R .w) (R .h) + 1) ≡ true
     last-out on = by (step-says R fine d z _ on)
@@ -209,32 +204,26 @@ module _ (P R : Layout) (b : Built P) (c : Built R) (ok : Ranges P) (fine : Rang
         by : StepOf R d z (side (other d) (R .w) (R .h)) → meshOf R d z (side (other d) (R .w) (R .h) + 1) ≡ true
         by (fresh-step at lt) = absurd (not-fresh at)
         by (split-step s m r e row) =
-            let g = r .range in
             subst (λ (y : ℕ). meshOf R d y (side (other d) (R .w) (R .h) + 1) ≡ true) (sym e)
             (split-on R d s m r (side (other d) (R .w) (R .h) + 1)
-            (⊎-elim (λ i. inr (inr (refl, omega arith))) (λ o. absurd (⊎-elim (λ i. omega arith) (λ i. omega arith) o)) row))
+            (⊎-elim (λ i. inr (inr (refl, omega arith))) (⊎-elim (λ i. absurd (omega arith)) (λ i. absurd (omega arith))) row))
 
   pub blends-tell-lines : Coarser (meshOf P) (meshOf R)
   blends-tell-lines d z k on = by (step-says P ok d z k on)
     where
       by : StepOf P d z k → meshOf R d z k ≡ true
       by (fresh-step at lt) =
-          let e = sides d in
-          let f = sides (other d) in
-          fresh-line (R .w) (R .h) (R .splits) d z k (subst (λ (n : ℕ). AtFresh n z) (sym e) at) (omega arith)
+          fresh-line (R .w) (R .h) (R .splits) d z k (subst (λ (n : ℕ). AtFresh n z) (sym (sides d)) at) (omega (arith, sides (other d)))
       by (split-step s m r e row) =
-          let g = r .range in
-          let i = r .inner in
           let f = sides (other d) in
           ⊎-elim (λ q. inside-told d z k (omega arith) (omega arith) (omega arith) (omega arith) on)
           (⊎-elim
-          (λ q. let beside = inside-told d z 1 (omega arith) (omega arith) (omega arith) (omega arith) (drawn 1 (inl (omega arith, omega arith))) in
-          subst (λ (n : ℕ). meshOf R d z n ≡ true) (sym (q .0)) (first-out d z (omega arith, omega arith) beside))
-          (λ q. let last = side (other d) (P .w) (P .h) in
-          let beside = inside-told d z last (omega arith) (omega arith) (omega arith) (omega arith) (drawn last (inl (omega arith, omega arith))) in
-          let there = last-out d z (omega arith, omega arith) (subst (λ (n : ℕ). meshOf R d z n ≡ true) (sym f) beside) in
-          subst (λ (n : ℕ). meshOf R d z n ≡ true) (let p : side (other d) (R .w) (R .h) + 1 ≡ k = omega arith in p) there))
+          (λ q. subst (λ (n : ℕ). meshOf R d z n ≡ true) (sym (q .0)) (first-out d z (omega arith, omega arith) (told 1 (omega arith) (omega arith))))
+          (λ q. subst (λ (n : ℕ). meshOf R d z n ≡ true) (omega arith) (last-out d z (omega arith, omega arith) (told _ (omega arith) (omega arith)))))
           row
         where
-          drawn : (n : ℕ) → Row (side (other d) (P .w) (P .h)) s n → meshOf P d z n ≡ true
-          drawn n o = subst (λ (y : ℕ). meshOf P d y n ≡ true) (sym e) (split-on P d s m r n o)
+          -- the split's own steps
+          told : (n : ℕ) → s .from + 1 ≤ n → n < s .to + 1 → meshOf R d z n ≡ true
+          told n lo hi =
+              inside-told d z n (omega arith) (omega arith) (omega arith) (omega arith)
+              (subst (λ (y : ℕ). meshOf P d y n ≡ true) (sym e) (split-on P d s m r n (inl (lo, hi))))

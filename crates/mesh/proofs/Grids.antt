@@ -3,7 +3,7 @@ use Prim.Native.Nat.{ℕ, _≤_, _<_}
 use mathlib.Core.Path.{_≡_}
 use mathlib.Core.Bool.{true}
 use mathlib.Core.List.{List·Memᴰ}
-use Rattle.axis.specs.Triple.{Side, spans, isKnot}
+use Rattle.axis.specs.Triple.{Side}
 use Rattle.axis.proofs.Tests.{and-both, and-of, within-of, within-at}
 use Rattle.axis.proofs.Sides.{KnotOf, knot-says, knot-of, half-knot, half-step}
 use Rattle.mesh.specs.Lines.{Direction, upright, level, Mesh}
@@ -22,7 +22,7 @@ pub record OnGrid (d : Direction) (z k : ℕ) (B : Blend) : Type 0 where
 
 pub grid-says : (d : Direction) (z k : ℕ) (B : Blend) → onGrid d z k B ≡ true → OnGrid d z k B
 grid-says d z k B e =
-    let b = and-both (isKnot z (crossed d B)) (spans k (along d B)) e in
+    let b = and-both _ _ e in
     let s = within-at _ _ k (b .1) in
     record { knot = knot-says z (crossed d B) (b .0); lo = s .0; hi = s .1 }
 

@@ -2,16 +2,16 @@
 use Prim.Native.Nat.{ℕ, _+_, _≤_, _<_}
 use native.Mathlib.Omega.{arith}
 use mathlib.Core.Path.{_≡_, refl}
-use mathlib.Core.Logic.{inl, inr, ⊎-elim}
+use mathlib.Core.Logic.{inl, inr}
 use mathlib.Core.Bool.{true}
 use mathlib.Core.List.{List, List·Memᴰ}
-use lib.Dec.{eqb}
-use borrow.Author.Tests.{eqb-true, eqb-false}
+use borrow.Author.Tests.{eqb-true}
 use Rattle.axis.specs.Triple.{Side}
 use Rattle.axis.specs.declared.Triple.{Triple}
-use Rattle.axis.proofs.Tests.{either, true-not-false, and-both, and-of, every-at}
+use Rattle.axis.proofs.Tests.{true-not-false, and-both, and-of, every-at}
+use Rattle.axis.proofs.Runs.{if-equal}
 use Rattle.axis.proofs.Triples.{Knots, half-knots, First, is-low, is-high}
-use Rattle.axis.proofs.Parts.{lies, first, first-lies}
+use Rattle.axis.proofs.Parts.{first, first-lies}
 use Rattle.axis.proofs.Sides.{lies-of, lies-at}
 use Rattle.mesh.specs.Lines.{Direction, upright, level, other, side, Mesh, mesh}
 use Rattle.mesh.specs.Blends.{blend, crossed, along, cuts, halve, live, firstFour}
@@ -92,17 +92,13 @@ module _ (w h : ℕ) (hw : 1 ≤ w) (hh : 1 ≤ h) (splits : List Split) where
         rises = λ B m. crossed-in d (facts w h hw hh splits B m);
         near = λ B m e.
             let r = crossed-in d (facts w h hw hh splits B m) in
-            ⊎-elim (λ q. eqb-true _ 1 q)
-            (λ q. let ne = eqb-false (crossed d B .m) 1 q in
-            absurd (fresh-clear w h hw hh splits B m d 1 (inl refl) (record { lo = omega arith; hi = omega arith; off = λ f. ne (omega arith) })))
-            (either (eqb (crossed d B .m) 1));
+            if-equal (crossed d B .m) 1 (λ e. e)
+            (λ ne. absurd (fresh-clear w h hw hh splits B m d 1 (inl refl) (record { lo = omega arith; hi = omega arith; off = λ f. ne (omega arith) })));
         far = λ B m e.
             let r = crossed-in d (facts w h hw hh splits B m) in
-            ⊎-elim (λ q. eqb-true _ _ q)
-            (λ q. let ne = eqb-false (crossed d B .m) (side d w h + 1) q in
-            absurd (fresh-clear w h hw hh splits B m d (side d w h + 1) (inr refl)
-                (record { lo = omega arith; hi = omega arith; off = λ f. ne (omega arith) })))
-            (either (eqb (crossed d B .m) (side d w h + 1)));
+            if-equal (crossed d B .m) (side d w h + 1) (λ e. e)
+            (λ ne. absurd (fresh-clear w h hw hh splits B m d (side d w h + 1) (inr refl)
+            (record { lo = omega arith; hi = omega arith; off = λ f. ne (omega arith) })));
         grid = λ B m k lo hi. live-grid B m d k lo hi;
         clear = λ B m z i c.
             let l = live-left w h hw hh M B .0 m in
@@ -130,8 +126,7 @@ module _ (w h : ℕ) (hw : 1 ≤ w) (hh : 1 ≤ h) (splits : List Split) where
             let B = blend (first x w) (first y h) in
             let m = first-in-four x y w h in
             let r = left-quadrant M x y j k B (firstFour-rises w h hw hh B m) (and-of _ _ (first-lies x w j hj) (first-lies y h k hk)) in
-            let b = and-both (lies x j (r .0 .across)) (lies y k (r .0 .up)) (r .2) in
-            (
+            let b = and-both _ _ (r .2) in (
               r .0,
               record {
                 live = live-left w h hw hh M (r .0) .1 (B, m, r .1);

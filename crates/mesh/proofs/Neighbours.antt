@@ -3,15 +3,13 @@
 use Prim.Native.Nat.{ℕ, _+_, _-_, _≤_, _<_}
 use native.Mathlib.Omega.{arith}
 use mathlib.Core.Path.{_≡_, sym, ap, subst}
-use mathlib.Core.Logic.{_⊎_, inl, inr, ⊎-elim}
+use mathlib.Core.Logic.{_⊎_, inl, inr}
 use mathlib.Core.Bool.{true, false}
-use lib.Dec.{leb, ltb, eqb}
-use borrow.Author.Tests.{leb-true, leb-false, ltb-true, ltb-false, eqb-true, eqb-false}
 use Rattle.axis.specs.Triple.{Side, lower, upper}
-use Rattle.axis.proofs.Tests.{either, true-not-false}
+use Rattle.axis.proofs.Tests.{true-not-false}
 use Rattle.axis.proofs.Parts.{OnSide}
-use Rattle.axis.proofs.Runs.{Compared, less, equal, more, compare}
-use Rattle.axis.proofs.Sides.{StepIn, KnotIn, opposite, mirror, same-back, other-end, back-flip, column, own-column, past-column, on-column}
+use Rattle.axis.proofs.Runs.{if-at-most, if-below, if-equal, Compared, less, equal, more, compare}
+use Rattle.axis.proofs.Sides.{StepIn, KnotIn, opposite, mirror, column, own-column, past-column, on-column}
 use Rattle.axis.proofs.Triples.{rise-of}
 use Rattle.mesh.specs.Ends.{back}
 use Rattle.mesh.specs.declared.Blend.{Blend}
@@ -20,55 +18,37 @@ use Rattle.mesh.proofs.View.{View, turn, flip, Live, Over, Knot, SoundV
 -- Over one square, in one part across: A with its anchor below the square, and C with its anchor above it.
 module _ (Q : View) (s : SoundView Q) (x : Side) (j k : ℕ) (hj : OnSide (Q .w) j) (hk : OnSide (Q .h) k) (A C : Blend)
     (a : Over Q x upper j k A) (c : Over Q x lower j k C) where
-
   start-is-anchor : Q .up C .l ≡ Q .up A .m
   start-is-anchor = by (compare (Q .up C .l) (Q .up A .m))
     where
-      at : (y : Side) (i : ℕ) (B : Blend) → Live Q B → StepIn x j (Q .across B) → StepIn y i (Q .up B) → Over Q x y j i B
-      at y i B m p q = record { live = m; column = p; row = q }
+      same : (y : Side) (i : ℕ) → OnSide (Q .h) i → {u v : Side} {k l : ℕ} {B C : Blend} → Over Q x u j k B → StepIn y i (Q .up B) → Over Q x v j l C →
+          StepIn y i (Q .up C) → B ≡ C
+      same y i hi {B = B} {C = C} b p c q =
+          s .one x y j i B C hj hi (record { live = b .live; column = b .column; row = p }) (record { live = c .live; column = c .column; row = q })
 
       by : Compared (Q .up C .l) (Q .up A .m) → Q .up C .l ≡ Q .up A .m
       by (equal e) = e
       by (less lt) =
           let ra = s .y .rises A (a .live) in
           let rc = s .y .rises C (c .live) in
-          let pa = a .row in
-          let pc = c .row in
           let low : 2 ≤ Q .up A .m =
-          ⊎-elim (λ e. leb-true 2 (Q .up A .m) e)
-          (λ e. let one = leb-false 2 (Q .up A .m) e in let n = s .y .near C (c .live) (omega arith) in absurd (omega arith))
-          (either (leb 2 (Q .up A .m))) in
+          if-at-most 2 (Q .up A .m) (λ le. le) (λ one. let n = s .y .near C (c .live) (omega arith) in absurd (omega arith)) in
           let i = Q .up A .m - 1 in
-          let is = s .one x lower j i A C hj (omega arith, omega arith)
-          (at lower i A (a .live) (a .column) (omega arith, omega arith))
-          (at lower i C (c .live) (c .column) (omega arith, omega arith)) in
-          let q = ap (λ (B : Blend). Q .up B .m) is in
-          absurd (omega arith)
+          let is = same lower i (omega arith, omega arith) a (omega arith, omega arith) c (omega arith, omega arith) in
+          absurd (omega (arith, ap (λ (B : Blend). Q .up B .m) is))
       by (more gt) =
           let ra = s .y .rises A (a .live) in
           let rc = s .y .rises C (c .live) in
-          let pa = a .row in
-          let pc = c .row in
           let i = Q .up C .l - 1 in
           let r = s .some x lower j i hj (omega arith, omega arith) in
           let D : Blend = r .0 in
           let o = r .1 in
-          let pd = o .row in
           let rd = s .y .rises D (o .live) in
-          ⊎-elim
-          (λ e. let m = eqb-true (Q .up D .m) (i + 1) e in
-          let is = s .one x upper j (i + 1) D A hj (omega arith, omega arith)
-          (at upper (i + 1) D (o .live) (o .column) (omega arith, omega arith))
-          (at upper (i + 1) A (a .live) (a .column) (omega arith, omega arith)) in
-          let q = ap (λ (B : Blend). Q .up B .m) is in
-          absurd (omega arith))
-          (λ e. let m = eqb-false (Q .up D .m) (i + 1) e in
-          let is = s .one x lower j (i + 1) D C hj (omega arith, omega arith)
-          (at lower (i + 1) D (o .live) (o .column) (omega arith, omega arith))
-          (at lower (i + 1) C (c .live) (c .column) (omega arith, omega arith)) in
-          let q = ap (λ (B : Blend). Q .up B .l) is in
-          absurd (omega arith))
-          (either (eqb (Q .up D .m) (i + 1)))
+          if-equal (Q .up D .m) (i + 1)
+          (λ m. let is = same upper (i + 1) (omega arith, omega arith) o (omega arith, omega arith) a (omega arith, omega arith) in
+          absurd (omega (arith, ap (λ (B : Blend). Q .up B .m) is)))
+          (λ m. let is = same lower (i + 1) (omega arith, omega arith) o (omega arith, omega arith) c (omega arith, omega arith) in
+          absurd (omega (arith, ap (λ (B : Blend). Q .up B .l) is)))
 
 pub neighbours : (Q : View) (s : SoundView Q) {x : Side} {j k : ℕ} (hj : OnSide (Q .w) j) (hk : OnSide (Q .h) k) {A C : Blend} →
     Over Q x upper j k A → Over Q x lower j k C → (Q .up C .l ≡ Q .up A .m) × (Q .up A .r ≡ Q .up C .m)
@@ -89,7 +69,7 @@ level-at Q s B m {v} {j} e lo hi = subst (λ (i : ℕ). Q .levels i j ≡ true) 
 pub grid-knot : (Q : View) (s : SoundView Q) (B : Blend) → Live Q B → (j v : ℕ) → OnSide (Q .w) j → (1 < v) × (v < Q .h + 1) →
     Q .across B .l ≤ j → j < Q .across B .r → (v ≡ Q .up B .l) ⊎ ((v ≡ Q .up B .m) ⊎ (v ≡ Q .up B .r)) → (x : Side) × Knot Q x j v
 grid-knot Q s B m j v hj hv lo hi at =
-    ⊎-elim (λ e. (lower, by lower (lo, ltb-true j _ e) at)) (λ e. (upper, by upper (ltb-false j _ e, hi) at)) (either (ltb j (Q .across B .m)))
+    if-below j (Q .across B .m) (λ lt. (lower, by lower (lo, lt) at)) (λ le. (upper, by upper (le, hi) at))
   where
     by : (x : Side) → StepIn x j (Q .across B) → (v ≡ Q .up B .l) ⊎ ((v ≡ Q .up B .m) ⊎ (v ≡ Q .up B .r)) → Knot Q x j v
     by x i (inl e) =
@@ -158,19 +138,15 @@ module _ (Q : View) (t : TightView Q) (z a : ℕ) (hz : (1 < z) × (z < Q .w + 1
       by : (y : Side) → Knot (turn Q) y (a - 1) z → Last
       by lower k =
           let r = s .y .rises (k .blend) (k .live) in
-          let c = k .column in
           absurd (past (k .blend) (k .live) (k .at) (omega arith) (omega arith))
       by upper k =
           let r = s .y .rises (k .blend) (k .live) in
-          let c = k .column in
           record {
             blend = k .blend;
             live = k .live;
             at = k .at;
-            row = c;
-            ends = ⊎-elim (λ e. let lt = ltb-true a (Q .up (k .blend) .r) e in absurd (past (k .blend) (k .live) (k .at) (omega arith) lt))
-                (λ e. let le = ltb-false a (Q .up (k .blend) .r) e in omega arith)
-                (either (ltb a (Q .up (k .blend) .r)));
+            row = k .column;
+            ends = if-below a (Q .up (k .blend) .r) (λ lt. absurd (past (k .blend) (k .live) (k .at) (omega arith) lt)) (λ le. omega arith);
           }
 
   abbrev X : Blend
@@ -214,7 +190,7 @@ module _ (Q : View) (t : TightView Q) (z a : ℕ) (hz : (1 < z) × (z < Q .w + 1
               anchored = λ x. beside x .anchored;
               reaches = λ x. beside x .begins;
             };
-        covered = λ k i. grid-at Q s X (last .live) (last .at) (omega arith) (let e = last .ends in omega arith);
+        covered = λ k i. grid-at Q s X (last .live) (last .at) (omega arith) (omega (arith, last .ends));
       }
 
 -- Seen from the other end:
@@ -239,11 +215,9 @@ pub line-ends : (Q : View) (t : TightView Q) (z a : ℕ) → (1 < z) × (z < Q .
 line-ends Q t z a hz ha upper on off = ended-above Q t z a hz ha on off
 line-ends Q t z a hz ha lower on off =
     let r = ended-above (flip Q) (flip-tight Q t) z (Q .h + 2 - a) hz (omega arith, omega arith)
-    (subst (λ (n : ℕ). Q .uprights z n ≡ true) (let k : a ≡ Q .h + 1 - (Q .h + 2 - a - 1) = omega arith in k) on)
-    (subst (λ (n : ℕ). Q .uprights z n ≡ false) (let k : a - 1 ≡ Q .h + 1 - (Q .h + 2 - a) = omega arith in k) off) in
+    (subst (λ (n : ℕ). Q .uprights z n ≡ true) (omega arith) on)
+    (subst (λ (n : ℕ). Q .uprights z n ≡ false) (omega arith) off) in
     let b = r .abreast in
-    let rise : (x : Side) → (Q .up (b .at x) .m ≤ Q .h + 2) × (Q .up (b .at x) .r ≤ Q .h + 2) =
-    λ x. let r = t .is-sound .y .rises (b .at x) (b .live x) in (omega arith, omega arith) in
     record {
       abreast =
           record {
@@ -251,10 +225,8 @@ line-ends Q t z a hz ha lower on off =
             at = b .at;
             live = b .live;
             over = b .over;
-            anchored = λ x. same-back (Q .h + 2) _ a (rise x .0) (omega arith) (b .anchored x);
-            reaches = λ x. other-end (Q .h + 2) _ _ (rise x .1) (b .reaches x);
+            anchored = λ x. omega (arith, t .is-sound .y .rises (b .at x) (b .live x), b .anchored x);
+            reaches = λ x. omega (arith, t .is-sound .y .rises (b .at x) (b .live x), b .reaches x);
           };
-      covered = λ n range.
-          let f = back-flip (Q .h) a n (b .reach) (range .0) (range .1) in
-          subst (λ (u : ℕ). Q .uprights z u ≡ true) (f .2) (r .covered (Q .h + 1 - n) (f .0, f .1));
+      covered = λ n range. subst (λ (u : ℕ). Q .uprights z u ≡ true) (omega arith) (r .covered (Q .h + 1 - n) (omega arith, omega arith));
     }

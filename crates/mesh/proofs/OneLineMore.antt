@@ -1,17 +1,17 @@
 -- The mesh of a layout with one split more: which unit steps the split adds.
-use Prim.Native.Nat.{ℕ, _+_, _-_, _≤_, _<_}
+use Prim.Native.Nat.{ℕ, _+_, _≤_, _<_}
 use native.Mathlib.Omega.{arith}
 use mathlib.Core.Path.{_≡_, refl, sym, ap, _∙_}
 use mathlib.Core.Logic.{_⊎_, inl, inr, ⊎-elim}
-use mathlib.Core.Bool.{Bool, true, _&&_, _||_, or-assoc, or-false}
+use mathlib.Core.Bool.{Bool, true, _||_, or-assoc, or-false}
 use mathlib.Core.List.{[], _∷_}
-use lib.Dec.{leb, ltb, eqb}
-use borrow.Author.Tests.{eqb-true, eqb-false, eq-eqb, leb-true, le-leb, ltb-true, lt-ltb}
+use lib.Dec.{ltb, eqb}
+use borrow.Author.Tests.{eqb-true, eq-eqb, leb-true, le-leb, ltb-true, lt-ltb}
 use Rattle.axis.specs.Range.{any}
 use Rattle.axis.specs.Triple.{Side, lower, upper}
 use Rattle.axis.proofs.Tests.{either, and-both, and-of, or-either, or-left, or-right, any-append}
-use Rattle.axis.proofs.Sides.{from, to}
-use Rattle.mesh.specs.Lines.{Direction, upright, level, number, other, side, direction, mesh, freshMesh, draws, start, end, fits, inRange, Layout, meshOf}
+use Rattle.axis.proofs.Runs.{if-equal}
+use Rattle.mesh.specs.Lines.{Direction, upright, level, number, other, side, direction, mesh, freshMesh, draws, start, end, inRange, Layout, meshOf}
 use Rattle.mesh.specs.Splits.{withLine}
 use Rattle.mesh.specs.Order.{Coarser}
 use Rattle.mesh.specs.declared.Split.{Split}
@@ -21,7 +21,7 @@ use Rattle.mesh.proofs.Ranges.{in-range-says}
 pub direction-named : (w h : ℕ) (s : Split) → inRange w h s ≡ true → s .direction ≡ number (direction (s .direction))
 unfolding inRange
 direction-named w h s e =
-    ⊎-elim (λ q. rw q (eqb-true _ _ q)) (λ q. rw q (eqb-true _ _ (and-both (eqb (s .direction) 1) (fits h w s) (rw q at e) .0))) (either (eqb (s .direction) 0))
+    ⊎-elim (λ q. rw q (eqb-true _ _ q)) (λ q. rw q (eqb-true _ _ (and-both _ _ (rw q at e) .0))) (either (eqb (s .direction) 0))
 
 number-one : (d e : Direction) → number d ≡ number e → d ≡ e
 number-one upright upright q = refl
@@ -57,30 +57,27 @@ module _ (w h : ℕ) (d : Direction) (s : Split) (r : Ranged w h d s) where
   pub draws-says : (e : Direction) (z k : ℕ) → draws w h e z k s ≡ true → (e ≡ d) × (z ≡ s .position + 1) × Row run s k
   unfolding draws
   draws-says e z k t =
-      let a = and-both (eqb (s .direction) (number e) && eqb z (s .position + 1) && leb (start s) k) (ltb k (end (side (other e) w h) s)) t in
-      let b = and-both (eqb (s .direction) (number e) && eqb z (s .position + 1)) (leb (start s) k) (a .0) in
-      let c = and-both (eqb (s .direction) (number e)) (eqb z (s .position + 1)) (b .0) in
+      let a = and-both _ _ t in
+      let b = and-both _ _ (a .0) in
+      let c = and-both _ _ (b .0) in
       let same : e ≡ d = number-one e d (sym (eqb-true _ _ (c .0)) ∙ r .way) in
       (same, eqb-true _ _ (c .1), row k (leb-true _ _ (b .1)) (ap (λ (f : Direction). ltb k (end (side (other f) w h) s)) (sym same) ∙ a .1))
     where
       row : (k : ℕ) → start s ≤ k → ltb k (end run s) ≡ true → Row run s k
       row k lo t =
-          let range = r .range in
           let hi = ltb-true k (end run s) t in
           ⊎-elim
           (λ p. let zero = eqb-true (s .from) 0 p in
-          ⊎-elim (λ q. inr (inl (eqb-true k 0 q, omega arith))) (λ q. let pos = eqb-false k 0 q in upwards k hi (omega arith)) (either (eqb k 0)))
+          if-equal k 0 (λ e. inr (inl (e, omega arith))) (λ pos. upwards k hi (omega arith)))
           (λ p. upwards k hi (rw p at lo))
           (either (eqb (s .from) 0))
         where
           upwards : (k : ℕ) → k < end run s → s .from + 1 ≤ k → Row run s k
           upwards k hi le =
-              let range = r .range in
               ⊎-elim
               (λ p. let last = eqb-true (s .to) run p in
               let lt : k < run + 2 = rw p at hi in
-              ⊎-elim (λ q. inr (inr (eqb-true k (run + 1) q, omega arith))) (λ q. let ne = eqb-false k (run + 1) q in inl (le, omega arith))
-                  (either (eqb k (run + 1))))
+              if-equal k (run + 1) (λ e. inr (inr (e, omega arith))) (λ ne. inl (le, omega arith)))
               (λ p. inl (le, rw p at hi))
               (either (eqb (s .to) run))
 
@@ -92,15 +89,13 @@ module _ (w h : ℕ) (d : Direction) (s : Split) (r : Ranged w h d s) where
     where
       first : (k : ℕ) → Row run s k → start s ≤ k
       first k (inl i) = ⊎-elim (λ p. rw p (omega arith)) (λ p. rw p (i .0)) (either (eqb (s .from) 0))
-      first k (inr (inl i)) = let e : s .from ≡ 0 = omega arith in rw (eq-eqb _ _ e) (omega arith)
-      first k (inr (inr i)) =
-          let range = r .range in
-          ⊎-elim (λ p. rw p (omega arith)) (λ p. rw p (omega arith)) (either (eqb (s .from) 0))
+      first k (inr (inl i)) = rw (eq-eqb (s .from) 0 (omega arith)) (omega arith)
+      first k (inr (inr i)) = ⊎-elim (λ p. rw p (omega arith)) (λ p. rw p (omega arith)) (either (eqb (s .from) 0))
 
       last : (k : ℕ) → Row run s k → k < end run s
-      last k (inl i) = let range = r .range in ⊎-elim (λ p. rw p (omega arith)) (λ p. rw p (i .1)) (either (eqb (s .to) run))
-      last k (inr (inl i)) = let range = r .range in ⊎-elim (λ p. rw p (omega arith)) (λ p. rw p (omega arith)) (either (eqb (s .to) run))
-      last k (inr (inr i)) = let e : s .to ≡ run = omega arith in rw (eq-eqb _ _ e) (omega arith)
+      last k (inl i) = ⊎-elim (λ p. rw p (omega arith)) (λ p. rw p (i .1)) (either (eqb (s .to) run))
+      last k (inr (inl i)) = ⊎-elim (λ p. rw p (omega arith)) (λ p. rw p (omega arith)) (either (eqb (s .to) run))
+      last k (inr (inr i)) = rw (eq-eqb (s .to) run (omega arith)) (omega arith)
 
 -- The steps of a layout with the split are its own and those that the split draws.
 pub more-steps : (P : Layout) (s : Split) (e : Direction) (z k : ℕ) → meshOf (withLine P s) e z k ≡ (meshOf P e z k || draws (P .w) (P .h) e z k s)

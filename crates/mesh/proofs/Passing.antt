@@ -3,17 +3,17 @@ use Prim.Native.Nat.{ℕ, zero, suc, _+_, _≤_, _<_}
 use native.Mathlib.Omega.{arith}
 use mathlib.Core.Path.{_≡_, refl, _∙_}
 use mathlib.Core.Logic.{⊎-elim}
-use mathlib.Core.Bool.{Bool, true, false, cond, _&&_, not}
+use mathlib.Core.Bool.{Bool, true, false, cond, _&&_}
 use lib.Dec.{leb, ltb, eqb}
 use lib.ListN.{length}
-use borrow.Author.Tests.{leb-false, le-leb, lt-ltb, ne-eqb, eqb-true, not-true, not-false}
+use borrow.Author.Tests.{leb-false, le-leb, lt-ltb, ne-eqb, not-true, not-false}
 use Rattle.axis.specs.Range.{any}
-use Rattle.mesh.specs.Lines.{Layout, meshOf, upright, level, fits, inRange, shares, ended}
+use Rattle.mesh.specs.Lines.{Layout, meshOf, fits, inRange, shares, ended}
 use Rattle.mesh.specs.Blends.{isCut}
 use Rattle.mesh.specs.Splits.{liveOf, withLine, soundWith, candidate, given, exactNumber, run, reaching}
 use Rattle.mesh.specs.declared.Split.{Split}
 use Rattle.axis.proofs.Tests.{either, and-both, and-of, cond-true, cond-false}
-use Rattle.mesh.proofs.Ranges.{in-range-says}
+use Rattle.mesh.proofs.OneLineMore.{ranged}
 
 -- what it says that no refusal of 3 to 7 applies, and that an exact split is accepted
 pub record Given (P : Layout) (s : Split) : Type 0 where
@@ -31,11 +31,11 @@ chain false n rest lt e = (refl, e)
 pub given-says : (P : Layout) (s : Split) → given P s ≡ 0 → Given P s
 unfolding given
 given-says P s e =
-    let a = chain (not (inRange (P .w) (P .h) s)) 3 _ (omega arith) e in
-    let b = chain (leb 60 (length (P .splits))) 4 _ (omega arith) (a .1) in
-    let c = chain (shares (meshOf P) s) 5 _ (omega arith) (b .1) in
-    let d = chain (not (ended (meshOf P) s)) 6 _ (omega arith) (c .1) in
-    let f = chain (not (any (isCut (meshOf (withLine P s))) (liveOf P))) 7 0 (omega arith) (d .1) in
+    let a = chain _ 3 _ (omega arith) e in
+    let b = chain _ 4 _ (omega arith) (a .1) in
+    let c = chain _ 5 _ (omega arith) (b .1) in
+    let d = chain _ 6 _ (omega arith) (c .1) in
+    let f = chain _ 7 0 (omega arith) (d .1) in
     record {
       fits = not-false _ (a .0);
       room = leb-false 60 (length (P .splits)) (b .0);
@@ -62,8 +62,8 @@ pub record Candidate (P : Layout) (c : Split) : Type 0 where
 pub candidate-says : (P : Layout) (c : Split) → candidate P c ≡ true → Candidate P c
 unfolding candidate
 candidate-says P c e =
-    let a = and-both (ended (meshOf P) c && not (shares (meshOf P) c)) (soundWith P c) e in
-    let f = and-both (ended (meshOf P) c) (not (shares (meshOf P) c)) (a .0) in
+    let a = and-both _ _ e in
+    let f = and-both _ _ (a .0) in
     record { ends = f .0; apart = not-true _ (f .1); is-sound = a .1 }
 
 -- a line in range keeps to its ranges with other ends within the side that it runs along
@@ -85,11 +85,4 @@ reaching-fits P s from n e lo hi =
 
 -- the ends of a split in range
 pub ends-in : (P : Layout) (s : Split) → inRange (P .w) (P .h) s ≡ true → (s .from < s .to) × (s .to ≤ run P s)
-unfolding inRange
-ends-in P s e =
-    ⊎-elim (λ q. let r = in-range-says (P .w) (P .h) upright s e (eqb-true _ _ q) in rw q (r .1, r .2))
-    (λ q. let r = in-range-says (P .w) (P .h) level s e (is-level q) in rw q (r .1, r .2))
-    (either (eqb (s .direction) 0))
-  where
-    is-level : eqb (s .direction) 0 ≡ false → s .direction ≡ 1
-    is-level q = eqb-true _ _ (and-both (eqb (s .direction) 1) (fits (P .h) (P .w) s) (rw q at e) .0)
+ends-in P s e = let r = ranged (P .w) (P .h) s e .range in (omega arith, omega arith)

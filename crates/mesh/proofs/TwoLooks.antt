@@ -2,16 +2,15 @@
 use Prim.Native.Nat.{ℕ, _+_, _-_, _≤_, _<_}
 use native.Mathlib.Omega.{arith}
 use mathlib.Core.Path.{_≡_, refl, sym, ap, subst, _∙_}
-use mathlib.Core.Logic.{_⊎_, ⊎-elim}
+use mathlib.Core.Logic.{⊎-elim}
 use mathlib.Core.Bool.{Bool, true, false, cond, _&&_, not}
 use mathlib.Core.List.{[], _∷_, List·Memᴰ}
-use lib.Dec.{leb}
-use borrow.Author.Tests.{eq-eqb, leb-true, leb-false}
-use Rattle.axis.specs.Range.{any, some}
+use borrow.Author.Tests.{eq-eqb}
+use Rattle.axis.specs.Range.{any}
 use Rattle.axis.specs.Triple.{Side, lower, upper}
-use Rattle.axis.proofs.Tests.{either, true-not-false, false-of, and-both, and-of, same-test, some-fails, fails-some}
+use Rattle.axis.proofs.Tests.{true-not-false, false-of, and-both, and-of, same-test, some-fails, fails-some}
+use Rattle.axis.proofs.Runs.{if-at-most}
 use Rattle.axis.proofs.Nearest.{below-last, above-first}
-use Rattle.axis.proofs.Sides.{from, to}
 use Rattle.mesh.specs.Lines.{Direction, other, direction, Layout, meshOf, inRange, shares, ended, onLine}
 use Rattle.mesh.specs.Blends.{isCut}
 use Rattle.mesh.specs.Splits.{liveOf, withLine, soundWith, given, exactNumber, run, Contains, candidate, chosen}
@@ -37,7 +36,7 @@ module _ (P : Layout) (b : Built P) (s : Split) (fits : inRange (P .w) (P .h) s 
 
   free : (k : ℕ) → s .from + 1 ≤ k → k < s .to + 1 → meshOf P d z k ≡ false
   unfolding shares
-  free k lo hi = let g = r .range in some-fails (s .from + 1) (s .to - s .from) (meshOf P d z) apart k lo (omega arith)
+  free k lo hi = some-fails (s .from + 1) (s .to - s .from) (meshOf P d z) apart k lo (omega arith)
 
   both-good : goodEnds P s ≡ true → (e : Side) → goodEnd P d z e (endOf e s) ≡ true
   unfolding goodEnds
@@ -84,10 +83,9 @@ module _ (P : Layout) (b : Built P) (s : Split) (fits : inRange (P .w) (P .h) s 
   high-end : (s .to ≤ line .to) × (line .to ≤ run P s) × (ends upper (line .to + 1) ≡ true) × ((k : ℕ) → s .to ≤ k → k < line .to → ends upper (k + 1) ≡ false)
   high-end =
       let in-side = ends-in P s fits in
-      let last : run P s + 1 - 1 + 1 ≡ run P s + 1 = omega arith in
       let f = above-first (λ k. ends upper (k + 1)) (run P s + 1) (run P s + 1 - s .to) (omega arith) (omega arith)
-      (subst (λ (k : ℕ). ends upper k ≡ true) (sym last) (gaps upper (run P s + 1) (gap-edge P way at upper (run P s + 1) refl))) in
-      (omega (arith, f .0), omega (arith, f .1), f .2, λ k lo hi. f .3 k (omega arith) hi)
+      (subst (λ (k : ℕ). ends upper k ≡ true) (omega arith) (gaps upper (run P s + 1) (gap-edge P way at upper (run P s + 1) refl))) in
+      (omega arith, omega arith, f .2, λ k lo hi. f .3 k (omega arith) hi)
 
   pub contains : Contains P s line
   contains = record { same-way = refl; same-place = refl; begins = low-end .0; ends = high-end .0; within = high-end .1 }
@@ -98,19 +96,12 @@ module _ (P : Layout) (b : Built P) (s : Split) (fits : inRange (P .w) (P .h) s 
     where
       refute : meshOf P way at k ≡ true → ⊥
       refute on =
-          ⊎-elim
-          (λ e. let le = leb-true k (s .from) e in
-          let step : k + 1 - 1 ≡ k = omega arith in
-          true-not-false _ (gaps lower (k + 1) (gap-line P way at lower (k + 1) (subst (λ (n : ℕ). meshOf P way at n ≡ true) (sym step) on)))
+          if-at-most k (s .from)
+          (λ le. true-not-false _ (gaps lower (k + 1) (gap-line P way at lower (k + 1) (subst (λ (n : ℕ). meshOf P way at n ≡ true) (omega arith) on)))
           (low-end .2 k (omega arith) le))
-          (λ e. let gt = leb-false k (s .from) e in
-          ⊎-elim (λ f. let lt = leb-true k (s .to) f in true-not-false _ on (free P b s fits apart k (omega arith) (omega arith)))
-          (λ f. let past = leb-false k (s .to) f in
-          let step : k - 1 + 1 ≡ k = omega arith in
-          true-not-false _ (subst (λ (n : ℕ). ends upper n ≡ true) (sym step) (gaps upper k (gap-line P way at upper k on)))
-          (high-end .3 (k - 1) (omega arith) (omega arith)))
-          (either (leb k (s .to))))
-          (either (leb k (s .from)))
+          (λ gt. if-at-most k (s .to) (λ le. true-not-false _ on (free P b s fits apart k (omega arith) (omega arith)))
+          (λ past. true-not-false _ (subst (λ (n : ℕ). ends upper n ≡ true) (omega arith) (gaps upper k (gap-line P way at upper k on)))
+          (high-end .3 (k - 1) (omega arith) (omega arith))))
 
   pub shares-none : shares (meshOf P) line ≡ false
   unfolding shares
@@ -162,36 +153,26 @@ module _ (P : Layout) (b : Built P) (s : Split) (e : given P s ≡ 0) where
   in-whole-gap : (c : Split) → Contains P s c → candidate P c ≡ true → Contains P c (gap P s)
   unfolding gap shares
   in-whole-gap c i t =
-      let f = candidate-says P c t in
       let low = low-end P b s (g .fits) (g .apart) gaps (λ k n t. t) in
       let high = high-end P b s (g .fits) (g .apart) gaps (λ k n t. t) in
-      let begins = i .begins in
-      let reaches = i .ends in
-      let within = i .within in
       let in-side = ends-in P s (g .fits) in
       let rows : (k : ℕ) → c .from + 1 ≤ k → k < c .to + 1 → meshOf P (direction (s .direction)) (s .position + 1) k ≡ false =
-      λ k lo hi. some-fails (c .from + 1) (c .to - c .from) _ (rw (i .same-way, i .same-place) at (f .apart)) k lo (omega arith) in
+      λ k lo hi. some-fails (c .from + 1) (c .to - c .from) _ (rw (i .same-way, i .same-place) at (candidate-says P c t .apart)) k lo (omega arith) in
       record {
         same-way = sym (i .same-way);
         same-place = sym (i .same-place);
-        begins = ⊎-elim (λ q. leb-true _ _ q)
-            (λ q. let gt = leb-false (between gaps P s .from) (c .from) q in
-            absurd (⊎-elim (λ one. omega arith) (λ on. true-not-false _ on (rows _ (omega arith) (omega (arith, low .0))))
-            (gap-either P (direction (s .direction)) (s .position + 1) lower (between gaps P s .from + 1) (low .1))))
-            (either (leb (between gaps P s .from) (c .from)));
-        ends = ⊎-elim (λ q. leb-true _ _ q)
-            (λ q. let gt = leb-false (c .to) (between gaps P s .to) q in
-            absurd (⊎-elim (λ last. omega (arith, high .1)) (λ on. true-not-false _ on (rows _ (omega (arith, high .0)) (omega arith)))
-            (gap-either P (direction (s .direction)) (s .position + 1) upper (between gaps P s .to + 1) (high .2))))
-            (either (leb (c .to) (between gaps P s .to)));
+        begins = if-at-most (between gaps P s .from) (c .from) (λ le. le)
+            (λ gt. absurd (⊎-elim (λ one. omega arith) (λ on. true-not-false _ on (rows _ (omega arith) (omega arith)))
+            (gap-either P (direction (s .direction)) (s .position + 1) lower (between gaps P s .from + 1) (low .1))));
+        ends = if-at-most (c .to) (between gaps P s .to) (λ le. le)
+            (λ gt. absurd (⊎-elim (λ last. omega arith) (λ on. true-not-false _ on (rows _ (omega arith) (omega arith)))
+            (gap-either P (direction (s .direction)) (s .position + 1) upper (between gaps P s .to + 1) (high .2))));
         within = rw (i .same-way) (high .1);
       }
 
   gap-candidate : (c : Split) → Contains P s c → Contains P c (gap P s) → goodEnds P c ≡ true → candidate P c ≡ true
   unfolding gap shares
   gap-candidate c i o t =
-      let begins = o .begins in
-      let reaches = o .ends in
       good-candidate P b c (contains-fits P s c (g .fits) i)
       (rw (i .same-way, i .same-place)
       (fails-some (c .from + 1) (c .to - c .from) _ (λ k lo hi. in-gap P b s (g .fits) (g .apart) gaps (λ k n t. t) k (omega arith) (omega arith)))) t
@@ -212,25 +193,20 @@ module _ (P : Layout) (b : Built P) (s : Split) (e : given P s ≡ 0) where
   nearest-in c i t =
       let good = candidate-good c i t in
       let f : (good-ends lower (c .from + 1) && good-ends upper (c .to + 1)) ≡ true = rw (i .same-way, i .same-place) at good in
-      let a = and-both (good-ends lower (c .from + 1)) (good-ends upper (c .to + 1)) f in
+      let a = and-both _ _ f in
       let low = low-end P b s (g .fits) (g .apart) good-ends all-gaps in
       let high = high-end P b s (g .fits) (g .apart) good-ends all-gaps in
       record {
         same-way = i .same-way;
         same-place = i .same-place;
-        begins = ⊎-elim (λ q. leb-true _ _ q)
-            (λ q. absurd (true-not-false _ (a .0) (low .2 (c .from) (leb-false _ _ q) (i .begins))))
-            (either (leb (c .from) (between good-ends P s .from)));
-        ends = ⊎-elim (λ q. leb-true _ _ q)
-            (λ q. absurd (true-not-false _ (a .1) (high .3 (c .to) (i .ends) (leb-false _ _ q))))
-            (either (leb (between good-ends P s .to) (c .to)));
+        begins = if-at-most _ _ (λ le. le) (λ gt. absurd (true-not-false _ (a .0) (low .2 (c .from) gt (i .begins))));
+        ends = if-at-most _ _ (λ le. le) (λ gt. absurd (true-not-false _ (a .1) (high .3 (c .to) (i .ends) gt)));
         within = i .within;
       }
 
   taken-is : chosen P s ≡ nearestGood P s ∷ []
   taken-is =
-      let in-side = ends-in P s (g .fits) in
-      let least = chosen-least P s (omega arith) in
+      let least = chosen-least P s (omega (arith, ends-in P s (g .fits))) in
       let f = least .some (nearestGood P s) nearest-contains nearest-candidate in
       f .1 ∙ ap (λ (c : Split). c ∷ []) (sym (same (f .0) (f .1)))
     where
@@ -241,13 +217,8 @@ module _ (P : Layout) (b : Built P) (s : Split) (e : given P s ≡ 0) where
           let there : List·Memᴰ c (chosen P s) = subst (List·Memᴰ c) (sym q) (List·Memᴰ.List·Memᴰ·head refl) in
           let t = least .taken c there in
           let i = nearest-in c (t .0) (t .1) in
-          let begins = i .begins in
-          let ends = i .ends in
-          ⊎-elim (λ e. e)
-          (λ p. let own = nearest-contains in
-          let lo = own .begins in
-          let hi = own .ends in
-          absurd (⊎-elim (λ short. omega arith) (λ low. let len = low .0 in let start = low .1 in omega arith) p))
+          let own = nearest-contains in
+          ⊎-elim (λ e. e) (λ p. absurd (⊎-elim (λ short. omega arith) (λ low. omega arith) p))
           (least .first (nearestGood P s) c there nearest-contains nearest-candidate)
 
   pub two-looks : TwoLooks P s
