@@ -210,12 +210,3 @@ in-mirror s upper k t r on i = (omega arith, omega arith)
 pub mirror-in : (s : ℕ) (y : Side) (k : ℕ) (t : Triple) → RisesIn s t → OnSide s k → StepIn y k (mirror s t) → StepIn (opposite y) (s + 1 - k) t
 mirror-in s lower k t r on i = (omega arith, omega arith)
 mirror-in s upper k t r on i = (omega arith, omega arith)
-
-pub same-back : (s m a : ℕ) → m ≤ s → a ≤ s → s - m ≡ s - a → m ≡ a
-same-back s m a hm ha e = omega arith
-
-pub other-end : (s m a : ℕ) → m ≤ s → s - m ≡ a → m ≡ s - a
-other-end s m a hm e = omega arith
-
-pub back-flip : (h a n r : ℕ) → a ≤ n → n < h + 2 - r → (r ≤ h + 1 - n) × (h + 1 - n < h + 2 - a) × (h + 1 - (h + 1 - n) ≡ n)
-back-flip h a n r lo hi = (omega arith, omega arith, omega arith)
