@@ -140,7 +140,7 @@ module _ (P : Layout) (b : Built P) where
           (λ ne. if-at-most z (side d (P .w) (P .h)) (λ le. b .tight d z k (omega arith, le) (lk, omega arith) on)
           (λ gt. at-edge lower (omega arith, omega arith) (λ B m i. omega (arith, known .x .rises B m))))
 
--- A line inside the domain runs out exactly where it reaches the domain's edge.
+-- all splits of a layout are in range
 abbrev Ranges : Layout → Type 0
 Ranges P = all (inRange (P .w) (P .h)) (P .splits) ≡ true
 
@@ -184,7 +184,7 @@ module _ (P R : Layout) (b : Built P) (c : Built R) (ok : Ranges P) (fine : Rang
       lines-are-grids R c d z k lz (omega (arith, sides d)) lk (omega (arith, sides (other d))) ∙ ap (any (onGrid d z k)) same ∙
       sym (lines-are-grids P b d z k lz hz lk hk) ∙ on
 
-  -- past its edge, by the step beside it
+  -- past its edge, by the step beside it: a line runs out exactly where it reaches the edge
   module _ (d : Direction) (z : ℕ) (inner : (1 < z) × (z ≤ side d (P .w) (P .h))) where
     not-fresh : AtFresh (side d (R .w) (R .h)) z → ⊥
     not-fresh at = let e = sides d in ⊎-elim (λ q. omega arith) (⊎-elim (λ q. omega arith) (⊎-elim (λ q. omega arith) (λ q. omega arith))) at

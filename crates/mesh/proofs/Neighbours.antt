@@ -1,5 +1,5 @@
--- Blends over one column of a sound map, in one part of their triples: one that lies below the next starts where that one's neighbour has its
--- anchor. And how an upright ends: on two blends abreast of it.
+-- Two live blends over one square of a sound map, in one part across, one with its anchor below the square and one above it: the upper one starts at the
+-- lower one's anchor, and the lower one ends at the upper one's. And how an upright ends: with two blends abreast of it.
 use Prim.Native.Nat.{ℕ, _+_, _-_, _≤_, _<_}
 use native.Mathlib.Omega.{arith}
 use mathlib.Core.Path.{_≡_, sym, ap, subst}
@@ -58,7 +58,7 @@ neighbours Q s {x} {j} {k} hj hk {A} {C} a c =
     let rc = s .y .rises C (c .live) in
     (start-is-anchor Q s x j k hj hk A C a c, omega arith)
 
--- an anchor between a blend's start and end has the blend's grid on both sides of it
+-- the upright and the level through a blend's anchor lie on lines, over its support
 pub grid-at : (Q : View) (s : SoundView Q) (B : Blend) → Live Q B → {z k : ℕ} → Q .across B .m ≡ z → Q .up B .l ≤ k → k < Q .up B .r → Q .uprights z k ≡ true
 grid-at Q s B m {z} {k} e lo hi = subst (λ (i : ℕ). Q .uprights i k ≡ true) e (s .x .grid B m k lo hi .m)
 
