@@ -192,8 +192,5 @@ module _ (Q : View) (t : TightView Q) where
             );
       }
 
-pub swap-sound : (Q : View) → SoundView Q → SoundView (swap Q)
-swap-sound Q s = turn-sound (flip (turn Q)) (flip-sound (turn Q) (turn-sound Q s))
-
 pub swap-tight : (Q : View) → TightView Q → TightView (swap Q)
 swap-tight Q t = turn-tight (flip (turn Q)) (flip-tight (turn Q) (turn-tight Q t))
