@@ -4,7 +4,7 @@ use native.Mathlib.Omega.{arith}
 use native.Mathlib.Numerals.{add-one}
 use mathlib.Core.Path.{_≡_, refl, sym, ap, ap₂, _∙_}
 use mathlib.Core.Logic.{_⊎_, inl, inr, ⊎-elim}
-use mathlib.Core.List.{List, [], _∷_, _++_, map, append-assoc, append-nil, List·Memᴰ, List·Memᴰ·cases-cons, List·Memᴰ·not-nil}
+use mathlib.Core.List.{List, [], _∷_, _++_, map, map-append, append-assoc, append-nil, List·Memᴰ, List·Memᴰ·cases-cons, List·Memᴰ·not-nil}
 use mathlib.Core.List.List·Memᴰ.{List·Memᴰ·head, List·Memᴰ·tail}
 use lib.ListN.{length, getD, set, take}
 use lib.Seq.{take-suc}
@@ -19,6 +19,11 @@ module _ {ℓ κ} {A : Type ℓ} {B : Type κ} where
   map-mem f [] y m = absurd (List·Memᴰ·not-nil m)
   map-mem f (x ∷ xs) y m =
       ⊎-elim (λ q. (x, List·Memᴰ·head refl, q)) (λ k. let r = map-mem f xs y k in (r .0, List·Memᴰ·tail (r .1), r .2)) (List·Memᴰ·cases-cons m)
+
+-- a function of the entries of joined lists
+pub map-each {ℓ κ} : {A : Type ℓ} {B : Type κ} (f : A → B) (from n : ℕ) (g : ℕ → List A) → map f (each from n g) ≡ each from n (λ k. map f (g k))
+map-each f from zero g = refl
+map-each f from (suc n) g = map-append f (g from) (each (from + 1) n g) ∙ ap (λ (zs : List _). map f (g from) ++ zs) (map-each f (from + 1) n g)
 
 -- Lists by place: what stands at a place is in the list,
 pub entry {ℓ} : {A : Type ℓ} (xs : List A) (i : ℕ) (d : A) → i < length xs → List·Memᴰ (getD xs i d) xs

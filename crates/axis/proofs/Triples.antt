@@ -5,11 +5,12 @@ use native.Mathlib.Omega.{arith}
 use mathlib.Core.Path.{_≡_, refl, sym, subst}
 use mathlib.Core.Logic.{_⊎_, inl, inr, ⊎-elim}
 use mathlib.Core.Bool.{true, false, _&&_, not}
-use borrow.Author.Tests.{ltb-true, ltb-false, leb-true, leb-false, eqb-true, eqb-false, not-true, lt-ltb, le-leb, eq-eqb, ne-eqb}
+use borrow.Author.Tests.{ltb-true, ltb-false, leb-true, eqb-true, eqb-false, not-true, lt-ltb, le-leb, eq-eqb, ne-eqb}
 use lib.Dec.{leb, ltb, eqb}
 use Rattle.axis.specs.Triple.{triple, Side, lower, upper, half, inside, between, spans, rising, low, high, sameTriple, RisesIn}
 use Rattle.axis.specs.declared.Triple.{Triple}
-use Rattle.axis.proofs.Tests.{either, and-both, and-of, and-fails, within-of}
+use Rattle.axis.proofs.Runs.{if-at-most}
+use Rattle.axis.proofs.Tests.{and-both, and-of, and-fails, within-of}
 
 -- the numbers rise
 pub record Rise (t : Triple) : Type 0 where
@@ -115,7 +116,7 @@ half-above t z h =
 
 -- two positions, one way round or the other
 either-way : (a b : ℕ) → (a ≤ b) ⊎ (b ≤ a)
-either-way a b = ⊎-elim (λ e. inl (leb-true a b e)) (λ e. inr (let h = leb-false a b e in omega arith)) (either (leb a b))
+either-way a b = if-at-most a b inl (λ h. inr (omega arith))
 
 -- one of the halves keeps the middle
 pub keeps-middle : (z : ℕ) (t : Triple) → (s : Side) × (half s z t .m ≡ t .m)

@@ -7,7 +7,7 @@ use Rattle.axis.specs.Triple.{Side, lower, upper}
 use Rattle.axis.proofs.Parts.{OnSide}
 use Rattle.axis.proofs.Runs.{if-at-most, if-below, if-equal}
 use Rattle.mesh.specs.declared.Blend.{Blend}
-use Rattle.mesh.proofs.View.{View, turn, flip, Live, Over, Knot, SoundView, TightView, turn-sound, turn-tight, flip-tight}
+use Rattle.mesh.proofs.View.{View, turn, flip, Live, Over, Knot, SoundView, TightView, turned, turn-sound, turn-tight, flip-tight}
 use Rattle.mesh.proofs.Neighbours.{neighbours, grid-at, level-at}
 
 -- an upright and a level pass through a point of the domain; and a live blend has its anchor there
@@ -133,13 +133,13 @@ module _ (Q : View) (t : TightView Q) (z v : ℕ) (i : Inner Q z v) (c : Crossin
           (record { blend = k .blend; live = k .live; column = (omega arith, omega arith); at = k .at }))))
 
       -- seen on its side
-      turned : (k : Knot Q lower z v) → z ≤ Q .across (k .blend) .l → Anchor Q z v
-      turned k le =
+      sideways : (k : Knot Q lower z v) → z ≤ Q .across (k .blend) .l → Anchor Q z v
+      sideways k le =
           let r = s .some upper upper z v (omega arith, omega arith) (omega arith, omega arith) in
           let o = r .1 in
           let rise = s .y .rises (k .blend) (k .live) in
           let n = neighbours (turn Q) (turn-sound Q s) {x = upper} {j = v} {k = z} (omega arith, omega arith) (omega arith, omega arith)
-          (record { live = o .live; column = o .row; row = o .column })
+          (turned Q o)
           (record { live = k .live; column = (omega arith, omega arith); row = k .column }) in
           turn-anchor
           (beside-crossing (turn Q) (turn-tight Q t) v z (i .2, i .3, i .0, i .1) (turn-crossing c)
@@ -147,7 +147,7 @@ module _ (Q : View) (t : TightView Q) (z v : ℕ) (i : Inner Q z v) (c : Crossin
 
       by : (x : Side) → Knot Q x z v → Anchor Q z v
       by upper k = beside-crossing Q t z v i c k
-      by lower k = if-below (Q .across (k .blend) .l) z (swapped k) (turned k)
+      by lower k = if-below (Q .across (k .blend) .l) z (swapped k) (sideways k)
 
 -- One on the left edge:
 module _ (Q : View) (t : TightView Q) (v : ℕ) (i : (1 < v) × (v ≤ Q .h)) (c : Crossing Q 1 v) where
@@ -170,7 +170,7 @@ module _ (Q : View) (t : TightView Q) (v : ℕ) (i : (1 < v) × (v ≤ Q .h)) (c
           let rk = s .y .rises (k .blend) (k .live) in
           let rx = s .x .rises (k .blend) (k .live) in
           let n = neighbours (turn Q) (turn-sound Q s) {x = upper} {j = v} {k = 1} (omega arith, omega arith) (omega arith, omega arith)
-          (record { live = o .live; column = o .row; row = o .column })
+          (turned Q o)
           (record { live = k .live; column = (omega arith, omega arith); row = k .column }) in
           if-equal (Q .up Z .m) v (λ at. record { blend = Z; live = o .live; across = omega arith; up = at })
           (λ off. absurd (s .y .clear Z (o .live) v (record { lo = omega arith; hi = omega arith; off = λ same. off (sym same) })

@@ -20,7 +20,7 @@ use Rattle.axis.proofs.Tests.{either, within, within-at, and-both, and-of, and-
 use Rattle.axis.proofs.Scale.{sum, sum-zero, sum-multiple, sum-linear}
 use Rattle.axis.proofs.Counts.{ones, both-ones, only-first}
 use Rattle.axis.proofs.Parts.{OnSide}
-use Rattle.mesh.proofs.Quadrants.{four-or-more, four-unnested}
+use Rattle.mesh.proofs.Quadrants.{four-or-more, four-sound}
 
 -- the `n` numbers from `from` on
 abbrev run : ℕ → ℕ → List ℕ
@@ -103,5 +103,5 @@ module _ (w h : ℕ) (hw : 1 ≤ w) (hh : 1 ≤ h) where
   pub by-area : (splits : List Split) → sound w h (live w h (mesh w h splits)) ≡ eqb (areas w h (live w h (mesh w h splits))) (4 * (w * h))
   unfolding sound
   by-area splits =
-      same-test _ _ (λ s. and-both (fourEverywhere w h (live w h (mesh w h splits))) _ s .0) (λ f. and-of _ _ f (four-unnested w h hw hh splits f)) ∙
+      same-test _ _ (λ s. and-both (fourEverywhere w h (live w h (mesh w h splits))) _ s .0) (four-sound w h hw hh splits) ∙
       four-by-area (mesh w h splits)

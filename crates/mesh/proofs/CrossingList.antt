@@ -1,19 +1,20 @@
 -- The anchors of a map that accepted splits build are its crossings, as lists; and its lines are told by its live blends.
-use Prim.Native.Nat.{ℕ, zero, suc, _+_, _≤_, _<_}
+use Prim.Native.Nat.{ℕ, _+_, _≤_, _<_}
 use native.Mathlib.Omega.{arith}
 use mathlib.Core.Path.{_≡_, refl, sym, ap, subst, _∙_}
 use mathlib.Core.Logic.{inl, inr, ⊎-elim}
 use mathlib.Core.Bool.{Bool, true, false, cond, _||_}
-use mathlib.Core.List.{List, [], _∷_, _++_, map, List·Memᴰ, List·Memᴰ·not-nil}
+use mathlib.Core.List.{List, [], _∷_, List·Memᴰ, List·Memᴰ·not-nil}
 use mathlib.Core.List.List·Memᴰ.{List·Memᴰ·head}
 use lib.Dec.{ltb, eqb}
 use lib.ListN.{length}
 use borrow.Author.Tests.{eq-eqb, ltb-true}
-use Rattle.axis.specs.Range.{each, all, any, only}
+use Rattle.axis.specs.Range.{all, any, only}
 use Rattle.axis.specs.Triple.{Side, lower, upper}
 use Rattle.axis.specs.declared.Triple.{Triple}
 use Rattle.axis.proofs.Tests.{true-not-false, and-both, and-of, or-either, or-left, or-right, same-test, all-at, any-at, any-of, only-mem, mem-only, each-same}
 use Rattle.axis.proofs.Runs.{if-at-most, if-equal}
+use Rattle.axis.proofs.Members.{map-each}
 use Rattle.axis.proofs.Counts.{one-at-most}
 use Rattle.axis.proofs.Triples.{Knots, AtFresh}
 use Rattle.axis.proofs.Sides.{KnotOf, StepIn, column}
@@ -28,7 +29,7 @@ use Rattle.mesh.specs.declared.Split.{Split}
 use Rattle.mesh.specs.declared.Blend.{Blend}
 use Rattle.mesh.proofs.TableOrder.{anchored-at, order-mem, mem-order, once-distinct}
 use Rattle.mesh.proofs.SoundMaps.{own-anchors}
-use Rattle.mesh.proofs.Quadrants.{four-unnested}
+use Rattle.mesh.proofs.Quadrants.{four-sound}
 use Rattle.mesh.proofs.Fresh.{fresh-positions, fresh-line}
 use Rattle.mesh.proofs.View.{SoundView}
 use Rattle.mesh.proofs.AnchorsCross.{Crossing, crossing-anchored, anchor-crosses}
@@ -49,14 +50,6 @@ module _ (P : Layout) (m n : ℕ) where
   crosses-of : Crossing (viewOf upright P) m n → crosses (meshOf P) m n ≡ true
   crosses-of c = and-of _ _ (and-of _ _ (c .below) (c .above)) (and-of _ _ (c .left) (c .right))
 
-map-append : {A B : Type 0} (f : A → B) (xs ys : List A) → map f (xs ++ ys) ≡ map f xs ++ map f ys
-map-append f [] ys = refl
-map-append f (x ∷ xs) ys = ap (λ (zs : List _). f x ∷ zs) (map-append f xs ys)
-
-map-each : {A B : Type 0} (f : A → B) (from n : ℕ) (g : ℕ → List A) → map f (each from n g) ≡ each from n (λ k. map f (g k))
-map-each f from zero g = refl
-map-each f from (suc n) g = map-append f (g from) (each (from + 1) n g) ∙ ap (λ (zs : List _). map f (g from) ++ zs) (map-each f (from + 1) n g)
-
 -- blends at one point, at most one of them, and none or some by a test
 at-point : (m n : ℕ) (ys : List Blend) (b : Bool) → ((B : Blend) → List·Memᴰ B ys → (B .across .m ≡ m) × (B .up .m ≡ n)) → length ys ≤ 1 →
     (b ≡ true → (B : Blend) × List·Memᴰ B ys) → (b ≡ false → (B : Blend) → List·Memᴰ B ys → ⊥) → anchors ys ≡ cond b (point m n ∷ []) []
@@ -70,8 +63,7 @@ at-point m n (B ∷ C ∷ ys) b here few some none = absurd (omega arith)
 
 module _ (P : Layout) (b : Built P) where
   is-sound : sound (P .w) (P .h) (liveOf P) ≡ true
-  unfolding sound
-  is-sound = and-of _ _ (b .four) (four-unnested (P .w) (P .h) (b .wide) (b .high) (P .splits) (b .four))
+  is-sound = four-sound (P .w) (P .h) (b .wide) (b .high) (P .splits) (b .four)
 
   -- The anchors in table order are the crossings in the same order.
   pub anchors-are-crossings : anchors (liveOf P) ≡ crossings (P .w) (P .h) (meshOf P)

@@ -11,7 +11,7 @@ use Rattle.axis.proofs.Runs.{if-at-most, if-below, if-equal}
 use Rattle.axis.proofs.Triples.{rise-of}
 use Rattle.axis.proofs.Sides.{StepIn, KnotIn, opposite, from, to, knot-step, past-start, knots-from, part-within, inside-of, mirror, in-mirror}
 use Rattle.mesh.specs.declared.Blend.{Blend}
-use Rattle.mesh.proofs.View.{View, turn, flip, swap, Live, Over, SoundView, TightView, turn-sound, flip-tight, swap-tight, flipped, on-mirror}
+use Rattle.mesh.proofs.View.{View, turn, flip, swap, Live, Over, SoundView, TightView, turned, turn-sound, flip-tight, swap-tight, flipped, on-mirror}
 use Rattle.mesh.proofs.Neighbours.{neighbours, level-at, Abreast, Ended, line-ends, outward, flip-abreast}
 
 module _ (Q : View) (t : TightView Q) where
@@ -35,7 +35,7 @@ module _ (Q : View) (t : TightView Q) where
   left-right : (y : Side) (j k : ℕ) (B C : Blend) → OnSide (Q .w) j → OnSide (Q .h) k → Over Q upper y j k B → Over Q lower y j k C → Agree upper lower B C
   left-right y j k B C hj hk p q =
       let n = neighbours (turn Q) (turn-sound Q s) {x = y} {j = k} {k = j} hk hj
-      (record { live = p .live; column = p .row; row = p .column }) (record { live = q .live; column = q .row; row = q .column }) in
+      (turned Q p) (turned Q q) in
       (sym (n .0), n .1)
 
   over-one : (x u y : Side) (j k : ℕ) (B C : Blend) → OnSide (Q .w) j → OnSide (Q .h) k → Over Q x y j k B → Over Q u y j k C → Agree x u B C

@@ -23,13 +23,13 @@ use Rattle.mesh.specs.declared.Blend.{Blend}
 use Rattle.mesh.proofs.Cuts.{RiseB, cut-fact, halve-rises, crossed-rises}
 use Rattle.mesh.proofs.Order.{some-half, left-uncut}
 use Rattle.mesh.proofs.Fresh.{fresh-line}
-use Rattle.mesh.proofs.Quadrants.{four-unnested}
+use Rattle.mesh.proofs.Quadrants.{four-sound}
 use Rattle.mesh.proofs.View.{View}
 use Rattle.mesh.proofs.Neighbours.{Abreast, line-ends, inward, outward}
 use Rattle.mesh.proofs.Filling.{Good, edge, line, blends, edgeOf, Drawn}
 use Rattle.mesh.proofs.OneLineMore.{Ranged, Row, endOf, more-finer, step-drawn, step-either}
-use Rattle.mesh.proofs.TightMaps.{Built, viewOf, tight-view, still-built, abreast-level, twice}
-use Rattle.mesh.proofs.SoundLines.{cut-either, halve-same, halve-cross, from-before, unless-cut, rise-of, line-four}
+use Rattle.mesh.proofs.TightMaps.{Built, viewOf, tight-view, still-built, abreast-level, twice, live-rises}
+use Rattle.mesh.proofs.SoundLines.{cut-either, halve-same, halve-cross, from-before, unless-cut, line-four}
 
 module _ (P : Layout) (d : Direction) (z : ℕ) (e : Side) (k : ℕ) where
   abbrev Q : View
@@ -168,10 +168,9 @@ module _ (P : Layout) (b : Built P) (s : Split) (d : Direction) (r : Ranged (P .
 
   -- Good ends leave a sound map,
   pub good-sound : ((e : Side) → goodEnd P d z e (endOf e s) ≡ true) → soundWith P s ≡ true
-  unfolding sound
   good-sound good =
-      let four = line-four P b s d r (drawn-line (λ e. good-says P d z e (endOf e s) (end-room e) (good e))) in
-      and-of _ _ four (four-unnested (P .w) (P .h) (b .wide) (b .high) (withLine P s .splits) four)
+      four-sound (P .w) (P .h) (b .wide) (b .high) (withLine P s .splits)
+      (line-four P b s d r (drawn-line (λ e. good-says P d z e (endOf e s) (end-room e) (good e))))
 
   -- and lie on crossing lines.
   pub good-on-line : (e : Side) → goodEnd P d z e (endOf e s) ≡ true → onLine (meshOf P) (other d) (endOf e s) z ≡ true
@@ -221,7 +220,7 @@ module _ (P : Layout) (b : Built P) (s : Split) (d : Direction) (r : Ranged (P .
             let f = from-before P b s d r B m in
             ⊎-elim
             (λ c. let g = cut-fact (meshOf (withLine P s)) d z (f .0) c in
-            let rise = rise-of P b s d r (f .0) (f .1) in
+            let rise = live-rises P b (f .0) (f .1) in
             let h = some-half (meshOf (withLine P s)) d z rise g (f .2 .comes) (f .2 .uncut) in
             absurd (comes-clear d z (halve-rises d (h .0) z (f .0) rise (g .inside))
             (subst (Clear z) (sym (halve-same d (h .0) z (f .0) .0)) (half-clear (h .0) z (crossed d (f .0)) (g .inside))) (h .1 .comes) x p))

@@ -14,7 +14,7 @@ use Rattle.axis.specs.Triple.{Side, lower, upper, spans, RisesIn}
 use Rattle.mesh.specs.Lines.{Direction, upright, level, other, side, Mesh, mesh}
 use Rattle.mesh.specs.Blends.{blend, same, cuts, halve, live, firstFour, crossed}
 use Rattle.mesh.specs.Order.{Left}
-use Rattle.mesh.specs.Sound.{overSquare, fourEverywhere, noneNested, nested, ProperIn}
+use Rattle.mesh.specs.Sound.{overSquare, fourEverywhere, noneNested, sound, nested, ProperIn}
 use Rattle.mesh.specs.declared.Split.{Split}
 use Rattle.mesh.specs.declared.Blend.{Blend}
 use Rattle.axis.proofs.Tests.{and-both, and-of, false-of, true-not-false, every-at, all-of}
@@ -144,7 +144,7 @@ module _ (w h : ℕ) (hw : 1 ≤ w) (hh : 1 ≤ h) (splits : List Split) where
       true-not-false (cuts M d z C)
       (cut-test M d z C (record { inside = i; covered = λ k lo hi. fresh-line w h splits d z k (inr (⊎-elim inl (λ e. inr (inl e)) at)) (omega arith) })) (l .2 .uncut d z)
 
-  pub four-unnested : fourEverywhere w h (live w h M) ≡ true → noneNested (live w h M) ≡ true
+  four-unnested : fourEverywhere w h (live w h M) ≡ true → noneNested (live w h M) ≡ true
   unfolding fourEverywhere noneNested
   four-unnested four =
       all-of _ _ (λ B mB. all-of _ _ (λ C mC. ap not (false-of (nested B C) (refute B C mB mC))))
@@ -161,3 +161,8 @@ module _ (w h : ℕ) (hw : 1 ≤ w) (hh : 1 ≤ h) (splits : List Split) where
           let over = eqb-true _ _ (every-at 1 h _ (every-at 1 w _ four (a .1) (a .2 .0) (a .2 .1)) (u .1) (u .2 .0) (u .2 .1)) in
           let is = one-quadrant w h hw hh M (a .1) (u .1) (a .2) (u .2) over (a .0) (u .0) B C mB mC (and-of _ _ (a .3) (u .3)) (and-of _ _ (a .4) (u .4)) in
           true-not-false (same B C) (blend-same B C is) (n .0)
+
+  -- So it is sound.
+  pub four-sound : fourEverywhere w h (live w h M) ≡ true → sound w h (live w h M) ≡ true
+  unfolding sound
+  four-sound four = and-of _ _ four (four-unnested four)

@@ -14,14 +14,14 @@ use Rattle.axis.proofs.Parts.{OnSide, lies, beside}
 use Rattle.axis.proofs.Counts.{one-at-most}
 use Rattle.axis.proofs.Runs.{if-equal, neither}
 use Rattle.axis.proofs.Sides.{KnotIn, opposite, from, to, knot-step, lies-at, step-beside, part-within, knot-between, halves-of, kept, kept-is, kept-in, kept-inside, kept-rises, kept-away, one-part, part-of, inside-of, StepIn}
-use Rattle.mesh.specs.Lines.{Direction, upright, level, other, side, Mesh, Layout, meshOf}
+use Rattle.mesh.specs.Lines.{Direction, number, upright, level, other, side, Mesh, Layout, meshOf}
 use Rattle.mesh.specs.Blends.{crossed, along, cuts, halve, live}
 use Rattle.mesh.specs.Order.{Uncut, Comes, here, cut, Left}
 use Rattle.mesh.specs.Sound.{fourEverywhere}
 use Rattle.mesh.specs.Splits.{liveOf, withLine}
 use Rattle.mesh.specs.declared.Split.{Split}
 use Rattle.mesh.specs.declared.Blend.{Blend}
-use Rattle.mesh.proofs.Cuts.{RiseB, cut-fact, cut-test}
+use Rattle.mesh.proofs.Cuts.{cut-fact, cut-test}
 use Rattle.mesh.proofs.Order.{some-half, left-uncut, finer}
 use Rattle.mesh.proofs.Fresh.{firstFour-rises}
 use Rattle.mesh.proofs.SoundMaps.{live-left, live-distinct}
@@ -113,9 +113,6 @@ module _ (P : Layout) (b : Built P) (s : Split) (d : Direction) (r : Ranged (P .
   known : SoundView Q
   known = t .is-sound
 
-  pub rise-of : (B : Blend) → Live Q B → RiseB B
-  rise-of = live-rises P b
-
   rise-across : (B : Blend) → Live Q B → Rise (crossed d B)
   rise-across B m = let r = known .x .rises B m in omega arith
 
@@ -126,13 +123,9 @@ module _ (P : Layout) (b : Built P) (s : Split) (d : Direction) (r : Ranged (P .
   same-across : (y j : ℕ) → N (other d) y j ≡ true → meshOf P (other d) y j ≡ true
   same-across y j on = ⊎-elim (λ q. q) (λ q. absurd (apart d (q .0))) (step-either P s d r (other d) y j on)
     where
-      number-of : Direction → ℕ
-      number-of upright = 0
-      number-of level = 1
-
       apart : (d : Direction) → other d ≡ d → ⊥
-      apart upright e = let q : _≡_ {A = ℕ} 1 0 = ap number-of e in omega arith
-      apart level e = let q : _≡_ {A = ℕ} 0 1 = ap number-of e in omega arith
+      apart upright e = let q : _≡_ {A = ℕ} 1 0 = ap number e in omega arith
+      apart level e = let q : _≡_ {A = ℕ} 0 1 = ap number e in omega arith
 
   -- a live blend of the map before that the line does not cut is uncut
   pub unless-cut : (X : Blend) → Live Q X → cuts N d z X ≡ false → Uncut N X
@@ -338,7 +331,7 @@ module _ (P : Layout) (b : Built P) (s : Split) (d : Direction) (r : Ranged (P .
       cut-kind : (X : Blend) → Live Q X → Left N X C → cuts N d z X ≡ true → Kind C
       cut-kind X mX l e =
           let f = cut-fact N d z X e in
-          let h = some-half N d z (rise-of X mX) f (l .comes) (l .uncut) in
+          let h = some-half N d z (live-rises P b X mX) f (l .comes) (l .uncut) in
           let g = part-of z (crossed d X) (f .inside) in
           by X mX (g .0) (g .1) (f .covered) (h .0) (h .1)
         where

@@ -23,7 +23,7 @@ use Rattle.mesh.specs.declared.Blend.{Blend}
 use Rattle.mesh.proofs.Cuts.{RiseB, Cut, cut-exactly, cut-fact, cut-test, proper-rises, halve-rises}
 use Rattle.mesh.proofs.SoundMaps.{live-left, live-proper}
 use Rattle.mesh.proofs.Fresh.{fresh-positions, fresh-live, fresh-sound}
-use Rattle.mesh.proofs.View.{View, turn, Knot, SoundView, TightView, turn-sound}
+use Rattle.mesh.proofs.View.{View, turn, Knot, SoundView, TightView, turn-sound, turn-tight}
 use Rattle.mesh.proofs.Neighbours.{Abreast, grid-knot, level-at, inward, outward, line-ends}
 use Rattle.mesh.proofs.Spreading.{Used, Rests, used-along}
 use Rattle.mesh.proofs.MapView.{view, sound-view}
@@ -62,19 +62,17 @@ module _ (P : Layout) (wide : 1 ≤ P .w) (high : 1 ≤ P .h) (four : fourEveryw
   level-knot level v j hv hj g =
       grid-knot (viewOf level P) (soundOf level) (g .0) (g .1) j v hj (omega arith) (g .2 .lo) (g .2 .hi) (g .2 .knot)
 
-pub tight-view : (P : Layout) (b : Built P) (d : Direction) → TightView (viewOf d P)
-tight-view P b upright =
+upright-tight : (P : Layout) (b : Built P) → TightView (viewOf upright P)
+upright-tight P b =
     record {
       is-sound = soundOf P (b .wide) (b .high) (b .four) upright;
       x = λ v j lo hi hj on. level-knot P (b .wide) (b .high) (b .four) upright v j (lo, omega arith) hj (b .tight level v j (lo, omega arith) hj on);
       y = λ v j lo hi hj on. level-knot P (b .wide) (b .high) (b .four) level v j (lo, omega arith) hj (b .tight upright v j (lo, omega arith) hj on);
     }
-tight-view P b level =
-    record {
-      is-sound = soundOf P (b .wide) (b .high) (b .four) level;
-      x = λ v j lo hi hj on. level-knot P (b .wide) (b .high) (b .four) level v j (lo, omega arith) hj (b .tight upright v j (lo, omega arith) hj on);
-      y = λ v j lo hi hj on. level-knot P (b .wide) (b .high) (b .four) upright v j (lo, omega arith) hj (b .tight level v j (lo, omega arith) hj on);
-    }
+
+pub tight-view : (P : Layout) (b : Built P) (d : Direction) → TightView (viewOf d P)
+tight-view P b upright = upright-tight P b
+tight-view P b level = turn-tight (viewOf upright P) (upright-tight P b)
 
 -- two blends abreast of an upright have a level beside it
 pub abreast-level : (P : Layout) (b : Built P) (d : Direction) {e : Side} {z k : ℕ} → Abreast (viewOf d P) e z k → meshOf P (other d) k z ≡ true

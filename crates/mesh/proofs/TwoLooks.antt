@@ -132,7 +132,7 @@ module _ (P : Layout) (b : Built P) (s : Split) (e : given P s ≡ 0) where
   candidate-good : (c : Split) → Contains P s c → candidate P c ≡ true → goodEnds P c ≡ true
   candidate-good c i t =
       let f = candidate-says P c t in
-      sound-ends P b c (contains-fits P s c (g .fits) i) (f .apart) (f .ends) (contains-cuts P (b .wide) (b .high) s c i (g .cut)) (f .is-sound)
+      sound-ends P b c (contains-fits P s c (g .fits) i) (f .apart) (f .ends) (contains-cuts P (b .wide) (b .high) s c (g .fits) i (g .cut)) (f .is-sound)
 
   exact-is : soundWith P s ≡ goodEnds P s
   exact-is =

@@ -84,19 +84,17 @@ pub record TightView (Q : View) : Type 0 where
   pub x : TightLevels Q
   pub y : TightLevels (turn Q)
 
-pub over-turn : (Q : View) (x y : Side) (j k : ℕ) (B : Blend) → Over Q x y j k B → Over (turn Q) y x k j B
-over-turn Q x y j k B o = record { live = o .live; column = o .row; row = o .column }
-
-pub turn-over : (Q : View) (x y : Side) (j k : ℕ) (B : Blend) → Over (turn Q) x y j k B → Over Q y x k j B
-turn-over Q x y j k B o = record { live = o .live; column = o .row; row = o .column }
+-- turned twice, a view is itself
+pub turned : (Q : View) {x y : Side} {j k : ℕ} {B : Blend} → Over Q x y j k B → Over (turn Q) y x k j B
+turned Q o = record { live = o .live; column = o .row; row = o .column }
 
 pub turn-sound : (Q : View) → SoundView Q → SoundView (turn Q)
 turn-sound Q s =
     record {
       x = s .y;
       y = s .x;
-      one = λ x y j k B C hj hk p q. s .one y x k j B C hk hj (turn-over Q x y j k B p) (turn-over Q x y j k C q);
-      some = λ x y j k hj hk. let r = s .some y x k j hk hj in (r .0, over-turn Q y x k j (r .0) (r .1));
+      one = λ x y j k B C hj hk p q. s .one y x k j B C hk hj (turned (turn Q) p) (turned (turn Q) q);
+      some = λ x y j k hj hk. let r = s .some y x k j hk hj in (r .0, turned Q (r .1));
     }
 
 pub turn-tight : (Q : View) → TightView Q → TightView (turn Q)
