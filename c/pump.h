@@ -32,7 +32,7 @@
  * works in place: the map is the first *used of the size bytes at buffer, and an accepted call leaves the new file
  * there and its length in *used; bytes after the file stay as they were. PUMP_LARGEST_FILE bytes hold every map.
  * Save and load them as they are. Each call but pump_payload and pump_fresh reads and checks the whole file; on the
- * largest map that takes some 0.6 ms (docs/BENCHMARKS.md).
+ * largest map that takes some 0.3 ms (docs/BENCHMARKS.md).
  *
  * The file is made of 16-bit numbers, little-endian on every machine, in records: a length (of the bytes after it),
  * a kind, and the payload.
@@ -49,7 +49,7 @@
  * other, since the bytes are read first, then the rest in the order in which each call tells its numbers. After a
  * refusal all lent bytes and *used are as they were, and every other number handed back is 0.
  *
- * Calls allocate nothing. Give a thread that makes them 256 KB of stack: the deepest call was measured at 219 KB
+ * Calls allocate nothing. Give a thread that makes them 256 KB of stack: the deepest call was measured at 214 KB
  * (tests/stack.c). Calls on different bytes may run at the same time, and so may any number of calls that only read
  * the same bytes: those that take a const pointer.
  *

@@ -11,7 +11,7 @@ use Rattle.axis.specs.Fraction.{Equal}
 use Rattle.axis.specs.Triple.{hat, spans, Rises}
 use Rattle.axis.specs.Gap.{corner, gap, share}
 use Rattle.axis.specs.declared.Triple.{Triple}
-use Rattle.axis.proofs.Tests.{either, and-both, and-fails}
+use Rattle.axis.proofs.Tests.{either, and-fails}
 use Rattle.axis.proofs.Triples.{Rise}
 use Rattle.axis.proofs.Hats.{hat-outside}
 
@@ -19,11 +19,6 @@ use Rattle.axis.proofs.Hats.{hat-outside}
 pub record Spans (t : Triple) (x : ℕ) : Type 0 where
   pub from : t .l ≤ x
   pub to : x < t .r
-
-pub spans-facts : (t : Triple) (x : ℕ) → spans x t ≡ true → Spans t x
-spans-facts t x e =
-    let b = and-both (leb (t .l) x) (ltb x (t .r)) e in
-    record { from = leb-true _ _ (b .0); to = ltb-true _ _ (b .1) }
 
 pub not-spans : (t : Triple) (x : ℕ) → spans x t ≡ false → (x < t .l) ⊎ (t .r ≤ x)
 not-spans t x e = ⊎-elim (λ s. inl (leb-false _ _ s)) (λ s. inr (ltb-false _ _ s)) (and-fails (leb (t .l) x) (ltb x (t .r)) e)

@@ -6,7 +6,7 @@ use mathlib.Core.Logic.{_⊎_, inl, inr, ⊎-elim}
 use mathlib.Core.Bool.{Bool, true, false, cond, _&&_, _||_, not, or-assoc}
 use mathlib.Core.List.{List, [], _∷_, _++_, List·Memᴰ, List·Memᴰ·cases-cons, List·Memᴰ·append-cases, Memᴰ·append-left, Memᴰ·append-right, List·Memᴰ·not-nil}
 use lib.Dec.{leb, ltb}
-use borrow.Author.Tests.{ltb-true, leb-true, eqb-true, eqb-false, not-true, not-false, lt-ltb, le-leb}
+use borrow.Author.Tests.{ltb-true, ltb-false, leb-true, eqb-true, eqb-false, not-true, not-false, lt-ltb, le-leb}
 use Rattle.axis.specs.Range.{every, some, each, all, any, only, joined}
 
 -- a test is true or false, with the equation
@@ -153,22 +153,27 @@ pub each-none {ℓ} : {A : Type ℓ} (k n : ℕ) (f : ℕ → List A) → n ≤ 
 each-none k zero f h = refl
 each-none k (suc n) f h = absurd (omega arith)
 
--- numbers in front that give nothing may be passed over
-pub each-skips {ℓ} : {A : Type ℓ} (n j : ℕ) (f : ℕ → List A) → j ≤ n → ((i : ℕ) → i < j → f i ≡ []) → each 0 n f ≡ each j (n - j) f
-each-skips n j f le none =
-    let e : 0 + j ≡ j = omega arith in
-    subst (λ (k : ℕ). each 0 n f ≡ each k (n - j) f) e (from-on 0 n j le (λ i lo hi. none i (omega arith)))
-  where
-    from-on : (k n j : ℕ) → j ≤ n → ((i : ℕ) → k ≤ i → i < k + j → f i ≡ []) → each k n f ≡ each (k + j) (n - j) f
-    from-on k n zero le none = rw (let e : k + 0 ≡ k = omega arith in e, let e : n - 0 ≡ n = omega arith in e)
-    from-on k n (suc j) le none =
-        let e : k + suc j ≡ k + 1 + j = omega arith in
-        let d : n - suc j ≡ n - 1 - j = omega arith in
-        each-turn k n f (omega arith) ∙
-        rw (none k (omega arith) (omega arith), e, d) (from-on (k + 1) (n - 1) j (omega arith) (λ i lo hi. none i (omega arith) (omega arith)))
+-- a run that a loop takes up to an end
+pub each-run {ℓ} : {A : Type ℓ} (k e : ℕ) (f : ℕ → List A) → k < e → each k (e - k) f ≡ f k ++ each (k + 1) (e - (k + 1)) f
+each-run k e f h = let less : e - k - 1 ≡ e - (k + 1) = omega arith in each-turn k (e - k) f (omega arith) ∙ rw less
 
-pub each-empty {ℓ} : {A : Type ℓ} (n : ℕ) (f : ℕ → List A) → ((i : ℕ) → i < n → f i ≡ []) → each 0 n f ≡ []
-each-empty n f none = each-skips n n f (omega arith) none ∙ each-none n (n - n) f (omega arith)
+pub each-nothing {ℓ} : {A : Type ℓ} (k n : ℕ) (f : ℕ → List A) → ((i : ℕ) → k ≤ i → i < k + n → f i ≡ []) → each k n f ≡ []
+each-nothing k zero f none = refl
+each-nothing k (suc n) f none =
+    rw (none k (omega arith) (omega arith), each-nothing (k + 1) n f (λ i lo hi. none i (omega arith) (omega arith)))
+
+-- numbers that give nothing are passed over
+pub each-past {ℓ} : {A : Type ℓ} (a b e : ℕ) (f : ℕ → List A) → a ≤ b → ((i : ℕ) → a ≤ i → i < b → i < e → f i ≡ []) → each a (e - a) f ≡ each b (e - b) f
+each-past a b e f le none = go (b - a) a (omega arith) none
+  where
+    go : (n k : ℕ) → k + n ≡ b → ((i : ℕ) → k ≤ i → i < b → i < e → f i ≡ []) → each k (e - k) f ≡ each b (e - b) f
+    go zero k q none = rw (let same : k ≡ b = omega arith in same)
+    go (suc n) k q none =
+        ⊎-elim
+        (λ t. let lt = ltb-true k e t in each-run k e f lt ∙ rw (none k (omega arith) (omega arith) lt) (go n (k + 1) (omega arith) (λ i lo. none i
+        (omega arith))))
+        (λ t. let ge = ltb-false k e t in each-none k (e - k) f (omega arith) ∙ sym (each-none b (e - b) f (omega arith)))
+        (either (ltb k e))
 
 module _ {ℓ} {A : Type ℓ} where
   pub all-at : (test : A → Bool) (xs : List A) → all test xs ≡ true → (x : A) → List·Memᴰ x xs → test x ≡ true
@@ -262,4 +267,5 @@ module _ {ℓ ℓ′} {A : Type ℓ} {B : Type ℓ′} where
   pub mem-joined : (f : A → List B) (xs : List A) (x : A) (y : B) → List·Memᴰ x xs → List·Memᴰ y (f x) → List·Memᴰ y (joined f xs)
   mem-joined f [] x y h m = absurd (List·Memᴰ·not-nil h)
   mem-joined f (a ∷ xs) x y h m =
-      ⊎-elim (λ q. Memᴰ·append-left _ (subst (λ (i : A). List·Memᴰ y (f i)) q m)) (λ t. Memᴰ·append-right (f a) (mem-joined f xs x y t m)) (List·Memᴰ·cases-cons h)
+      ⊎-elim (λ q. Memᴰ·append-left _ (subst (λ (i : A). List·Memᴰ y (f i)) q m)) (λ t. Memᴰ·append-right (f a) (mem-joined f xs x y t m))
+      (List·Memᴰ·cases-cons h)

@@ -44,10 +44,6 @@ Rises t = RisesIn 128 t
 abbrev pub spans : ℕ → Triple → Bool
 spans x t = leb (t .l) x && ltb x (t .r)
 
--- how many unit steps of the side, from 0 to its far end, lie in l to r
-abbrev pub stepsIn : ℕ → Triple → ℕ
-stepsIn side t = min (t .r) (side + 1) - max (t .l) 1
-
 -- knot z lies strictly between l and r
 abbrev pub between : ℕ → Triple → Bool
 between z t = ltb (t .l) z && ltb z (t .r)

@@ -1,10 +1,8 @@
-// Triples: their halves, whether they rise, and the steps in them.
+// Triples: their halves, and where knots and steps lie in them.
 use crate::Triple;
-use crate::knots::less;
 use crate::knots::wide;
 ghost use mathlib.Core.Path.{_≡_};
-ghost use Prim.Native.Nat.{min, max};
-ghost use Rattle.axis.specs.Triple.{half, lower, upper, rising, sameTriple, spans, stepsIn};
+ghost use Rattle.axis.specs.Triple.{half, lower, upper, sameTriple, spans, knotIn};
 
 pub fn lower_half(z: u8, x: Triple) -> Triple
     ensures { λ r. ⌜ r ≡ half lower z x ⌝ }
@@ -42,19 +40,6 @@ pub fn upper_half(z: u8, x: Triple) -> Triple
     }
 }
 
-// Whether a triple rises within the side.
-pub fn rises(x: Triple, side: usize) -> bool
-    ensures { λ r. ⌜ r ≡ rising side x ⌝ }
-{
-    if x.m <= x.l {
-        return false;
-    }
-    if x.r <= x.m {
-        return false;
-    }
-    less(wide(x.r), 2) <= side
-}
-
 // Whether two triples are the same.
 pub fn same_triple(s: Triple, t: Triple) -> bool
     ensures { λ r. ⌜ r ≡ sameTriple s t ⌝ }
@@ -78,17 +63,21 @@ pub fn spans_at(t: Triple, x: usize) -> bool
     x < wide(t.r)
 }
 
-// How many unit steps of a side lie in a triple.
-pub fn steps_in(side: usize, x: Triple) -> usize
-    ensures { λ r. ⌜ r ≡ stepsIn side x ⌝ }
+// Whether knot z lies strictly inside the upper part of a triple, between its middle and its end; or inside the lower.
+pub fn in_upper(t: Triple, z: usize) -> bool
+    ensures { λ r. ⌜ r ≡ knotIn upper z t ⌝ }
 {
-    let mut from = 1;
-    if 0 < x.l {
-        from = wide(x.l);
+    if z <= wide(t.m) {
+        return false;
     }
-    let mut to = wide(x.r);
-    if side < to {
-        to = side + 1;
+    z < wide(t.r)
+}
+
+pub fn in_lower(t: Triple, z: usize) -> bool
+    ensures { λ r. ⌜ r ≡ knotIn lower z t ⌝ }
+{
+    if z <= wide(t.l) {
+        return false;
     }
-    less(to, from)
+    z < wide(t.m)
 }

@@ -138,7 +138,7 @@ fn ends(lines: Lines, out: &mut [u8], at: &mut usize) {
 }
 
 // A split's number, then its ends and the count of live blends.
-fn split(r: Opened, out: &mut [u8], at: &mut usize) {
+fn told_split(r: Opened, out: &mut [u8], at: &mut usize) {
     told(r.number, out, at);
     if r.number == 0 {
         let map = r.map;
@@ -148,41 +148,31 @@ fn split(r: Opened, out: &mut [u8], at: &mut usize) {
     }
 }
 
-fn exact(map: Opened, line: &[u8], out: &mut [u8], at: &mut usize) -> Opened
+// A line drawn as given, or lengthened. `word` is the length of the call's word.
+fn split(
+    map: Opened,
+    lengthen: bool,
+    line: &[u8],
+    word: usize,
+    out: &mut [u8],
+    at: &mut usize,
+) -> Opened
     requires { ⌜ Opens map ⌝ }
     ensures { λ r. ⌜ Opens r ⌝ }
 {
-    let n = text::numbers(line, 5, 4);
+    let n = text::numbers(line, word, 4);
     if !n.whole {
         no_call(out, at);
         return map;
     }
-    let r = map.exact_split(Split {
+    let s = Split {
         direction: n.a,
         position: n.b,
         from: n.c,
         to: n.d,
-    });
-    split(r, out, at);
-    r
-}
-
-fn lengthen(map: Opened, line: &[u8], out: &mut [u8], at: &mut usize) -> Opened
-    requires { ⌜ Opens map ⌝ }
-    ensures { λ r. ⌜ Opens r ⌝ }
-{
-    let n = text::numbers(line, 8, 4);
-    if !n.whole {
-        no_call(out, at);
-        return map;
-    }
-    let r = map.lengthened_split(Split {
-        direction: n.a,
-        position: n.b,
-        from: n.c,
-        to: n.d,
-    });
-    split(r, out, at);
+    };
+    let r = map.split(s, lengthen);
+    told_split(r, out, at);
     r
 }
 
@@ -250,8 +240,8 @@ pub(crate) fn answer(map: Opened, line: &[u8], out: &mut [u8], at: &mut usize) -
     match call {
         Call::History => return history(map, line, out, at),
         Call::Set => return set(map, line, out, at),
-        Call::Exact => return exact(map, line, out, at),
-        Call::Lengthen => return lengthen(map, line, out, at),
+        Call::Exact => return split(map, false, line, 5, out, at),
+        Call::Lengthen => return split(map, true, line, 8, out, at),
         _ => question(call, map, line, out, at),
     }
     map

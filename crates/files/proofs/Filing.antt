@@ -8,18 +8,18 @@ use mathlib.Core.List.{List}
 use borrow.Author.Tests.{lt-ltb, le-ltb}
 use lib.ListN.{length}
 use Rattle.mesh.specs.declared.Table.{Table}
-use Rattle.mesh.specs.Sound.{proper, blendsOf}
-use Rattle.axis.proofs.Tests.{all-at}
+use Rattle.mesh.specs.Lines.{meshOf}
 use Rattle.mesh.proofs.BlendTables.{proper-largest, table-blends, table-count}
+use Rattle.mesh.proofs.SoundMaps.{live-proper}
 use Rattle.maps.specs.declared.Map.{Map}
 use Rattle.maps.specs.Record.{plain, good}
-use Rattle.maps.proofs.OneSplitMore.{table-proper, splits-length}
-use Rattle.maps.proofs.Changing.{GoodMap, few, live-table, live-count}
+use Rattle.maps.proofs.Changing.{GoodMap, few, live-table, live-blends, live-count}
 use Rattle.files.specs.declared.Written.{Written}
 use Rattle.files.specs.File.{fileOf, put}
 use Rattle.files.specs.Calls.{writeNumber, written, after}
-use Rattle.files.specs.Inner.{WellFormed, filed}
+use Rattle.files.specs.Inner.{WellFormed}
 use Rattle.files.proofs.RoundTrip.{file-length}
+use Rattle.files.proofs.Terms.{filed}
 
 -- an opened map's table is fit for its file
 pub record Ready (m : Map) (t : Table) : Type 0 where
@@ -40,10 +40,10 @@ ready {m} {t} g =
           record {
             few = few g;
             rise = λ B mem. proper-largest (m .lines .w) (m .lines .h) B (f .across .1) (f .up .1)
-                (all-at (proper (m .lines .w) (m .lines .h)) (blendsOf t) (table-proper (g .has-table)) B mem);
+                (live-proper (m .lines .w) (m .lines .h) (f .across .0) (f .up .0) (meshOf (plain m .lines)) B (rw (live-blends g) at mem));
           };
       is-file = rw (live-table g, table-blends, table-count);
-      size = omega (arith, file-length (plain m) (f .holds .counted), splits-length (g .has-table), live-count g);
+      size = omega (arith, file-length (plain m) (f .holds .counted), f .counted-splits, live-count g);
     }
 
 -- what `write` answers and leaves

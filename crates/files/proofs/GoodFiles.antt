@@ -18,7 +18,9 @@ use Rattle.maps.specs.declared.Changed.{Changed}
 use Rattle.maps.specs.Plain.{Plain, blends}
 use Rattle.maps.specs.Record.{recordOf, plain, good}
 use Rattle.maps.specs.Calls.{changed}
-use Rattle.maps.proofs.GoodRecords.{Replays, replays-stands, good-facts}
+use Rattle.maps.proofs.GoodRecords.{good-facts}
+use Rattle.mesh.proofs.Accepted.{replays-stands}
+use Rattle.mesh.specs.Replay.{Replays}
 use Rattle.files.specs.File.{fileOf}
 use Rattle.files.specs.Calls.{readFile}
 use Rattle.files.specs.Accepted.{Held, IsFile, Accepts}

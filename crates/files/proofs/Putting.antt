@@ -79,5 +79,10 @@ module _ {A : Type 0} (entry : A → List ℕ) (size : ℕ) (xs : List A) (befor
               ap (put before at) (sym (joined-more entry xs i d lt));
         }
 
+    -- the same of an entry that is known otherwise
+    pub some-next : (d : A) {x : A} (after : List ℕ) → i < length xs → getD xs i d ≡ x → after ≡ put bytes (at + size * i) (entry x) →
+        Some (i + 1) after
+    some-next d after lt e p = some-more d after lt (rw e p)
+
     pub some-done : length xs ≤ i → bytes ≡ put before at (joined entry xs)
     some-done le = s .is ∙ rw (take-all i xs le)

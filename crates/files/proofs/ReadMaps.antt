@@ -17,7 +17,8 @@ use Rattle.maps.specs.Plain.{Plain, freshPlain}
 use Rattle.maps.specs.Record.{linesOf, recordOf, plain, good}
 use Rattle.maps.specs.Opened.{withTable, Opens}
 use Rattle.maps.specs.Calls.{changed}
-use Rattle.maps.proofs.GoodRecords.{Holds, replays-short, record-good, fresh-holds}
+use Rattle.maps.proofs.GoodRecords.{Holds, record-good, fresh-holds}
+use Rattle.mesh.proofs.Accepted.{replays-short}
 use Rattle.maps.proofs.Changing.{GoodMap, opened-map}
 use Rattle.files.specs.File.{wordAt, splitCount, guessed}
 use Rattle.files.specs.Calls.{readFile}

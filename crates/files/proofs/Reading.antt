@@ -16,7 +16,9 @@ use Rattle.maps.specs.Plain.{Plain, freshPlain, blends}
 use Rattle.maps.specs.Record.{recordOf, plain, good}
 use Rattle.maps.specs.Calls.{changed}
 use Rattle.maps.proofs.Opening.{good-passes}
-use Rattle.maps.proofs.GoodRecords.{Replays, replays-short, layout-replay}
+use Rattle.maps.proofs.GoodRecords.{layout-replay}
+use Rattle.mesh.proofs.Accepted.{replays-short}
+use Rattle.mesh.specs.Replay.{Replays}
 use Rattle.files.specs.declared.Written.{Written}
 use Rattle.files.specs.File.{fileOf, splitCount, guessed}
 use Rattle.files.specs.Calls.{written, after, readFile}

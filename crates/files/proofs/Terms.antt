@@ -13,7 +13,7 @@ use Rattle.axis.specs.Range.{joined}
 use Rattle.maps.specs.declared.Map.{Map}
 use Rattle.maps.specs.Values.{paired}
 use Rattle.axis.proofs.Members.{entry}
-use Rattle.files.specs.Inner.{WellFormed, terms, filed}
+use Rattle.files.specs.Inner.{WellFormed, terms}
 use Rattle.files.specs.File.{put, head, splitEntry, valueEntry, tail}
 use Rattle.files.proofs.Words.{joined-length}
 use Rattle.files.proofs.Putting.{put-then}
@@ -49,6 +49,11 @@ module _ (t : Table) (values : List ℕ) (ok : WellFormed t) (places : length (t
     terms-rise =
         ok .rise (getD (t .blends) i none)
         (rw (getD-take (t .count) (t .blends) i none lt) at (entry (blendsOf t) i none (rw blends-length lt)))
+
+-- the file of a map's record, with its table in hand
+abbrev pub filed : Map → Table → List ℕ
+filed m t =
+    head (m .lines .w) (m .lines .h) ++ joined splitEntry (take (m .lines .count) (m .lines .splits)) ++ joined valueEntry (terms t (m .values)) ++ tail
 
 -- A file, put part by part: its head, the splits, the values and the end.
 module _ (m : Map) (t : Table) (ok : WellFormed t) (places : length (t .blends) ≡ 1024) (full : length (m .values) ≡ 1024)

@@ -8,9 +8,8 @@ use Rattle.mesh.specs.declared.Table.{Table}
 use Rattle.axis.specs.Range.{joined}
 use Rattle.mesh.specs.Sound.{blendsOf, AllProper}
 use Rattle.mesh.specs.Weight.{Term}
-use Rattle.maps.specs.declared.Map.{Map}
 use Rattle.maps.specs.Values.{paired}
-use Rattle.files.specs.File.{entry, put, head, splitEntry, valueEntry, tail}
+use Rattle.files.specs.File.{entry, put}
 use Rattle.files.specs.Listing.{numberLine, line}
 
 -- the entry of a value at an anchor, by its numbers
@@ -25,11 +24,6 @@ pub record WellFormed (t : Table) : Type 0 where
 -- a table's blends with the values that an array begins with
 abbrev pub terms : Table → List ℕ → List Term
 terms t values = paired (blendsOf t) (take (t .count) values)
-
--- the file of a map's record, with its table in hand
-abbrev pub filed : Map → Table → List ℕ
-filed m t =
-    head (m .lines .w) (m .lines .h) ++ joined splitEntry (take (m .lines .count) (m .lines .splits)) ++ joined valueEntry (terms t (m .values)) ++ tail
 
 -- the text of a table with the values that an array begins with
 abbrev pub textFrom : Table → List ℕ → List ℕ

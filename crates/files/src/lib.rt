@@ -4,7 +4,9 @@ pub mod listing;
 mod put;
 mod take;
 
-use crate::put::put_file;
+use crate::bytes::put_words;
+use crate::put::put_split;
+use crate::put::put_value;
 use crate::take::count_splits;
 use crate::take::equal;
 use crate::take::taken;
@@ -52,7 +54,13 @@ pub fn write(map: Map, buffer: &mut [u8]) -> Written
     write_opened(opened, buffer)
 }
 
-// The rest of `write`, after the record is opened.
+fn wide(x: u16) -> usize
+    ensures { λ r. ⌜ r ≡ x ⌝ }
+{
+    x as usize
+}
+
+// The rest of `write`, after the record is opened. It takes `o` apart itself: each array that is passed on by value is copied again.
 pub fn write_opened(o: Opened, buffer: &mut [u8]) -> Written
     requires { ⌜ Opens o ⌝ }
     ensures { λ r. ⌜ (r ≡ written (o .map) (now (buffer .entry))) × (now (buffer .exit) ≡ after (o .map) (now (buffer .entry))) ⌝ }
@@ -64,7 +72,35 @@ pub fn write_opened(o: Opened, buffer: &mut [u8]) -> Written
             length: 0,
         };
     }
-    put_file(buffer, o.map, o.table);
+    // The borrow checker covers an element of a local's field, not of a field of a field.
+    let lines = o.map.lines;
+    let values = o.map.values;
+    let table = o.table;
+    let head = [6, 1, lines.w, lines.h];
+    put_words(buffer, 0, &head);
+    let mut i = 0;
+    while i < lines.count {
+        let split = lines.splits[i];
+        put_split(buffer, HEAD + SPLIT * i, split);
+        i += 1;
+    }
+    let at = HEAD + SPLIT * lines.count;
+    let mut j = 0;
+    while j < table.count {
+        let blend = table.blends[j];
+        let value = wide(values[j]);
+        put_value(
+            buffer,
+            at + VALUE * j,
+            blend.across.m - 1,
+            blend.up.m - 1,
+            value,
+        );
+        j += 1;
+    }
+    let end = at + VALUE * table.count;
+    let last = [2, 4];
+    put_words(buffer, end, &last);
     Written {
         number: 0,
         length: length,

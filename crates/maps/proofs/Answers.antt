@@ -20,7 +20,8 @@ use Rattle.maps.specs.Plain.{Plain, blends}
 use Rattle.maps.specs.Values.{readingAt, inDomain}
 use Rattle.maps.specs.Record.{recordOf}
 use Rattle.maps.specs.Calls.{shape, noShape, tablePlace, reading}
-use Rattle.maps.proofs.GoodRecords.{Holds, replays-sides, record-good}
+use Rattle.maps.proofs.GoodRecords.{Holds, record-good}
+use Rattle.mesh.proofs.Accepted.{replays-sides}
 
 -- a knot, in document 01's coordinates
 knot-from : (n : ℕ) → 1 ≤ n → predℤ (pos n) ≡ pos (n - 1)

@@ -20,7 +20,7 @@ use Rattle.maps.specs.Record.{plain}
 use Rattle.maps.specs.Calls.{shape, noPlace, tablePlace, noReading, readingOn, reading, noWeights, weightOver, weights}
 use Rattle.maps.specs.Pairs.{noPairs, countedPairs, pairsAlong, rowPairs, columnPairs}
 use Rattle.maps.specs.Inner.{AtPoint, alongPairs}
-use Rattle.maps.proofs.AnchorIndex.{old-point}
+use Rattle.maps.proofs.OldTable.{old-point}
 use Rattle.maps.proofs.Walking.{in-walk}
 use Rattle.maps.proofs.Changing.{GoodMap, in-table, passed, live-blends, live-count, live-values, live-blend, live-value}
 

@@ -17,7 +17,8 @@ use Rattle.maps.specs.Values.{drawn}
 use Rattle.maps.specs.Record.{recordOf, plain}
 use Rattle.maps.specs.Histories.{exact, lengthened, number, Outcome, outcome, byLibrary, byMachine}
 use Rattle.maps.specs.Demand.{recorded, ByEnds}
-use Rattle.maps.proofs.GoodRecords.{replays-stands, record-good}
+use Rattle.maps.proofs.GoodRecords.{record-good}
+use Rattle.mesh.proofs.Accepted.{replays-stands}
 use Rattle.maps.proofs.Reached.{Reached, drawn-leads}
 use Rattle.maps.proofs.Following.{step-follows}
 

@@ -30,7 +30,8 @@ use Rattle.maps.specs.ByWeights.{products, ByWeights}
 use Rattle.maps.specs.Inner.{entriesOver}
 use Rattle.maps.proofs.OverSquare.{entries-only, entry-in}
 use Rattle.maps.proofs.Adding.{parts, sum-over}
-use Rattle.maps.proofs.GoodRecords.{Holds, record-good, replays-sides, good-facts}
+use Rattle.maps.proofs.GoodRecords.{Holds, record-good, good-facts}
+use Rattle.mesh.proofs.Accepted.{replays-sides}
 use Rattle.maps.proofs.Answers.{place-listed, point-answers}
 
 -- an entry's blend stands at its place

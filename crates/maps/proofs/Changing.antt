@@ -18,7 +18,7 @@ use Rattle.axis.proofs.Members.{entry}
 use Rattle.axis.proofs.Tests.{all-of, either, cond-true, cond-false}
 use Rattle.mesh.specs.declared.Split.{Split}
 use Rattle.mesh.specs.declared.Table.{Table}
-use Rattle.mesh.specs.Lines.{layoutOf, meshOf}
+use Rattle.mesh.specs.Lines.{meshOf}
 use Rattle.mesh.specs.Sound.{none, proper, table, blendsOf}
 use Rattle.mesh.specs.Splits.{liveOf, withLine, given, exactNumber, chosen}
 use Rattle.mesh.proofs.SoundMaps.{live-proper}
@@ -26,21 +26,23 @@ use Rattle.mesh.proofs.Cuts.{proper-facts}
 use Rattle.mesh.proofs.AtMost.{at-most}
 use Rattle.maps.specs.declared.Map.{Map}
 use Rattle.maps.specs.declared.Changed.{Changed}
-use Rattle.maps.specs.declared.splits.Step.{Step}
+use Rattle.mesh.specs.declared.Step.{Step}
+use Rattle.mesh.specs.Replay.{HasTable, refusedStep, drawnStep, exactStep, firstStep, lengthenedStep}
 use Rattle.maps.specs.declared.opened.Opened.{Opened}
 use Rattle.maps.specs.Plain.{Plain, blends}
 use Rattle.maps.specs.Values.{placeOf, carried, drawn}
 use Rattle.maps.specs.Record.{noSplit, linesOf, recordOf, plain, good}
 use Rattle.maps.specs.Calls.{changed, drawnFirst, setPlain, setValue, exactSplit, lengthenedSplit}
 use Rattle.maps.specs.Opened.{withTable, opened, IsTable, Opens}
-use Rattle.maps.specs.Inner.{withSplit, HasTable, InTable, exactStep, found, lengthenedStep, carriedArray, Drawable, drawnBy}
+use Rattle.maps.specs.Inner.{withSplit, InTable, Grown, carriedArray}
 use Rattle.maps.proofs.Map.{the-type}
 use Rattle.maps.proofs.opened.Opened as opened
 use Rattle.maps.proofs.Readings.{place-found}
 use Rattle.maps.proofs.Opening.{good-table}
 use Rattle.maps.proofs.GoodRecords.{Holds, record-good, GoodFacts, good-facts, set-holds, drawn-holds}
 use Rattle.mesh.proofs.Passing.{exact-says}
-use Rattle.maps.proofs.OneSplitMore.{splits-length, table-few}
+use Rattle.mesh.proofs.OneLineMore.{more-finer}
+use Rattle.maps.proofs.SideBySide.{live-grown}
 use Rattle.mesh.proofs.ChosenLine.{chosen-exact}
 
 -- a list padded to a length: with one entry more, and with one of its entries set
@@ -162,7 +164,7 @@ module _ {m : Map} {t : Table} (g : GoodMap m t) where
   passed = ap not (g .is-good)
 
   pub few : t .count ≤ 1024
-  few = table-few (g .has-table)
+  few = rw live-count (g .facts .is-short)
 
   -- the blend and the value at a table place
   module _ (i : ℕ) (lt : i < t .count) where
@@ -224,110 +226,106 @@ module _ {m : Map} {t : Table} (g : GoodMap m t) (i j v : ℕ) where
       ap (λ (n : Map). record { number = 0; map = n; table = t }) (sym is) ∙
       new-table Q (set-holds (g .facts .holds) i j v) t (live-table g) _ (sym (cond-false _ _ _ (passed g) ∙ cond-true _ _ _ (lt-ltb _ _ lt)))
 
--- A step that was taken from a good record:
-module _ {m : Map} {t : Table} (g : GoodMap m t) (r : Step) where
-  pub step-refused : (r .number ≡ 0 → ⊥) → record { number = r .number; map = m; table = t } ≡ withTable (drawnBy m r)
-  step-refused ne = kept g _ _ (⊎-elim (λ y. absurd (ne (eqb-true _ _ y))) (λ n. sym (cond-false _ _ _ n)) (either (eqb (r .number) 0)))
+-- A step for a call: a line that it draws is one that an exact split may draw, its table is that of the map with the line, and this map is the call's; its
+-- refusal is the call's.
+pub record Draws (m : Map) (r : Step) (c : Changed) : Type 0 where
+  pub accepted : exactNumber (plain m .lines) (r .split) ≡ 0
+  pub is-new : r .table ≡ table (blends (drawn (plain m) (r .split)))
+  pub is-drawn : changed 0 (recordOf (drawn (plain m) (r .split))) ≡ c
 
-  module _ (ok : Drawable m r) (z : r .number ≡ 0) where
-    accepted : exactNumber (plain m .lines) (r .split) ≡ 0
-    accepted = ok z .0
+abbrev pub StepOf : Map → Step → Changed → Type 0
+StepOf m r c = (r .number ≡ 0 → Draws m r c) × ((r .number ≡ 0 → ⊥) → changed (r .number) m ≡ c)
 
-    is-new : r .table ≡ table (blends (drawn (plain m) (r .split)))
-    is-new = ok z .1
+-- What it leaves of a good record:
+module _ {m : Map} {t : Table} (g : GoodMap m t) {r : Step} {c : Changed} where
+  pub step-refused : StepOf m r c → (r .number ≡ 0 → ⊥) → record { number = r .number; map = m; table = t } ≡ withTable c
+  step-refused of ne = kept g _ _ (of .1 ne)
 
+  module _ (d : Draws m r c) where
     pub step-room : m .lines .count < 60
     unfolding plain
-    step-room = rw (← splits-length (g .has-table)) (exact-says (plain m .lines) (r .split) accepted .0 .room)
+    step-room = rw (← g .facts .counted-splits) (exact-says (plain m .lines) (r .split) (d .accepted) .0 .room)
 
     pub new-few : r .table .count ≤ 1024
     unfolding drawn plain
     new-few =
         let f = g .facts in
-        rw (is-new, table-count)
+        rw (d .is-new, table-count)
         (at-most (m .lines .w) (m .lines .h) (f .across .0) (f .up .0) (f .up .1) (plain m .lines .splits ++ r .split ∷ [])
-        (omega (arith, length-append (plain m .lines .splits) (r .split ∷ []), splits-length (g .has-table), step-room)) (exact-says (plain m .lines) (r .split) accepted .1))
+        (omega (arith, length-append (plain m .lines .splits) (r .split ∷ []), f .counted-splits, step-room))
+        (exact-says (plain m .lines) (r .split) (d .accepted) .1))
 
     pub new-proper : all (proper (m .lines .w) (m .lines .h)) (blendsOf (r .table)) ≡ true
     unfolding drawn plain
     new-proper =
         let f = g .facts in
-        rw (is-new, table-blends) (all-of _ _ (live-proper (m .lines .w) (m .lines .h) (f .across .0) (f .up .0) (meshOf (withLine (plain m .lines) (r .split)))))
+        rw (d .is-new, table-blends)
+        (all-of _ _ (live-proper (m .lines .w) (m .lines .h) (f .across .0) (f .up .0) (meshOf (withLine (plain m .lines) (r .split)))))
+
+    pub step-grown : Grown (blendsOf t) (blendsOf (r .table))
+    unfolding drawn plain
+    step-grown =
+        let f = g .facts in
+        rw (live-blends g, d .is-new, table-blends)
+        (live-grown (m .lines .w) (m .lines .h) (f .across .0) (f .up .0) (f .up .1) (meshOf (plain m .lines)) (meshOf (withLine (plain m .lines) (r .split)))
+        (more-finer (plain m .lines) (r .split)) (f .is-sound) (exact-says (plain m .lines) (r .split) (d .accepted) .1))
+
+    drawn-stays : Holds (drawn (plain m) (r .split))
+    drawn-stays = drawn-holds (g .facts .holds) (r .split) (d .accepted)
 
     pub step-drawn : (values : List ℕ) → values ≡ carriedArray (blendsOf t) (take (t .count) (m .values)) (blendsOf (r .table)) →
-        record { number = 0; map = record { lines = withSplit (m .lines) (r .split); values = values }; table = r .table } ≡ withTable (drawnBy m r)
+        record { number = 0; map = record { lines = withSplit (m .lines) (r .split); values = values }; table = r .table } ≡ withTable c
     step-drawn values v =
         let Q = drawn (plain m) (r .split) in
-        let new-blends : blendsOf (r .table) ≡ blends Q = rw is-new (table-blends (blends Q)) in
+        let new-blends : blendsOf (r .table) ≡ blends Q = rw (d .is-new) (table-blends (blends Q)) in
         let is : recordOf Q ≡ record { lines = withSplit (m .lines) (r .split); values = values } =
         rw (v, live-blends g, live-values g, new-blends)
-        (rw (g .facts .is-record) at (record-drawn (plain m) (r .split) (exact-says (plain m .lines) (r .split) accepted .0 .room))) in
-        ap (λ (n : Map). record { number = 0; map = n; table = r .table }) (sym is) ∙
-        new-table Q (drawn-holds (g .facts .holds) (r .split) accepted) (r .table) is-new _ (rw z)
+        (rw (g .facts .is-record) at (record-drawn (plain m) (r .split) (exact-says (plain m .lines) (r .split) (d .accepted) .0 .room))) in
+        ap (λ (n : Map). record { number = 0; map = n; table = r .table }) (sym is) ∙ new-table Q drawn-stays (r .table) (d .is-new) c (d .is-drawn)
 
--- The steps of the two splits are those of the calls: an exact one,
+  -- and that it leaves a good one
+  step-good : StepOf m r c → good (c .map) ≡ true
+  step-good of =
+      ⊎-elim (λ y. let d = of .0 (eqb-true _ _ y) in rw (← d .is-drawn) (record-good (drawn-stays d) .0))
+      (λ n. rw (← of .1 (eqb-false _ _ n)) (g .is-good)) (either (eqb (r .number) 0))
+
+-- The steps of the two splits are those of the calls:
 module _ {m : Map} {t : Table} (g : GoodMap m t) (s : Split) where
-  pub exact-by : drawnBy m (exactStep (m .lines) t s) ≡ exactSplit m s
-  unfolding exactStep exactSplit plain
-  exact-by =
-      let n = exactNumber (layoutOf (m .lines)) s in
-      rw (g .is-good) (⊎-elim (λ (e : eqb n 0 ≡ true). rw e) (λ (e : eqb n 0 ≡ false). rw (e, e)) (either (eqb n 0)))
+  refused-step : (n : ℕ) → (n ≡ 0 → ⊥) → StepOf m (refusedStep t n s) (changed n m)
+  refused-step n ne = (λ z. absurd (ne z), λ q. refl)
 
-  pub exact-drawable : Drawable m (exactStep (m .lines) t s)
-  unfolding exactStep plain drawn
-  exact-drawable =
-      let n = exactNumber (layoutOf (m .lines)) s in
-      ⊎-elim (λ (e : eqb n 0 ≡ true). rw e (λ z. (eqb-true n 0 e, refl))) (λ (e : eqb n 0 ≡ false). rw e (λ z. absurd (eqb-false n 0 e z)))
-      (either (eqb n 0))
+  drawn-step : (c : Split) → exactNumber (plain m .lines) c ≡ 0 → StepOf m (drawnStep (m .lines) c) (changed 0 (recordOf (drawn (plain m) c)))
+  unfolding plain drawn
+  drawn-step c z = (λ q. record { accepted = z; is-new = refl; is-drawn = refl }, λ ne. absurd (ne refl))
 
-  -- and a lengthened one, by the line that it takes.
-  by-found : (cs : List Split) → drawnBy m (found (m .lines) t s cs) ≡ drawnFirst m (plain m) cs
-  unfolding found
-  by-found [] = refl
-  by-found (c ∷ cs) = refl
+  -- a lengthened one by the line that it takes,
+  first-step : given (plain m .lines) s ≡ 0 → (cs : List Split) → chosen (plain m .lines) s ≡ cs →
+      StepOf m (firstStep (m .lines) t s cs) (drawnFirst m (plain m) cs)
+  unfolding plain
+  first-step z [] e = refused-step 8 (λ q. omega arith)
+  first-step z (c ∷ cs) e = drawn-step c (chosen-exact (plain m .lines) (g .facts .across .0) (g .facts .up .0) s c cs z e)
 
-  found-drawable : given (plain m .lines) s ≡ 0 → (cs : List Split) → chosen (plain m .lines) s ≡ cs → Drawable m (found (m .lines) t s cs)
-  unfolding found plain drawn
-  found-drawable z [] e = λ q. absurd (omega arith)
-  found-drawable z (c ∷ cs) e = λ q. (chosen-exact (plain m .lines) (g .facts .across .0) (g .facts .up .0) s c cs z e, refl)
-
-  pub lengthened-by : drawnBy m (lengthenedStep (m .lines) t s) ≡ lengthenedSplit m s
-  unfolding lengthenedStep lengthenedSplit plain
-  lengthened-by =
-      let n = given (layoutOf (m .lines)) s in
+  -- and each after the numbers that refuse it.
+  tested-step : (n : ℕ) (r : Step) (c : Changed) → (n ≡ 0 → StepOf m r c) →
+      StepOf m (cond (eqb n 0) r (refusedStep t n s)) (cond (not (good m)) (changed 2 m) (cond (eqb n 0) c (changed n m)))
+  tested-step n r c of =
       rw (g .is-good)
-      (⊎-elim (λ (e : eqb n 0 ≡ true). rw e (by-found (chosen (layoutOf (m .lines)) s))) (λ (e : eqb n 0 ≡ false). rw (e, e)) (either (eqb n 0)))
+      (⊎-elim (λ (e : eqb n 0 ≡ true). rw e (of (eqb-true n 0 e))) (λ (e : eqb n 0 ≡ false). rw e (refused-step n (eqb-false n 0 e))) (either (eqb n 0)))
 
-  pub lengthened-drawable : Drawable m (lengthenedStep (m .lines) t s)
-  unfolding lengthenedStep plain
-  lengthened-drawable =
-      let n = given (layoutOf (m .lines)) s in
-      ⊎-elim (λ (e : eqb n 0 ≡ true). rw e (found-drawable (eqb-true n 0 e) (chosen (layoutOf (m .lines)) s) refl))
-      (λ (e : eqb n 0 ≡ false). rw e (λ z. absurd (eqb-false n 0 e z))) (either (eqb n 0))
+  pub split-step : (lengthen : Bool) →
+      StepOf m (cond lengthen (lengthenedStep (m .lines) t s) (exactStep (m .lines) t s)) (cond lengthen (lengthenedSplit m s) (exactSplit m s))
+  unfolding exactStep exactSplit lengthenedStep lengthenedSplit plain
+  split-step true = tested-step (given (plain m .lines) s) _ _ (λ z. first-step z (chosen (plain m .lines) s) refl)
+  split-step false = tested-step (exactNumber (plain m .lines) s) _ _ (drawn-step s)
 
 -- A changing call on a good record leaves a good one.
 module _ {m : Map} {t : Table} (g : GoodMap m t) where
-  either-good : (b : Bool) (x : Changed) (n : ℕ) → (b ≡ true → good (x .map) ≡ true) → good (cond b x (changed n m) .map) ≡ true
-  either-good true x n f = f refl
-  either-good false x n f = g .is-good
-
-  drawn-good : (s : Split) → exactNumber (plain m .lines) s ≡ 0 → good (recordOf (drawn (plain m) s)) ≡ true
-  drawn-good s z = record-good (drawn-holds (g .facts .holds) s z) .0
-
   pub set-good : (i j v : ℕ) → good (setValue m i j v .map) ≡ true
   unfolding setValue
   set-good i j v =
-      rw (g .is-good) (either-good (ltb (placeOf (blends (plain m)) (i + 1) (j + 1)) (length (blends (plain m)))) _ 9 (λ e. record-good (set-holds (g .facts .holds) i j v) .0))
+      rw (g .is-good)
+      (⊎-elim (λ y. rw y (record-good (set-holds (g .facts .holds) i j v) .0)) (λ n. rw n (g .is-good))
+      (either (ltb (placeOf (blends (plain m)) (i + 1) (j + 1)) (length (blends (plain m))))))
 
-  pub exact-good : (s : Split) → good (exactSplit m s .map) ≡ true
-  unfolding exactSplit
-  exact-good s = rw (g .is-good) (either-good (eqb (exactNumber (plain m .lines) s) 0) _ _ (λ e. drawn-good s (eqb-true _ _ e)))
-
-  first-good : (s : Split) → given (plain m .lines) s ≡ 0 → (cs : List Split) → chosen (plain m .lines) s ≡ cs → good (drawnFirst m (plain m) cs .map) ≡ true
-  unfolding plain
-  first-good s z [] e = g .is-good
-  first-good s z (c ∷ cs) e = drawn-good c (chosen-exact (plain m .lines) (g .facts .across .0) (g .facts .up .0) s c cs z e)
-
-  pub lengthened-good : (s : Split) → good (lengthenedSplit m s .map) ≡ true
-  unfolding lengthenedSplit
-  lengthened-good s = rw (g .is-good) (either-good (eqb (given (plain m .lines) s) 0) _ _ (λ e. first-good s (eqb-true _ _ e) (chosen (plain m .lines) s) refl))
+  pub split-good : (s : Split) (lengthen : Bool) → good (cond lengthen (lengthenedSplit m s) (exactSplit m s) .map) ≡ true
+  split-good s lengthen = step-good g (split-step g s lengthen)

@@ -27,7 +27,8 @@ use Rattle.maps.specs.Calls.{freshMap}
 use Rattle.maps.specs.Histories.{Call, number, Outcome, outcome, firstDrawn, byLibrary, byMachine, ending}
 use Rattle.maps.specs.Straight.{ValuesStraight}
 use Rattle.maps.specs.Demand.{leftBy, Tabled, Gentle, IsSplit, exact-split, lengthened-split, linesBy, meshBy, DemandFrom, Demand3}
-use Rattle.maps.proofs.GoodRecords.{replays-stands, record-good}
+use Rattle.maps.proofs.GoodRecords.{record-good}
+use Rattle.mesh.proofs.Accepted.{replays-stands}
 use Rattle.mesh.proofs.ChosenLine.{chosen-exact}
 use Rattle.maps.proofs.Reached.{Reached, fresh-reached, start-reached, ending-leads}
 use Rattle.maps.proofs.Following.{step-follows, outcomes-follow, ending-follows}

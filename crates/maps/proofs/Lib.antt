@@ -4,14 +4,14 @@ pub mod Asking
 pub mod Walking
 pub mod PairsTold
 pub mod ByEnds
+pub mod ByLines
 pub mod Demand3
 pub mod ExactSums
 pub mod Following
 pub mod Gentle
 pub mod GoodRecords
-pub mod OneSplitMore
-pub mod AnchorIndex
-pub mod Searching
+pub mod OldTable
+pub mod SideBySide
 pub mod OverSquare
 pub mod Reached
 pub mod Readings

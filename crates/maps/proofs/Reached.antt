@@ -20,7 +20,8 @@ use Rattle.maps.specs.Calls.{setPlain}
 use Rattle.maps.specs.Histories.{Call, set, exact, lengthened, place, reads, weighs, alongRow, alongColumn, sameAs, Outcome, firstDrawn, byMachine, ending}
 use Rattle.maps.specs.Demand.{Start, fresh, lineBy, linesBy}
 use Rattle.mesh.proofs.Passing.{exact-says}
-use Rattle.maps.proofs.GoodRecords.{Holds, replays-sides, replays-stands, fresh-holds, set-holds, drawn-holds}
+use Rattle.maps.proofs.GoodRecords.{Holds, fresh-holds, set-holds, drawn-holds}
+use Rattle.mesh.proofs.Accepted.{replays-sides, replays-sound}
 use Rattle.maps.proofs.Readings.{Valued, set-valued, drawn-valued}
 use Rattle.mesh.proofs.ChosenLine.{chosen-exact}
 
@@ -39,7 +40,7 @@ holds-reached P holds small =
           record {
             wide = (sides .0, sides .1);
             tall = (sides .2, sides .3);
-            is-sound = replays-stands (holds .taken) .is-sound;
+            is-sound = replays-sound (holds .taken);
             counted = holds .counted;
             small = small;
           };

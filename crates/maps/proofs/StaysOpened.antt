@@ -2,7 +2,7 @@
 use Prim.Native.Nat.{ℕ}
 use mathlib.Core.Path.{_≡_, refl}
 use mathlib.Core.Logic.{⊎-elim}
-use mathlib.Core.Bool.{true, _&&_}
+use mathlib.Core.Bool.{Bool, true, cond, _&&_}
 use Rattle.axis.proofs.Tests.{either, and-both}
 use Rattle.mesh.specs.declared.Split.{Split}
 use Rattle.mesh.specs.declared.Table.{Table}
@@ -14,7 +14,7 @@ use Rattle.maps.specs.Record.{good}
 use Rattle.maps.specs.Calls.{freshMap, setValue, exactSplit, lengthenedSplit}
 use Rattle.maps.specs.Opened.{withTable, Opens}
 use Rattle.maps.proofs.GoodRecords.{record-good, fresh-holds}
-use Rattle.maps.proofs.Changing.{GoodMap, set-good, exact-good, lengthened-good}
+use Rattle.maps.proofs.Changing.{GoodMap, set-good, split-good}
 
 opens : {o : Opened} {c : Changed} → o ≡ withTable c → good (c .map) ≡ true → Opens o
 opens is y = rw is (record { is-good = y; is-table = refl })
@@ -33,8 +33,5 @@ module _ {m : Map} {t : Table} {next : Opened} (g : GoodMap m t) where
   pub set-opens : (i j v : ℕ) → next ≡ withTable (setValue m i j v) → Opens next
   set-opens i j v e = opens e (set-good g i j v)
 
-  pub exact-opens : (s : Split) → next ≡ withTable (exactSplit m s) → Opens next
-  exact-opens s e = opens e (exact-good g s)
-
-  pub lengthened-opens : (s : Split) → next ≡ withTable (lengthenedSplit m s) → Opens next
-  lengthened-opens s e = opens e (lengthened-good g s)
+  pub split-opens : (s : Split) (lengthen : Bool) → next ≡ withTable (cond lengthen (lengthenedSplit m s) (exactSplit m s)) → Opens next
+  split-opens s lengthen e = opens e (split-good g s lengthen)

@@ -2,78 +2,43 @@
 use Prim.Native.Nat.{ℕ, _+_, _-_, _*_, _^_, _≤_, _<_}
 use mathlib.Core.Path.{_≡_}
 use mathlib.Core.Bool.{Bool, true, cond}
-use mathlib.Core.List.{List, [], _∷_, _++_, map}
+use mathlib.Core.List.{List, [], _∷_, _++_, map, List·Memᴰ}
 use lib.Dec.{eqb}
 use lib.ListN.{length, take, set, replicate}
-use Rattle.axis.specs.Limits.{largestSide, mostSplits, mostBlends}
+use Rattle.axis.specs.Limits.{largestSide, mostBlends}
 use Rattle.axis.specs.Fraction.{Fraction}
 use Rattle.axis.specs.Gap.{corner}
-use Rattle.axis.specs.Range.{all, only}
+use Rattle.axis.specs.Range.{all, only, Ordered}
 use Rattle.mesh.specs.declared.Split.{Split}
 use Rattle.mesh.specs.declared.Lines.{Lines}
 use Rattle.mesh.specs.declared.Table.{Table}
 use Rattle.mesh.specs.declared.Blend.{Blend}
-use Rattle.mesh.specs.Lines.{layoutOf, allowed}
 use Rattle.mesh.specs.Sound.{sound, proper, overSquare, table, blendsOf}
 use Rattle.mesh.specs.Blends.{place}
-use Rattle.maps.specs.declared.splits.Step.{Step}
-use Rattle.mesh.specs.Splits.{liveOf, withLine, soundWith, given, exactNumber, chosen}
 use Rattle.maps.specs.declared.Map.{Map}
-use Rattle.maps.specs.declared.Changed.{Changed}
 use Rattle.maps.specs.declared.Pairs.{Pairs}
 use Rattle.maps.specs.declared.Weight.{Weight}
 use Rattle.maps.specs.declared.values.Sum.{Sum}
 use Rattle.maps.specs.declared.values.Entry.{Entry}
 use Rattle.maps.specs.declared.values.Four.{Four}
 use Rattle.maps.specs.Plain.{Plain, blends}
-use Rattle.maps.specs.Values.{carried, drawn, weightAt}
-use Rattle.maps.specs.Record.{plain, recordOf}
-use Rattle.maps.specs.Calls.{changed, shape}
+use Rattle.maps.specs.Values.{carried, weightAt}
+use Rattle.maps.specs.Calls.{shape}
 use Rattle.maps.specs.Pairs.{rowPairs, columnPairs}
 
 -- the lines with one split more
 abbrev pub withSplit : Lines → Split → Lines
 withSplit L s = record { w = L .w; h = L .h; count = L .count + 1; splits = set (L .splits) (L .count) s }
 
--- a table in hand is that of the live blends of sound lines
-pub record HasTable (L : Lines) (t : Table) : Type 0 where
-  pub allowed? : allowed L ≡ true
-  pub places : length (L .splits) ≡ mostSplits
-  pub is-sound : sound (L .w) (L .h) (liveOf (layoutOf L)) ≡ true
-  pub is-table : t ≡ table (liveOf (layoutOf L))
-
--- a split refused with a number, on the table as it was; and a line drawn
-abbrev pub refusedStep : Table → ℕ → Split → Step
-refusedStep t n s = record { number = n; split = s; table = t }
-
-abbrev pub drawnStep : Lines → Split → Step
-drawnStep L s = record { number = 0; split = s; table = table (liveOf (withLine (layoutOf L) s)) }
-
--- one split more, in range: 8 where it leaves no sound map
-unfoldable pub judged : Lines → Table → Split → Step
-judged L t s = cond (soundWith (layoutOf L) s) (drawnStep L s) (refusedStep t 8 s)
-
--- an exact split
-unfoldable pub exactStep : Lines → Table → Split → Step
-exactStep L t s = let n = exactNumber (layoutOf L) s in cond (eqb n 0) (drawnStep L s) (refusedStep t n s)
-
--- a lengthened split, by the line that it takes
-unfoldable pub found : Lines → Table → Split → List Split → Step
-found L t s [] = refusedStep t 8 s
-found L t s (c ∷ cs) = drawnStep L c
-
-unfoldable pub lengthenedStep : Lines → Table → Split → Step
-lengthenedStep L t s =
-    let n = given (layoutOf L) s in cond (eqb n 0) (found L t s (chosen (layoutOf L) s)) (refusedStep t n s)
-
 -- the values after a split, in an array
 unfoldable pub carriedArray : List Blend → List ℕ → List Blend → List ℕ
 carriedArray old vs new = map (carried old vs) new ++ replicate (mostBlends - length new) 0
 
--- the places of a table's blends, from 1, noted at their anchors
-unfoldable pub anchorIndex : List ℕ → ℕ → List Blend → List ℕ
-anchorIndex index i [] = index
-anchorIndex index i (B ∷ bs) = anchorIndex (set index (place B) (i + 1)) (i + 1) bs
+-- two lists of blends in table order, where the anchors of the first are among those of the second
+pub record Grown (old new : List Blend) : Type 0 where
+  pub rising : Ordered (λ (x y : Blend). place x < place y) old
+  pub rising-new : Ordered (λ (x y : Blend). place x < place y) new
+  pub among : (B : Blend) → List·Memᴰ B old → (C : Blend) × List·Memᴰ C new × (place C ≡ place B)
 
 -- a table of the live blends of some sound map of these sides, and an array that begins with their values
 pub record InTable (w h : ℕ) (t : Table) (values : List ℕ) : Type 0 where
@@ -91,15 +56,6 @@ abbrev pub AtPoint : ℕ → ℕ → Table → ℕ → ℕ → Type 0
 AtPoint w h t u v =
     (t .count ≤ mostBlends) × (all (proper w h) (blendsOf t) ≡ true) × (length (only (overSquare (corner w u + 1) (corner h v + 1)) (blendsOf t)) ≡ 4) ×
     (1 ≤ w) × (w ≤ largestSide) × (1 ≤ h) × (h ≤ largestSide) × (u ≤ w) × (v ≤ h)
-
--- a step from an opened record: a line that is drawn is one that an exact split may draw, and the table is that of the map with it
-abbrev pub Drawable : Map → Step → Type 0
-Drawable m r =
-    r .number ≡ 0 → (exactNumber (plain m .lines) (r .split) ≡ 0) × (r .table ≡ table (blends (drawn (plain m) (r .split))))
-
--- the map with the line drawn, or the step's refusal
-abbrev pub drawnBy : Map → Step → Changed
-drawnBy m r = cond (eqb (r .number) 0) (changed 0 (recordOf (drawn (plain m) (r .split)))) (changed (r .number) m)
 
 -- the blends of a list that pass a test, each with its place, counted from i
 abbrev pub entriesOver : (Blend → Bool) → List Blend → ℕ → List Entry

@@ -11,3 +11,4 @@ pub mod Straight
 pub mod Demand
 pub mod Inner
 pub mod ByWeights
+pub mod ByLines

@@ -1,5 +1,5 @@
 -- Document 01: "Two maps are the same when sides, live blends and values agree."
-use mathlib.Core.Bool.{Bool, false, cond, _&&_, not}
+use mathlib.Core.Bool.{Bool, false, cond, _&&_}
 use lib.Dec.{eqb}
 use Rattle.axis.specs.Range.{agree}
 use Rattle.mesh.specs.Blends.{same}

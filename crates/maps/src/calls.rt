@@ -154,7 +154,7 @@ impl Map {
         if opened.number != 0 {
             return without_table(opened);
         }
-        without_table(opened.exact_split(s))
+        without_table(opened.split(s, false))
     }
 
     // Draws the shortest sound line that contains the given one: refused with 2 to 8.
@@ -165,7 +165,7 @@ impl Map {
         if opened.number != 0 {
             return without_table(opened);
         }
-        without_table(opened.lengthened_split(s))
+        without_table(opened.split(s, true))
     }
 
     // Whether two maps are the same; 2 where either record is not good, and then "no".

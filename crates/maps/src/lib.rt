@@ -3,7 +3,6 @@ mod calls;
 mod carry;
 pub mod opened;
 mod sameness;
-mod splits;
 mod values;
 mod walk;
 

@@ -14,9 +14,6 @@ use crate::calls::no_place;
 use crate::calls::no_weights;
 use crate::carry::carried_values;
 use crate::sameness::same_maps;
-use crate::splits::Step;
-use crate::splits::exact_step;
-use crate::splits::lengthened_step;
 use crate::values::place_of;
 use crate::values::reading_of;
 use crate::values::shape_of;
@@ -28,10 +25,11 @@ use mesh::Blend;
 use mesh::Split;
 use mesh::Table;
 use mesh::replay::replay;
+use mesh::splits::split;
 use mesh::tables::fresh_table;
 ghost use mathlib.Core.Path.{_≡_};
 ghost use mathlib.Core.List.{[]};
-ghost use mathlib.Core.Bool.{true};
+ghost use mathlib.Core.Bool.{true, cond};
 ghost use Prim.Native.Nat.{_<_};
 ghost use lib.Dec.{eqb};
 ghost use lib.ListN.{drop};
@@ -42,7 +40,7 @@ ghost use Rattle.maps.specs.Calls.{changed, freshMap, setValue, tablePla
 ghost use Rattle.maps.specs.Pairs.{rowPairs, columnPairs};
 ghost use Rattle.maps.specs.Sameness.{sameness};
 ghost use Rattle.maps.specs.Opened.{withTable, opened, Opens};
-ghost use Rattle.maps.specs.Inner.{Drawable, drawnBy, alongPairs};
+ghost use Rattle.maps.specs.Inner.{alongPairs};
 
 // A number, a map, and the table of its live blends; an empty one where its record is not good.
 pub struct Opened {
@@ -82,18 +80,19 @@ fn no_splits_from(splits: [Split; Map::MOST_SPLITS], from: usize) -> bool
     true
 }
 
-// Whether the values from a place on are all zero.
+// Whether the values from a place on are all zero. It does not stop at the first that is not, so that the compiler may look at several at once.
 fn no_values_from(values: [u16; Table::MOST_BLENDS], from: usize) -> bool
     ensures { λ r. ⌜ r ≡ all (λ v. eqb v 0) (drop from values) ⌝ }
 {
+    let mut none = true;
     let mut i = from;
     while i < Table::MOST_BLENDS {
         if values[i] != 0 {
-            return false;
+            none = false;
         }
         i += 1;
     }
-    true
+    none
 }
 
 // What a record that is not good gives, with a table without blends.
@@ -172,34 +171,6 @@ fn numbered(o: Opened, number: usize) -> Opened
     let mut next = o;
     next.number = number;
     next
-}
-
-// The map with a split's line drawn, or the split's refusal.
-fn after_step(o: Opened, step: Step) -> Opened
-    requires { ⌜ Opens o × Drawable (o .map) step ⌝ }
-    ensures { λ r. ⌜ r ≡ withTable (drawnBy (o .map) step) ⌝ }
-{
-    if step.number != 0 {
-        return numbered(o, step.number);
-    }
-    let map = o.map;
-    let mut lines = map.lines;
-    let old = o.table;
-    let new = step.table;
-    let split = step.split;
-    let at = lines.count;
-    lines.splits[at] = split;
-    lines.count = at + 1;
-    let values = map.values;
-    let carried = carried_values(old, values, new, lines.w, lines.h);
-    Opened {
-        number: 0,
-        map: Map {
-            lines: lines,
-            values: carried,
-        },
-        table: new,
-    }
 }
 
 impl Opened {
@@ -322,26 +293,31 @@ impl Opened {
         }
     }
 
-    // The rest of `Map::exact_split`.
-    pub fn exact_split(self, s: Split) -> Opened
+    // The rest of `Map::exact_split`, or of `Map::lengthened_split`.
+    pub fn split(self, s: Split, lengthen: bool) -> Opened
         requires { ⌜ Opens self ⌝ }
-        ensures { λ r. ⌜ r ≡ withTable (exactSplit (self .map) s) ⌝ }
+        ensures { λ r. ⌜ r ≡ withTable (cond lengthen (lengthenedSplit (self .map) s) (exactSplit (self .map) s)) ⌝ }
     {
-        let map = self.map;
-        let lines = map.lines;
-        let table = self.table;
-        after_step(self, exact_step(lines, table, s))
-    }
-
-    // The rest of `Map::lengthened_split`.
-    pub fn lengthened_split(self, s: Split) -> Opened
-        requires { ⌜ Opens self ⌝ }
-        ensures { λ r. ⌜ r ≡ withTable (lengthenedSplit (self .map) s) ⌝ }
-    {
-        let map = self.map;
-        let lines = map.lines;
-        let table = self.table;
-        after_step(self, lengthened_step(lines, table, s))
+        let step = split(self.map.lines, self.table, s, lengthen);
+        if step.number != 0 {
+            return numbered(self, step.number);
+        }
+        let mut lines = self.map.lines;
+        let line = step.split;
+        let at = lines.count;
+        lines.splits[at] = line;
+        lines.count = at + 1;
+        let values = self.map.values;
+        let table = step.table;
+        let carried = carried_values(self.table, values, table, lines.w, lines.h);
+        Opened {
+            number: 0,
+            map: Map {
+                lines: lines,
+                values: carried,
+            },
+            table: table,
+        }
     }
 
     // The rest of `Map::same`.

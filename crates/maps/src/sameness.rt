@@ -8,7 +8,6 @@ ghost use mathlib.Core.Path.{_≡_};
 ghost use lib.Dec.{eqb};
 ghost use lib.ListN.{take};
 ghost use Rattle.axis.specs.Limits.{mostBlends};
-ghost use Rattle.axis.specs.Triple.{sameTriple};
 ghost use Rattle.mesh.specs.Blends.{same};
 ghost use Rattle.mesh.specs.Sound.{blendsOf};
 ghost use Rattle.axis.specs.Range.{agree};

@@ -1,10 +1,10 @@
 -- Tables: their arrays are as long as their types say; their blends, one by one as a loop takes them; and that they are proper.
 use Prim.Native.Nat.{ℕ, _+_, _-_, _≤_, _<_}
 use native.Mathlib.Omega.{arith}
-use mathlib.Core.Path.{_≡_, refl}
+use mathlib.Core.Path.{_≡_, refl, ap}
 use mathlib.Core.Bool.{true}
-use mathlib.Core.List.{List, [], _∷_}
-use lib.ListN.{length, getD, drop, replicate, length-map}
+use mathlib.Core.List.{List, [], _∷_, List·Memᴰ}
+use lib.ListN.{length, getD, set, drop, replicate, length-map}
 use lib.Seq.{take-append-seam}
 use mir.Val.{Val}
 use denote.Shadow.{shadow}
@@ -53,16 +53,25 @@ module _ (t : Table) (i : ℕ) where
   pub blends-end : t .count ≤ i → drop i (blendsOf t) ≡ []
   blends-end = none-left (t .blends) (t .count) i
 
-  -- the next one with those behind it, and that it is proper, as all of them are
+  -- the next one with those behind it, that it is one of them, and that it is proper, as all of them are
   pub record Next : Type 0 where
     pub turn : drop i (blendsOf t) ≡ getD (t .blends) i none ∷ drop (i + 1) (blendsOf t)
+    pub there : List·Memᴰ (getD (t .blends) i none) (blendsOf t)
     pub proper : Proper (getD (t .blends) i none)
 
   pub next-blend : {vs : List Val} → shadow (row tables.the-type .own t vs) → t .count ≤ mostBlends → all (proper largestSide largestSide) (blendsOf t) ≡ true →
       i < t .count → Next
   next-blend own few e lt =
       let le : t .count ≤ length (t .blends) = omega (arith, table-full t own) in
+      let there = left-mem (t .blends) (t .count) i le none lt in
       record {
         turn = blends-turn lt le;
-        proper = proper-facts _ _ _ (all-at (proper largestSide largestSide) (blendsOf t) e _ (left-mem (t .blends) (t .count) i le none lt));
+        there = there;
+        proper = proper-facts _ _ _ (all-at (proper largestSide largestSide) (blendsOf t) e _ there);
       }
+
+-- four blends at the front of an empty table
+pub four-set : (bs : List Blend) (A B C D : Blend) → bs ≡ table [] .blends →
+    _≡_ {A = Table} (record { count = 4; blends = set (set (set (set bs 0 A) 1 B) 2 C) 3 D }) (table (A ∷ B ∷ C ∷ D ∷ []))
+unfolding table
+four-set bs A B C D e = ap (λ (l : List Blend). record { count = 4; blends = set (set (set (set l 0 A) 1 B) 2 C) 3 D }) e

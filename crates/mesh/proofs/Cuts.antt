@@ -5,7 +5,7 @@ use native.Mathlib.Nat.{mul-pos, mul-lt-mul-of-pos-left, mul-lt-mul-of-pos-right
 use mathlib.Core.Path.{_≡_, refl, sym, ap, subst, _∙_}
 use mathlib.Core.Logic.{_⊎_, inl, inr, ⊎-elim}
 use mathlib.Core.Bool.{true, false, _&&_, not}
-use borrow.Author.Tests.{not-true, eq-eqb, ne-eqb, eqb-false}
+use borrow.Author.Tests.{not-true, ne-eqb, eqb-false}
 use lib.Dec.{eqb}
 use Rattle.axis.specs.Triple.{Side, half, inside, between, rising, sameTriple}
 use Rattle.mesh.specs.Lines.{Direction, upright, level, other, Mesh}
@@ -240,10 +240,6 @@ module _ (M : Mesh) (B : Blend) where
   unfolding isCut
   some-line upright ne = or-left _ _ (ap not (ne-eqb _ _ ne))
   some-line level ne = or-right (not (eqb (cutter M upright B) 0)) _ (ap not (ne-eqb _ _ ne))
-
-  pub no-line : cutter M upright B ≡ 0 → cutter M level B ≡ 0 → isCut M B ≡ false
-  unfolding isCut
-  no-line e f = rw (eq-eqb _ _ e, eq-eqb _ _ f)
 
   -- exactly where one of some direction, at some position, does.
   pub cut-exactly : RiseB B → (isCut M B ≡ true → (d : Direction) × (z : ℕ) × (cuts M d z B ≡ true)) ×

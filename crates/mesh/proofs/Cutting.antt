@@ -5,17 +5,16 @@ use borrow.Author.Tests.{eq-eqb, ne-eqb}
 use mathlib.Core.Path.{_≡_, refl, sym, ap, _∙_}
 use mathlib.Core.Bool.{Bool, true, false, cond}
 use mathlib.Core.List.{List, [], _∷_, _++_}
-use lib.ListN.{getD, set}
 use Rattle.axis.specs.Range.{every}
 use Rattle.axis.specs.Triple.{Side, lower, upper, half}
 use Rattle.mesh.specs.Lines.{Direction, upright, level, other, Mesh}
-use Rattle.mesh.specs.Bytes.{stepOn, packed, keep, keepAll}
+use Rattle.mesh.specs.Bytes.{stepOn, keep, keepAll}
 use Rattle.mesh.specs.Sound.{Proper, proper, none}
-use Rattle.mesh.specs.Blends.{place, crossed, cutter, halve, leaves, leavesOf, size}
+use Rattle.mesh.specs.Blends.{crossed, cutter, halve, leaves, leavesOf, size}
 use Rattle.axis.specs.declared.Triple.{Triple}
 use Rattle.mesh.specs.declared.Blend.{Blend}
 use Rattle.axis.proofs.Tests.{true-not-false}
-use Rattle.mesh.proofs.Cuts.{put, halve-own, cut-fact, cutter-cuts, riseB-of, halve-proper, halve-smaller}
+use Rattle.mesh.proofs.Cuts.{put, halve-own, cut-fact, cutter-cuts, riseB-of, halve-proper, halve-within, halve-smaller, WithinB}
 
 -- whether the line at a knot covers the n steps from knot b on
 abbrev pub over : List ℕ → ℕ → ℕ → ℕ → Bool
@@ -48,10 +47,11 @@ Cut M d x p q = (f : ℕ) → size x ≤ f → q ≡ keepAll p (leaves f M d x)
 put-half : (d : Direction) (s : Side) (z : ℕ) (x : Blend) (t : Triple) → t ≡ half s z (crossed d x) → put d x t ≡ halve d s z x
 put-half d s z x t e = ap (put d x) e ∙ halve-own d x s z
 
--- a proper blend, smaller than another
+-- a proper blend, smaller than another and not beyond it
 record Smaller (x y : Blend) : Type 0 where
   proper : Proper y
   less : size y < size x
+  within : WithinB x y
 
 -- What the recursion counts down: a half is smaller, and a blend is handed on as it is once at most.
 abbrev pub ahead : Blend → Bool → ℕ
@@ -83,13 +83,14 @@ module _ {M : Mesh} {d : Direction} {x : Blend} {z : ℕ} (F : Found M d x z) wh
       let rises = riseB-of (F .ok) in
       let i = cut-fact M d y x (cutter-cuts M d x rises (λ q. F .some (F .is ∙ q))) .inside in
       rw (put-half d s z x t e, F .is)
-      (record { proper = halve-proper d s y x (F .ok) i; less = halve-smaller d s y x rises i })
+      (record { proper = halve-proper d s y x (F .ok) i; less = halve-smaller d s y x rises i; within = halve-within d s y x rises i })
 
   pub half-asks : (tried : Bool) (n : ℕ) → ahead x tried ≡ n → (s : Side) (t : Triple) → t ≡ half s z (crossed d x) →
-      (ahead (put d x t) false < n) × Proper (put d x t) × (false ≡ true → cutter M d (put d x t) ≡ 0)
+      (ahead (put d x t) false < n) × Proper (put d x t) × (false ≡ true → cutter M d (put d x t) ≡ 0) ×
+      (put d x t .across .r ≤ x .across .r) × (put d x t .up .r ≤ x .up .r)
   half-asks tried n e s t h =
       let less = put-smaller s t h in
-      (half-ahead tried n less e, less .proper, λ q. absurd (true-not-false _ q refl))
+      (half-ahead tried n less e, less .proper, λ q. absurd (true-not-false _ q refl), less .within .across .hi, less .within .up .hi)
 
   pub cut-halves : (tried : Bool) (t u : Triple) (p q r : List ℕ) → (tried ≡ true → cutter M (other d) x ≡ 0) →
       t ≡ half lower z (crossed d x) → u ≡ half upper z (crossed d x) →
@@ -111,17 +112,3 @@ pub cut-first : (M : Mesh) (x : Blend) (xs : List Blend) (p q : List ℕ) → Cu
 unfolding leavesOf
 cut-first M x xs p q h =
     ap (λ (l : List ℕ). keepAll l (leavesOf M xs)) (h (size x) (omega arith)) ∙ sym (keepAll-append p (leaves (size x) M upright x) (leavesOf M xs))
-
--- keeping a blend at a free place, at the place of the same blend, and at that of another
-module _ (places : List ℕ) (B : Blend) where
-  pub keep-first : getD places (place B) 0 ≡ 0 → keep places B ≡ set places (place B) (packed B)
-  unfolding keep
-  keep-first e = rw (eq-eqb _ _ e)
-
-  pub keep-again : (getD places (place B) 0 ≡ 0 → ⊥) → getD places (place B) 0 ≡ packed B → keep places B ≡ places
-  unfolding keep
-  keep-again ne e = rw (ne-eqb _ _ ne, eq-eqb _ _ e)
-
-  pub keep-other : (getD places (place B) 0 ≡ 0 → ⊥) → (getD places (place B) 0 ≡ packed B → ⊥) → keep places B ≡ set places 0 1
-  unfolding keep
-  keep-other ne nf = rw (ne-eqb _ _ ne, ne-eqb _ _ nf)

@@ -4,22 +4,17 @@ use native.Mathlib.Omega.{arith}
 use mathlib.Core.Path.{_≡_, refl, sym, ap, _∙_}
 use mathlib.Core.Logic.{⊎-elim}
 use mathlib.Core.Bool.{Bool, true, false, _&&_, _||_, or-false, or-assoc, and-true, and-false, and-or-distrib-right}
-use mathlib.Core.List.{List, _∷_}
+use mathlib.Core.List.{List}
 use borrow.Author.Tests.{ltb-true, leb-true, eqb-true, eqb-false, lt-ltb, le-ltb, le-leb, eq-eqb, ne-eqb}
 use lib.Dec.{eqb, ltb, leb, leb·zero}
-use lib.ListN.{length, getD, set, drop, replicate, length-set, length-replicate}
+use lib.ListN.{length, getD, set, length-set}
 use lib.Seq.{getD-set-same, getD-set-other}
-use Rattle.axis.specs.Range.{any}
-use Rattle.mesh.specs.Lines.{Direction, number, other, side, start, end, draws, inRange, allowed, splitsOf, freshMesh, mesh, layoutOf, meshOf}
-use Rattle.mesh.specs.Bytes.{Square, stepOn, Drawn, empty}
+use Rattle.mesh.specs.Lines.{Direction, number, other, side, start, end, draws}
+use Rattle.mesh.specs.Bytes.{Rows, Zeros, stepOn, Drawn}
 use Rattle.mesh.specs.Blends.{at}
 use Rattle.mesh.specs.declared.Split.{Split}
-use Rattle.mesh.specs.declared.Lines.{Lines}
-use Rattle.axis.proofs.Tests.{either, same-test, and-both, and-of, or-either, or-left, or-right, true-not-false, all-at}
+use Rattle.axis.proofs.Tests.{either, same-test, and-both, and-of, or-either, or-left, or-right, true-not-false}
 use Rattle.mesh.proofs.Bytes.{step-on, zeros}
-use Rattle.axis.proofs.Entries.{left-turn, left-none}
-use Rattle.axis.proofs.Entries.{left-mem}
-use Rattle.mesh.proofs.Ranges.{Allowed, allowed-says}
 
 -- two tests after the same two, equal where those hold
 guarded : (a b c d : Bool) → (a ≡ true → b ≡ true → c ≡ d) → (a && b && c) ≡ (a && b && d)
@@ -35,9 +30,9 @@ step-same before after y j same =
     guarded (ltb y 131) (ltb j 131) _ _ (λ p q. rw (same (ltb-true y 131 p) (ltb-true j 131 q)))
 
 -- Places of the table are one-to-one, so a store at one switches on its own step and no other.
-pub step-set : (bytes : List ℕ) (z k : ℕ) → Square bytes → z < 131 → k < 131 → (y j : ℕ) →
+pub step-set : (bytes : List ℕ) (z k : ℕ) → Rows (z + 1) bytes → z < 131 → k < 131 → (y j : ℕ) →
     stepOn (set bytes (at z k) 1) y j ≡ (stepOn bytes y j || (eqb y z && eqb j k))
-step-set bytes z k square hz hk y j =
+step-set bytes z k room hz hk y j =
     ⊎-elim
     (λ e. here e ∙ sym (or-right (stepOn bytes y j) _ e))
     (λ e. elsewhere e ∙ sym (rw e (or-false (stepOn bytes y j))))
@@ -57,10 +52,10 @@ step-set bytes z k square hz hk y j =
         step-same bytes (set bytes (at z k) 1) y j (λ hy hj. getD-set-other bytes (at z k) (at y j) 1 0 (apart hy hj))
 
 -- a line from a knot to itself has no step
-pub drawn-none : (bytes : List ℕ) (z from : ℕ) → Square bytes → Drawn bytes bytes z from from
-drawn-none bytes z from square =
+pub drawn-none : (bytes : List ℕ) (z from : ℕ) → Drawn bytes bytes z from from
+drawn-none bytes z from =
     record {
-      square = square;
+      long = refl;
       on = λ y j. sym (ap (λ (b : Bool). stepOn bytes y j || b) (none y j) ∙ or-false (stepOn bytes y j));
     }
   where
@@ -70,13 +65,13 @@ drawn-none bytes z from square =
         and-false (eqb y z && leb from j)
 
 -- a line drawn as far as knot k, and the step from k besides
-pub drawn-more : {before after : List ℕ} {z from k : ℕ} → Drawn before after z from k → from ≤ k → z < 131 → k < 131 →
+pub drawn-more : {before after : List ℕ} {z from k : ℕ} → Drawn before after z from k → from ≤ k → z < 131 → k < 131 → Rows (z + 1) before →
     Drawn before (set after (at z k) 1) z from (k + 1)
-drawn-more {before} {after} {z} {from} {k} d hf hz hk =
+drawn-more {before} {after} {z} {from} {k} d hf hz hk room =
     record {
-      square = rw length-set (d .square);
+      long = rw length-set (d .long);
       on = λ y j.
-          rw (step-set after z k (d .square) hz hk y j, d .on y j, or-assoc, spread _ _ _ _ (past j), next j);
+          rw (step-set after z k (rw (d .long) room) hz hk y j, d .on y j, or-assoc, spread _ _ _ _ (past j), next j);
     }
   where
     past : (j : ℕ) → eqb j k ≡ true → leb from j ≡ true
@@ -104,7 +99,7 @@ pub drawn-until : {before after : List ℕ} {z from k to : ℕ} → Drawn before
     Drawn before after z from to
 drawn-until {before} {after} {z} {from} {k} {to} d lo hi =
     record {
-      square = d .square;
+      long = d .long;
       on = λ y j. d .on y j ∙ ap (λ (b : Bool). stepOn before y j || b)
           (guarded (eqb y z) (leb from j) (ltb j k) (ltb j to) (λ p q. below j (leb-true from j q)));
     }
@@ -116,19 +111,18 @@ drawn-until {before} {after} {z} {from} {k} {to} d lo hi =
         (λ e. let lt = ltb-true j to e in lt-ltb j k (omega arith))
 
 -- bytes that are all 0 have no step on
-off : (n y k : ℕ) → stepOn (replicate n 0) y k ≡ false
+off : (bytes : List ℕ) → Zeros bytes → (y k : ℕ) → stepOn bytes y k ≡ false
 unfolding stepOn
-off n y k = rw (zeros n (at y k)) (and-false (ltb y 131 && ltb k 131))
-
-pub empty-square : {bytes : List ℕ} → bytes ≡ empty → Square bytes
-empty-square e = ap length e ∙ length-replicate {A = ℕ} 17161 0
+off bytes none y k =
+    let zero : getD bytes (at y k) 0 ≡ 0 = ap (λ (xs : List ℕ). getD xs (at y k) 0) none ∙ zeros (length bytes) (at y k) in
+    rw zero (and-false (ltb y 131 && ltb k 131))
 
 -- four lines over no steps, as a fresh map has them
-pub fresh-drawn : {b₀ b₁ b₂ b₃ b₄ : List ℕ} {p q r s to : ℕ} → b₀ ≡ empty →
+pub fresh-drawn : {b₀ b₁ b₂ b₃ b₄ : List ℕ} {p q r s to : ℕ} → Zeros b₀ →
     Drawn b₀ b₁ p 0 to → Drawn b₁ b₂ q 0 to → Drawn b₂ b₃ r 0 to → Drawn b₃ b₄ s 0 to →
     (y k : ℕ) → stepOn b₄ y k ≡ ((eqb y p || eqb y q || eqb y r || eqb y s) && ltb k to)
-fresh-drawn e d₁ d₂ d₃ d₄ y k =
-    rw (d₄ .on y k, d₃ .on y k, d₂ .on y k, d₁ .on y k, e, off 17161 y k, leb·zero k)
+fresh-drawn {b₀} none d₁ d₂ d₃ d₄ y k =
+    rw (d₄ .on y k, d₃ .on y k, d₂ .on y k, d₁ .on y k, off b₀ none y k, leb·zero k)
     (simp (and-true, and-or-distrib-right))
 
 -- A split's line, from its first knot to its last, is what the split draws; a split of the other direction draws nothing.
@@ -151,55 +145,3 @@ module _ (s : Split) (direction : ℕ) (d : Direction) (w h : ℕ) (same : numbe
 -- what an array of splits reads as past its end
 abbrev pub blank : Split
 blank = record { direction = 0; position = 0; from = 0; to = 0 }
-
--- Part of the way through the splits: the steps so far, and those of the splits from the i-th on, are the mesh.
-pub record Drawing (L : Lines) (direction i : ℕ) (steps : List ℕ) : Type 0 where
-  pub square : Square steps
-  pub within : i ≤ L .count
-  pub ok : Allowed L
-  pub room : length (L .splits) ≡ 60
-  pub on : (d : Direction) → number d ≡ direction → (z k : ℕ) →
-      (stepOn steps z k || any (draws (L .w) (L .h) d z k) (drop i (splitsOf L))) ≡ meshOf (layoutOf L) d z k
-
-module _ (L : Lines) (direction : ℕ) where
-  pub drawing-none : (steps : List ℕ) → allowed L ≡ true → length (L .splits) ≡ 60 → Square steps →
-      ((d : Direction) → number d ≡ direction → (z k : ℕ) → stepOn steps z k ≡ freshMesh (L .w) (L .h) d z k) →
-      Drawing L direction 0 steps
-  unfolding mesh
-  drawing-none steps e room square fresh =
-      let a = allowed-says L e in
-      record {
-        square = square;
-        within = omega arith;
-        ok = a;
-        room = room;
-        on = λ d same z k. rw (fresh d same z k);
-      }
-
-  module _ (i : ℕ) (steps : List ℕ) (drawing : Drawing L direction i steps) where
-    turn : i < L .count → drop i (splitsOf L) ≡ getD (L .splits) i blank ∷ drop (i + 1) (splitsOf L)
-    turn lt = left-turn (L .splits) (L .count) i (omega arith) blank lt
-
-    -- the next split keeps to its ranges
-    pub drawing-ranges : i < L .count → inRange (L .w) (L .h) (getD (L .splits) i blank) ≡ true
-    drawing-ranges lt =
-        all-at (inRange (L .w) (L .h)) (splitsOf L) (drawing .ok .ranges) _ (left-mem (L .splits) (L .count) i (omega arith) blank lt)
-
-    pub drawing-more : (after : List ℕ) → i < L .count → Square after →
-        ((d : Direction) → number d ≡ direction → (z k : ℕ) →
-        stepOn after z k ≡ (stepOn steps z k || draws (L .w) (L .h) d z k (getD (L .splits) i blank))) →
-        Drawing L direction (i + 1) after
-    drawing-more after lt square drawn =
-        record {
-          square = square;
-          within = omega arith;
-          ok = drawing .ok;
-          room = drawing .room;
-          on = λ d same z k. rw (drawn d same z k, or-assoc) (rw (turn lt) at (drawing .on d same z k));
-        }
-
-    pub drawing-done : L .count ≤ i → (d : Direction) → number d ≡ direction → (z k : ℕ) →
-        stepOn steps z k ≡ meshOf (layoutOf L) d z k
-    drawing-done done d same z k =
-        let none = left-none (L .splits) (L .count) i (omega arith) done in
-        sym (or-false (stepOn steps z k)) ∙ rw none at (drawing .on d same z k)

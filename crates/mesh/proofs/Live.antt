@@ -1,21 +1,19 @@
--- What is left of proper blends, as a table: its members, and that a finer mesh may start from the table in hand.
+-- What is left of proper blends, as a table: its members, and when two tables are equal.
 use Prim.Native.Nat.{ℕ, _≤_}
-use mathlib.Core.Path.{_≡_, sym, ap, _∙_}
-use mathlib.Core.Logic.{⊎-elim}
-use mathlib.Core.Bool.{true, false}
-use mathlib.Core.List.{List, [], List·Memᴰ}
+use mathlib.Core.Path.{_≡_}
+use mathlib.Core.Bool.{true}
+use mathlib.Core.List.{List, List·Memᴰ}
 use Rattle.mesh.specs.Lines.{Mesh}
 use Rattle.mesh.specs.Blends.{once, inTableOrder, leavesOf, refine, place}
-use Rattle.mesh.specs.Order.{Left, Coarser}
-use Rattle.mesh.specs.Sound.{proper, sound, table, ownAnchors, fitted}
+use Rattle.mesh.specs.Order.{Left}
+use Rattle.mesh.specs.Sound.{proper}
 use Rattle.mesh.specs.declared.Blend.{Blend}
-use Rattle.axis.proofs.Tests.{either}
 use Rattle.axis.specs.Range.{Distinct}
 use Rattle.mesh.proofs.Cuts.{proper-rises}
 use Rattle.mesh.proofs.Cuts.{proper-facts, proper-of, proper-within}
-use Rattle.mesh.proofs.Order.{comes-rises, comes-within, Rising, LeftOf, SameMembers, leavesOf-left, left-leavesOf, finer-leaves}
+use Rattle.mesh.proofs.Order.{comes-rises, comes-within, Rising, LeftOf, SameMembers, leavesOf-left, left-leavesOf}
 use Rattle.mesh.proofs.TableOrder.{once-mem, mem-once, once-distinct, order-mem, mem-order, order-distinct}
-use Rattle.mesh.proofs.Places.{proper-anchored, sound-own, own-says}
+use Rattle.mesh.proofs.Places.{proper-anchored}
 use Rattle.mesh.proofs.Ascending.{OwnAnchors, order-ascending}
 use Rattle.axis.proofs.Distinct.{ascending-unique}
 
@@ -56,7 +54,7 @@ module _ (w h : ℕ) (M : Mesh) (bs : List Blend) (ok : AllProper w h bs) where
   unfolding refine
   refine-distinct = order-distinct w h (once (leavesOf M bs)) (once-distinct (leavesOf M bs))
 
--- tables of the same blends are equal where no two of one have one anchor, and so is what a table holds of them in any case
+-- tables of the same blends are equal where no two of one have one anchor
 module _ (w h : ℕ) (hh : h ≤ 128) (xs ys : List Blend) (dx : Distinct xs) (dy : Distinct ys) (ok : AllProper w h xs) (eq : SameMembers xs ys) where
   pub same-table : OwnAnchors (inTableOrder w h xs) → inTableOrder w h xs ≡ inTableOrder w h ys
   same-table owned =
@@ -70,38 +68,3 @@ module _ (w h : ℕ) (hh : h ≤ 128) (xs ys : List Blend) (dx : Distinct xs) (d
 
       own : OwnAnchors xs
       own B C mB mC = owned B C (there B mB) (there C mC)
-
-pub clash-unfit : (bs : List Blend) → ownAnchors bs ≡ false → fitted bs ≡ record { ok = false; table = table [] }
-unfolding fitted
-clash-unfit bs e = rw e
-
-pub same-fitted : (w h : ℕ) → h ≤ 128 → (xs ys : List Blend) → Distinct xs → Distinct ys → AllProper w h xs → SameMembers xs ys →
-    fitted (inTableOrder w h xs) ≡ fitted (inTableOrder w h ys)
-same-fitted w h hh xs ys dx dy ok eq =
-    ⊎-elim (λ o. ap fitted (same-table w h hh xs ys dx dy ok eq (own-says _ o)))
-    (λ o.
-    ⊎-elim (λ t. ap fitted (sym (same-table w h hh ys xs dy dx (λ B m. ok B (eq B .1 m)) (λ C. (eq C .1, eq C .0)) (own-says _ t))))
-    (λ t. clash-unfit (inTableOrder w h xs) o ∙ sym (clash-unfit (inTableOrder w h ys) t)) (either (ownAnchors (inTableOrder w h ys))))
-    (either (ownAnchors (inTableOrder w h xs)))
-
--- Theorem 1 of 001: a finer mesh may cut what the coarser one left.
-module _ (w h : ℕ) (hh : h ≤ 128) (M N : Mesh) (coarser : Coarser M N) (bs : List Blend) (ok : AllProper w h bs) where
-  again : SameMembers (once (leavesOf N (refine w h M bs))) (once (leavesOf N bs))
-  again C =
-      let f = finer-leaves M N coarser bs (refine w h M bs) (rising w h M bs ok) (refine-leaves w h M bs ok) C in (
-        λ m. mem-once (leavesOf N bs) C (f .0 (once-mem (leavesOf N (refine w h M bs)) C m)),
-        λ m. mem-once (leavesOf N (refine w h M bs)) C (f .1 (once-mem (leavesOf N bs) C m)),
-      )
-
-  all-proper : AllProper w h (once (leavesOf N (refine w h M bs)))
-  all-proper C m = leaves-proper w h N (refine w h M bs) (refine-proper w h M bs ok) C (once-mem (leavesOf N (refine w h M bs)) C m)
-
-  pub finer-fitted : fitted (refine w h N (refine w h M bs)) ≡ fitted (refine w h N bs)
-  unfolding refine
-  finer-fitted = same-fitted w h hh (once (leavesOf N (refine w h M bs))) (once (leavesOf N bs)) (once-distinct _) (once-distinct _) all-proper again
-
-  pub finer-table : sound w h (refine w h N (refine w h M bs)) ≡ true → refine w h N (refine w h M bs) ≡ refine w h N bs
-  unfolding refine
-  finer-table s =
-      same-table w h hh (once (leavesOf N (refine w h M bs))) (once (leavesOf N bs)) (once-distinct _) (once-distinct _) all-proper again
-      (sound-own w h _ (λ D m. proper-facts w h D (refine-proper w h N (refine w h M bs) (refine-proper w h M bs ok) D m)) s)

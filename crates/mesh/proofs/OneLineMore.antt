@@ -1,19 +1,21 @@
 -- The mesh of a layout with one split more: which unit steps the split adds.
 use Prim.Native.Nat.{ℕ, _+_, _≤_, _<_}
 use native.Mathlib.Omega.{arith}
-use mathlib.Core.Path.{_≡_, refl, sym, ap, _∙_}
+use mathlib.Core.Path.{_≡_, refl, sym, ap, fun-ext, _∙_}
 use mathlib.Core.Logic.{_⊎_, inl, inr, ⊎-elim}
 use mathlib.Core.Bool.{Bool, true, _||_, or-assoc, or-false}
-use mathlib.Core.List.{[], _∷_}
+use mathlib.Core.List.{List, [], _∷_, _++_}
 use lib.Dec.{ltb, eqb}
 use borrow.Author.Tests.{eqb-true, eq-eqb, leb-true, le-leb, ltb-true, lt-ltb}
 use Rattle.axis.specs.Range.{any}
 use Rattle.axis.specs.Triple.{Side, lower, upper}
 use Rattle.axis.proofs.Tests.{either, and-both, and-of, or-either, or-left, or-right, any-append}
 use Rattle.axis.proofs.Runs.{if-equal}
-use Rattle.mesh.specs.Lines.{Direction, upright, level, number, other, side, direction, mesh, freshMesh, draws, start, end, inRange, Layout, meshOf}
+use Rattle.mesh.specs.Lines.{Direction, upright, level, number, other, side, direction, Mesh, mesh, freshMesh, draws, start, end, inRange, Layout, layout, meshOf}
 use Rattle.mesh.specs.Splits.{withLine}
 use Rattle.mesh.specs.Order.{Coarser}
+use Rattle.mesh.specs.Bytes.{bytesMesh}
+use Rattle.mesh.specs.Carried.{Leads, Bare, Drawn}
 use Rattle.mesh.specs.declared.Split.{Split}
 use Rattle.mesh.proofs.Ranges.{in-range-says}
 
@@ -119,3 +121,17 @@ module _ (P : Layout) (s : Split) where
     step-either e z k on =
         ⊎-elim inl (λ t. inr (draws-says (P .w) (P .h) d s r e z k t))
         (or-either (meshOf P e z k) (draws (P .w) (P .h) e z k s) (sym (more-steps P s e z k) ∙ on))
+
+-- bytes and links with one line more
+pub drawn-more : (w h : ℕ) (ss : List Split) (s : Split) {ups lvs cols rows ups' lvs' cols' rows' : List ℕ} → Drawn (mesh w h ss) ups lvs cols rows →
+    ((e : Direction) (y k : ℕ) → bytesMesh ups' lvs' e y k ≡ (bytesMesh ups lvs e y k || draws w h e y k s)) →
+    ((M N : Mesh) → ((e : Direction) (y k : ℕ) → N e y k ≡ (M e y k || draws w h e y k s)) → Leads (Bare M upright) cols → Leads (Bare M level) rows →
+    Leads (Bare N upright) cols' × Leads (Bare N level) rows') → Drawn (mesh w h (ss ++ s ∷ [])) ups' lvs' cols' rows'
+drawn-more w h ss s was drawn linked =
+    let P = layout w h ss in
+    let leads = linked (mesh w h ss) (mesh w h (ss ++ s ∷ [])) (more-steps P s) (was .over-columns) (was .over-rows) in
+    record {
+      drawn = fun-ext (λ e. fun-ext (λ y. fun-ext (λ k. drawn e y k ∙ rw (was .drawn) (sym (more-steps P s e y k)))));
+      over-columns = leads .0;
+      over-rows = leads .1;
+    }

@@ -107,9 +107,6 @@ module _ (w h : ℕ) (hw : 1 ≤ w) (hh : 1 ≤ h) (M : Mesh) (x y : ℕ) (onx :
       (1 ≤ inQuadrant upper lower x y (live w h M)) × (1 ≤ inQuadrant upper upper x y (live w h M))
   shares = (in-each lower lower, in-each lower upper, in-each upper lower, in-each upper upper)
 
-  pub four-or-more : 4 ≤ length (only (overSquare x y) (live w h M))
-  four-or-more = omega (arith, four-parts, shares)
-
   pub four-of : ((p q : Side) → inQuadrant p q x y (live w h M) ≤ 1) → length (only (overSquare x y) (live w h M)) ≡ 4
   four-of few = omega (arith, four-parts, shares, few lower lower, few lower upper, few upper lower, few upper upper)
 

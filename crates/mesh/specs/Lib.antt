@@ -8,4 +8,5 @@ pub mod Crossings
 pub mod Ends
 pub mod Replay
 pub mod Bytes
+pub mod Carried
 pub mod Examples

@@ -4,8 +4,8 @@ use mathlib.Core.Bool.{Bool, cond, _&&_, _||_}
 use mathlib.Core.List.{List}
 use lib.Dec.{ltb, leb, eqb}
 use lib.ListN.{take}
-use Rattle.axis.specs.Limits.{largestSide, mostSplits}
-use Rattle.axis.specs.Range.{every, some, all, any}
+use Rattle.axis.specs.Limits.{largestSide}
+use Rattle.axis.specs.Range.{every, some, any}
 use Rattle.mesh.specs.declared.Split.{Split}
 use Rattle.mesh.specs.declared.Lines.{Lines}
 
@@ -101,8 +101,3 @@ layoutOf L = layout (L .w) (L .h) (splitsOf L)
 
 abbrev pub meshOf : Layout → Mesh
 meshOf P = mesh (P .w) (P .h) (P .splits)
-
--- sides, count and splits in their ranges
-unfoldable pub allowed : Lines → Bool
-allowed L =
-    allowedSide (L .w) && allowedSide (L .h) && leb (L .count) mostSplits && all (inRange (L .w) (L .h)) (splitsOf L)

@@ -1,11 +1,14 @@
 // Lines and blends: the first of the three layers.
 
-pub mod blends;
+mod carried;
 mod cut;
+mod exact;
 pub mod knots;
-pub mod points;
+mod links;
+mod notes;
 mod read;
 pub mod replay;
+pub mod splits;
 mod steps;
 pub mod tables;
 
@@ -52,5 +55,12 @@ impl Table {
 // A yes with a table of blends, or a no with an empty one.
 pub struct Found {
     pub ok: bool,
+    pub table: Table,
+}
+
+// A split's number; the line that is drawn, and the table of blends after it. On a refusal the split and the table as they came.
+pub struct Step {
+    pub number: usize,
+    pub split: Split,
     pub table: Table,
 }

@@ -4,15 +4,16 @@ use crate::Split;
 use axis::knots::wide;
 ghost use mathlib.Core.Path.{_≡_};
 ghost use mathlib.Core.Bool.{true, _||_};
-ghost use Prim.Native.Nat.{ℕ, _+_, _≤_, _<_, max};
+ghost use Prim.Native.Nat.{ℕ, _+_, _≤_, _<_};
+ghost use lib.ListN.{length};
 ghost use Rattle.axis.specs.Limits.{largestSide};
 ghost use Rattle.axis.specs.Range.{every};
-ghost use Rattle.mesh.specs.Lines.{Direction, number, other, side, start, end, draws, allowedSide, fits, inRange, allowed, freshMesh, layoutOf, meshOf};
-ghost use Rattle.mesh.specs.Bytes.{Square, stepOn, bytesMesh, Drawn, empty};
+ghost use Rattle.mesh.specs.Lines.{Direction, number, other, side, start, end, draws, allowedSide, fits, inRange, freshMesh};
+ghost use Rattle.mesh.specs.Bytes.{Rows, Zeros, stepOn, Drawn};
 
 // Whether the line at knot z is on at each of the n steps from knot b on.
 pub(crate) fn covers(steps: &[u8], z: u8, b: u8, n: u8) -> bool
-    requires { ⌜ Square (now steps) × (z < 131) × (b + n ≤ 131) ⌝ }
+    requires { ⌜ Rows (z + 1) (now steps) × (z < 131) × (b + n ≤ 131) ⌝ }
     ensures { λ r. ⌜ r ≡ every b n (stepOn (now (steps .entry)) z) ⌝ }
 {
     let row = wide(z) * 131;
@@ -30,7 +31,7 @@ pub(crate) fn covers(steps: &[u8], z: u8, b: u8, n: u8) -> bool
 
 // Switches on the steps from knot `from` to knot `to` of the line at knot z.
 pub(crate) fn draw(steps: &mut [u8], z: usize, from: usize, to: usize)
-    requires { ⌜ Square (now steps) × (z < 131) × (to ≤ 131) ⌝ }
+    requires { ⌜ Rows (z + 1) (now steps) × (z < 131) × (to ≤ 131) ⌝ }
     ensures { λ _. ⌜ Drawn (now (steps .entry)) (now (steps .exit)) z from to ⌝ }
 {
     let mut k = from;
@@ -79,35 +80,8 @@ pub(crate) fn allowed_side(side: usize) -> bool
     side <= Lines::LARGEST_SIDE
 }
 
-// Whether sides, count and splits keep to their ranges.
-pub(crate) fn allowed_lines(lines: Lines) -> bool
-    ensures { λ r. ⌜ r ≡ allowed lines ⌝ }
-{
-    let w = lines.w;
-    let h = lines.h;
-    let count = lines.count;
-    if !allowed_side(w) {
-        return false;
-    }
-    if !allowed_side(h) {
-        return false;
-    }
-    if Lines::MOST_SPLITS < count {
-        return false;
-    }
-    let mut i = 0;
-    while i < count {
-        let s = lines.splits[i];
-        if !in_range(w, h, s) {
-            return false;
-        }
-        i += 1;
-    }
-    true
-}
-
 // The first and the last knot of a split: a drawn end at a side runs out.
-fn first_knot(s: Split) -> usize
+pub(crate) fn first_knot(s: Split) -> usize
     requires { ⌜ s .from < largestSide ⌝ }
     ensures { λ r. ⌜ r ≡ start s ⌝ }
 {
@@ -117,7 +91,7 @@ fn first_knot(s: Split) -> usize
     s.from + 1
 }
 
-fn last_knot(run: usize, s: Split) -> usize
+pub(crate) fn last_knot(run: usize, s: Split) -> usize
     requires { ⌜ (s .to ≤ run) × (run ≤ largestSide) ⌝ }
     ensures { λ r. ⌜ (r ≡ end run s) × (r ≤ 130) ⌝ }
 {
@@ -129,9 +103,9 @@ fn last_knot(run: usize, s: Split) -> usize
 
 // Draws a split, with its run-out, if it has the direction.
 pub(crate) fn draw_split(s: Split, direction: usize, run: usize, steps: &mut [u8])
-    requires { ⌜ Square (now steps) × (run ≤ largestSide) ×
+    requires { ⌜ Rows (s .position + 2) (now steps) × (run ≤ largestSide) ×
         (s .direction ≡ direction → (s .position < largestSide) × (s .from < s .to) × (s .to ≤ run)) ⌝ }
-    ensures { λ _. ⌜ Square (now (steps .exit)) ×
+    ensures { λ _. ⌜ (length (now (steps .exit)) ≡ length (now (steps .entry))) ×
         ((d : Direction) (w h : ℕ) → number d ≡ direction → side (other d) w h ≡ run → (z k : ℕ) →
         stepOn (now (steps .exit)) z k ≡ (stepOn (now (steps .entry)) z k || draws w h d z k s)) ⌝ }
 {
@@ -145,8 +119,8 @@ pub(crate) fn draw_split(s: Split, direction: usize, run: usize, steps: &mut [u8
 
 // Draws the fresh map's lines of one direction, over a mesh with none.
 pub(crate) fn draw_fresh(crossed: usize, run: usize, steps: &mut [u8])
-    requires { ⌜ (now steps ≡ empty) × (crossed ≤ largestSide) × (run ≤ largestSide) ⌝ }
-    ensures { λ _. ⌜ Square (now (steps .exit)) ×
+    requires { ⌜ Zeros (now steps) × Rows (crossed + 3) (now steps) × (crossed ≤ largestSide) × (run ≤ largestSide) ⌝ }
+    ensures { λ _. ⌜ (length (now (steps .exit)) ≡ length (now (steps .entry))) ×
         ((d : Direction) (w h : ℕ) → side d w h ≡ crossed → side (other d) w h ≡ run → (z k : ℕ) →
         stepOn (now (steps .exit)) z k ≡ freshMesh w h d z k) ⌝ }
 {
@@ -157,44 +131,4 @@ pub(crate) fn draw_fresh(crossed: usize, run: usize, steps: &mut [u8])
     draw(steps, 1, 0, to);
     draw(steps, far, 0, to);
     draw(steps, beyond, 0, to);
-}
-
-// The side that lines of the direction cross.
-fn side_of(direction: usize, w: usize, h: usize) -> usize
-    ensures { λ r. ⌜ (r ≤ max w h) × ((d : Direction) → number d ≡ direction → side d w h ≡ r) ⌝ }
-{
-    if direction == 0 {
-        return w;
-    }
-    h
-}
-
-// Draws the lines of one direction: the fresh map's, and each split's with its run-out.
-fn draw_lines(lines: Lines, direction: usize, steps: &mut [u8])
-    requires { ⌜ (allowed lines ≡ true) × (direction < 2) × (now steps ≡ empty) ⌝ }
-    ensures { λ _. ⌜ Square (now (steps .exit)) ×
-        ((d : Direction) → number d ≡ direction → (z k : ℕ) → stepOn (now (steps .exit)) z k ≡ meshOf (layoutOf lines) d z k) ⌝ }
-{
-    let w = lines.w;
-    let h = lines.h;
-    let crossed = side_of(direction, w, h);
-    let run = side_of(direction, h, w);
-    draw_fresh(crossed, run, steps);
-    let count = lines.count;
-    let mut i = 0;
-    while i < count {
-        let split = lines.splits[i];
-        draw_split(split, direction, run, steps);
-        i += 1;
-    }
-}
-
-// Draws the mesh of lines, over bytes with no lines.
-pub(crate) fn draw_mesh(lines: Lines, uprights: &mut [u8], levels: &mut [u8])
-    requires { ⌜ (allowed lines ≡ true) × (now uprights ≡ empty) × (now levels ≡ empty) ⌝ }
-    ensures { λ _. ⌜ Square (now (uprights .exit)) × Square (now (levels .exit)) ×
-        (bytesMesh (now (uprights .exit)) (now (levels .exit)) ≡ meshOf (layoutOf lines)) ⌝ }
-{
-    draw_lines(lines, 0, uprights);
-    draw_lines(lines, 1, levels);
 }

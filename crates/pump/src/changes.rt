@@ -7,6 +7,7 @@ use maps::opened::Opened;
 use maps::opened::fresh;
 use mesh::Split;
 ghost use mathlib.Core.Path.{_≡_};
+ghost use mathlib.Core.Bool.{cond};
 ghost use Rattle.maps.specs.Calls.{changed, setValue, exactSplit, lengthenedSplit};
 ghost use Rattle.maps.specs.Opened.{withTable, Opens};
 ghost use Rattle.files.specs.Calls.{readFile};
@@ -65,6 +66,18 @@ pub extern "C" fn pump_set(
     replace(buffer, used, old.number, next)
 }
 
+// A split on the map in the buffer.
+fn split_lent(buffer: &mut [u8], used: &mut usize, s: Split, lengthen: bool) -> usize
+    ensures { λ r. ⌜ (r ≡ changeNumber (λ old. cond lengthen (lengthenedSplit old s) (exactSplit old s)) (now (buffer .entry)) (now (used .entry))) ×
+        (now (buffer .exit) ≡ changeBytes (λ old. cond lengthen (lengthenedSplit old s) (exactSplit old s)) (now (buffer .entry)) (now (used .entry))) ×
+        (now (used .exit) ≡ changeUsed (λ old. cond lengthen (lengthenedSplit old s) (exactSplit old s)) (now (buffer .entry)) (now (used .entry))) ⌝ }
+{
+    let length = *used;
+    let old = read_lent(buffer, length);
+    let next = old.split(s, lengthen);
+    replace(buffer, used, old.number, next)
+}
+
 #[no_mangle]
 pub extern "C" fn pump_exact_split(
     buffer: &mut [u8],
@@ -78,16 +91,13 @@ pub extern "C" fn pump_exact_split(
         (now (buffer .exit) ≡ changeBytes (λ old. exactSplit old (split direction position from to)) (now (buffer .entry)) (now (used .entry))) ×
         (now (used .exit) ≡ changeUsed (λ old. exactSplit old (split direction position from to)) (now (buffer .entry)) (now (used .entry))) ⌝ }
 {
-    let length = *used;
-    let old = read_lent(buffer, length);
     let s = Split {
         direction: direction,
         position: position,
         from: from,
         to: to,
     };
-    let next = old.exact_split(s);
-    replace(buffer, used, old.number, next)
+    split_lent(buffer, used, s, false)
 }
 
 #[no_mangle]
@@ -103,14 +113,11 @@ pub extern "C" fn pump_lengthened_split(
         (now (buffer .exit) ≡ changeBytes (λ old. lengthenedSplit old (split direction position from to)) (now (buffer .entry)) (now (used .entry))) ×
         (now (used .exit) ≡ changeUsed (λ old. lengthenedSplit old (split direction position from to)) (now (buffer .entry)) (now (used .entry))) ⌝ }
 {
-    let length = *used;
-    let old = read_lent(buffer, length);
     let s = Split {
         direction: direction,
         position: position,
         from: from,
         to: to,
     };
-    let next = old.lengthened_split(s);
-    replace(buffer, used, old.number, next)
+    split_lent(buffer, used, s, true)
 }

@@ -20,13 +20,13 @@ returns c =
 is-open : (c : tie.Else1) → Opens (c .before .before .«open» .result)
 is-open c = let o = c .before .before .«open» in is-opened _ (o .result) (o .ensures) (c .if1 .left)
 
-lengthened-split-requires : tie.Need-lengthened-split-requires
-lengthened-split-requires c κs = is-open c
+split-requires : tie.Need-split-requires
+split-requires c κs = is-open c
 
 returns-2 : tie.Need-returns-2
 returns-2 c =
     let o = c .before .before .before .before .«open» in
-    c .without-table2 .ensures ∙ ap (λ (x : Opened). changed (x .number) (x .map)) (c .before .lengthened-split .ensures) ∙ rw (same-map _ (o .result) (o .ensures))
+    c .without-table2 .ensures ∙ ap (λ (x : Opened). changed (x .number) (x .map)) (c .before .split .ensures) ∙ rw (same-map _ (o .result) (o .ensures))
 
 pub lengthened-split-spec : {M : Type 1} → statement M
 lengthened-split-spec =
@@ -35,6 +35,6 @@ lengthened-split-spec =
     (λ c κs. search needs)
     (λ c κs. search needs)
     returns
-    lengthened-split-requires
+    split-requires
     (λ c κs. search needs)
     returns-2)

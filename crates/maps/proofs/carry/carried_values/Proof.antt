@@ -1,195 +1,211 @@
--- `maps::carry::carried_values` meets its contract. The invariant: the values of the blends passed stand in front, and zeros behind them.
-use Prim.Native.Nat.{ℕ, _+_, _-_, _≤_}
+-- `maps::carry::carried_values` meets its contract. The invariant: the values of the blends passed stand in front, and zeros behind them; the old blends passed have no
+-- anchor of a new one that is left.
+use Prim.Native.Nat.{ℕ, _+_, _-_, _≤_, _<_}
 use native.Mathlib.Omega.{arith}
 use mathlib.Core.Path.{_≡_, refl, sym, ap, _∙_}
-use mathlib.Core.Logic.{⊎-elim}
+use mathlib.Core.Logic.{_⊎_, inl, inr, ⊎-elim}
 use mathlib.Core.Bool.{true}
-use mathlib.Core.List.{_++_, map}
-use lib.ListN.{getD, length, length-take, set, take, replicate}
+use mathlib.Core.List.{List, _∷_, _++_, map}
+use lib.ListN.{getD, length, set, take, drop, replicate}
 use lib.Seq.{length-take-le, getD-take}
 use mir.Syntax.{w16}
 use borrow.Author.Needs.{needs, elem-fits}
-use Rattle.mesh.proofs.BlendTables.{table-full, proper-most}
-use Rattle.mesh.specs.declared.Blend.{Blend}
-use Rattle.axis.proofs.Members.{entry}
-use Rattle.maps.proofs.Readings.{Valued, reading-most}
-use Rattle.maps.proofs.AnchorIndex.{OnKnots, on-knots, Indexed, old-valued, count-most, blends-of, values-of, old-indexed, old-table, old-point, noted-most, carried-new, carried-old, fill-more, fill-all}
-use Rattle.mesh.specs.Sound.{proper, none, blendsOf}
-use Rattle.mesh.specs.Blends.{place}
 use Rattle.axis.proofs.Tests.{all-at}
+use Rattle.axis.proofs.Entries.{left-mem}
+use Rattle.mesh.specs.declared.Blend.{Blend}
+use Rattle.mesh.specs.Blends.{place}
+use Rattle.mesh.specs.Sound.{proper, none, blendsOf}
+use Rattle.mesh.proofs.BlendTables.{table-full, blends-turn, blends-end}
 use Rattle.mesh.proofs.Cuts.{proper-facts}
 use Rattle.maps.specs.Plain.{blends}
 use Rattle.maps.specs.Values as Values
 use Rattle.maps.specs.Values.{carried, readingAt}
 use Rattle.maps.specs.Inner.{carriedArray}
+use Rattle.maps.proofs.Readings.{Valued, reading-most}
+use Rattle.maps.proofs.OldTable.{old-valued, count-most, blends-of, values-of, old-table, old-point, fill-more, fill-all}
+use Rattle.maps.proofs.SideBySide.{Walking, walking-none, walking-both, walking-new, none-old, carried-same, carried-read}
 use Rattle.maps.proofs.carry.carried_values.Statement.{statement}
 use Rattle.maps.proofs.carry.carried_values.Tie as tie
 
 abbrev Inv-loop : tie.InvT-loop
-Inv-loop old w h values new index carried₀ count i₀ carried i =
-    (i ≤ count) × (carried ≡ map (Values.carried (blendsOf old) (take (old .count) values)) (take i (blendsOf new)) ++ replicate (1024 - i) 0)
+Inv-loop w h old values new carried₀ before count j₀ i₀ carried j i =
+    (i ≤ count) × (j ≤ before) × (carried ≡ map (Values.carried (blendsOf old) (take (old .count) values)) (take i (blendsOf new)) ++ replicate (1024 - i) 0) ×
+    Walking (blendsOf old) (blendsOf new) j i
 
 abbrev μ-loop : tie.MeasureT-loop
-μ-loop old w h values new index carried₀ count i₀ carried i = count - i
+μ-loop w h old values new carried₀ before count j₀ i₀ carried j i = count - i
 
 -- the arrays are full, and the old values fit their type
-full : (c : tie.Start Inv-loop μ-loop) → (length (c .args .t2) ≡ 1024) × (length (c .args .t3 .blends) ≡ 1024)
-full c = (c .good .1 .0 .1 .0 .1, table-full (c .args .t3) (c .good .1 .1 .0))
+full : (s : tie.Start Inv-loop μ-loop) → (length (s .args .t1 .blends) ≡ 1024) × (length (s .args .t2) ≡ 1024) × (length (s .args .t3 .blends) ≡ 1024)
+full s = (table-full (s .args .t1) (s .good .0), s .good .1 .0 .1 .0 .1, table-full (s .args .t3) (s .good .1 .1 .0))
 
-valued : (c : tie.Start Inv-loop μ-loop) → Valued (c .pre .0 .of)
-valued c =
-    old-valued (c .pre .0) (full c .0)
-    (λ i. elem-fits w16 w16 (c .args .t2) _ i (c .good .1 .0 .1 .1) tt .fits)
+valued : (s : tie.Start Inv-loop μ-loop) → Valued (s .pre .0 .of)
+valued s = old-valued (s .pre .0) (full s .1) (λ i. elem-fits w16 w16 (s .args .t2) _ i (s .good .1 .0 .1 .1) tt .fits)
 
-index-anchors-requires : tie.Need-index-anchors-requires Inv-loop μ-loop
-index-anchors-requires c κs =
-    let s = c .before in
-    let old = s .pre .0 in
-    (refl, count-most old, proper-most (s .args .w) (s .args .h) (blendsOf (s .args .old)) (old .sides .1) (old .sides .3) (old-table old .0))
+few : (s : tie.Start Inv-loop μ-loop) → s .args .t1 .count ≤ 1024
+few s = count-most (s .pre .0)
 
 loop-holds : tie.Need-loop-holds Inv-loop μ-loop
-loop-holds c = (omega arith, refl)
+loop-holds c = (omega arith, omega arith, refl, walking-none _ _ (c .pre .3))
 
--- in a turn, the next blend, whose anchor is on knots of the domain
+-- in a turn, the next blend of either table
 abbrev next : tie.In-loop Inv-loop μ-loop → Blend
-next c = getD (c .before .before .before .before .before .args .t3 .blends) (c .before .loop .i) none
+next c = getD (c .before .before .args .t3 .blends) (c .before .loop .i) none
 
-next-proper : (c : tie.In-loop Inv-loop μ-loop) → let a = c .before .before .before .before .before .args in proper (a .w) (a .h) (next c) ≡ true
+abbrev next-old : tie.In-loop Inv-loop μ-loop → Blend
+next-old c = getD (c .before .before .args .t1 .blends) (c .before .loop .j) none
+
+turn : (c : tie.In-loop Inv-loop μ-loop) → let new = c .before .before .args .t3 in drop (c .before .loop .i) (blendsOf new) ≡ next c ∷ drop
+    (c .before .loop .i + 1) (blendsOf new)
+turn c = let s = c .before .before in blends-turn (s .args .t3) (c .before .loop .i) (c .loop-test .taken) (omega (arith, s .pre .1, full s .2))
+
+old-turn : (c : tie.In-loop Inv-loop μ-loop) → let old = c .before .before .args .t1 in c .before .loop .j < old .count →
+    drop (c .before .loop .j) (blendsOf old) ≡ next-old c ∷ drop (c .before .loop .j + 1) (blendsOf old)
+old-turn c lt = let s = c .before .before in blends-turn (s .args .t1) (c .before .loop .j) lt (omega (arith, few s, full s .0))
+
+next-proper : (c : tie.In-loop Inv-loop μ-loop) → let a = c .before .before .args in proper (a .w) (a .h) (next c) ≡ true
 next-proper c =
-    let s = c .before .before .before .before .before in
-    let long = length-take-le (s .args .t3 .count) (s .args .t3 .blends) (omega (arith, full s .1)) in
+    let s = c .before .before in
     all-at (proper (s .args .w) (s .args .h)) (blendsOf (s .args .t3)) (s .pre .2) (next c)
-    (rw (getD-take (s .args .t3 .count) (s .args .t3 .blends) (c .before .loop .i) none (c .loop-test .taken)) at
-    (entry (blendsOf (s .args .t3)) (c .before .loop .i) none (omega (arith, long))))
+    (left-mem (s .args .t3 .blends) (s .args .t3 .count) (c .before .loop .i) (omega (arith, s .pre .1, full s .2)) none (c .loop-test .taken))
 
-knots : (c : tie.In-loop Inv-loop μ-loop) → let a = c .before .before .before .before .before .args in
-    (1 ≤ next c .across .m) × (next c .across .m - 1 ≤ a .w) × (1 ≤ next c .up .m) × (next c .up .m - 1 ≤ a .h)
+old-proper : (c : tie.In-loop Inv-loop μ-loop) → let a = c .before .before .args in c .before .loop .j < a .t1 .count → proper (a .w) (a .h) (next-old c) ≡ true
+old-proper c lt =
+    let s = c .before .before in
+    all-at (proper (s .args .w) (s .args .h)) (blendsOf (s .args .t1)) (old-table (s .pre .0) .0) (next-old c)
+    (left-mem (s .args .t1 .blends) (s .args .t1 .count) (c .before .loop .j) (omega (arith, few s, full s .0)) none lt)
+
+knots : (c : tie.In-loop Inv-loop μ-loop) → let a = c .before .before .args in
+    (1 ≤ next c .across .m) × (next c .across .m - 1 ≤ a .w) × (1 ≤ next c .up .m) × (next c .up .m - 1 ≤ a .h) × (next c .up .m < 131)
 knots c =
-    let s = c .before .before .before .before .before in
+    let s = c .before .before in
     let p = proper-facts (s .args .w) (s .args .h) (next c) (next-proper c) in
     let across = p .across in
     let up = p .up in
-    (omega arith, omega arith, omega arith, omega arith)
-
-on : (c : tie.In-loop Inv-loop μ-loop) → OnKnots (next c)
-on c =
-    let s = c .before .before .before .before .before in
     let sides = s .pre .0 .sides in
-    on-knots (s .args .w) (s .args .h) (next c) (sides .1) (sides .3) (next-proper c)
+    (omega arith, omega arith, omega arith, omega arith, omega arith)
 
--- what the index notes of it
-noted : (c : tie.In-loop Inv-loop μ-loop) →
-    Indexed (c .before .before .before .index-anchors .last .1 .0) (blendsOf (c .before .before .before .before .before .args .old))
-noted c =
-    let s = c .before .before .before .before .before in
-    old-indexed (s .pre .0) _ _ refl (c .before .before .before .index-anchors .ensures)
+-- the place of the next old blend, or 0 where none is left
+next-is : (c : tie.Joined1 Inv-loop μ-loop) → let t = c .before .before in let a = t .before .before .args in
+    ((t .before .loop .j < a .t1 .count) × (c .if1 .next ≡ place (next-old t))) ⊎ ((a .t1 .count ≤ t .before .loop .j) × (c .if1 .next ≡ 0))
+next-is c = ⊎-elim (λ w. inl (w .0 .taken, w .3 ∙ w .2 .ensures)) (λ w. inr (w .0 .left, w .1)) (c .if1 .came)
 
-most : (c : tie.In-loop Inv-loop μ-loop) →
-    let old = c .before .before .before .before .before .args .old in
-    (getD (c .before .before .before .index-anchors .last .1 .0) (place (next c)) 0 ≤ old .count) × (old .count ≤ 1024)
-most c =
-    let s = c .before .before .before .before .before in
-    let old = s .pre .0 in
-    let a = s .args in
-    (omega (arith, noted-most _ (blendsOf (a .old)) (noted c) (next c) (on c), length-take (a .old .count) (a .old .blends)), count-most old)
+-- the two are at one anchor,
+met : (c : tie.Then2 Inv-loop μ-loop) → let t = c .before .before .before .before in (t .before .loop .j < t .before .before .args .t1 .count) × (place
+    (next-old t) ≡ place (next t))
+met c =
+    let t = c .before .before .before .before in
+    let here = c .before .place2 .ensures in
+    ⊎-elim (λ r. (r .0, sym (r .1) ∙ sym (c .if2 .taken) ∙ here)) (λ r. absurd (omega (arith, c .if2 .taken, r .1, here, knots t .0))) (next-is
+    (c .before .before))
 
-mul-place : tie.Need-mul-place Inv-loop μ-loop
-mul-place c = omega (arith, c .place .ensures, on (c .before .before) .in-square)
+-- or the next new one is at none of the old
+apart : (c : tie.Else2 Inv-loop μ-loop) → let t = c .before .before .before .before in (y : Blend) (olds : List Blend) → drop (t .before .loop .j) (blendsOf
+    (t .before .before .args .t1)) ≡ y ∷ olds →
+    place y ≡ place (next t) → ⊥
+apart c y olds e same =
+    let t = c .before .before .before .before in
+    let here = c .before .place2 .ensures in
+    ⊎-elim
+    (λ r. let q = ap (λ (xs : List Blend). getD xs 0 none) (sym (old-turn t (r .0)) ∙ e) in c .if2 .left (here ∙ sym same ∙ ap place (sym q) ∙ sym (r .1)))
+    (λ r. let q = ap length (sym (blends-end (t .before .before .args .t1) (t .before .loop .j) (r .0)) ∙ e) in omega arith)
+    (next-is (c .before .before))
 
-array-read-place : tie.Need-array-read-place Inv-loop μ-loop
-array-read-place c = omega (arith, c .place .ensures, on (c .before .before) .in-square)
-
--- what is read there
-read : (c : tie.After-place Inv-loop μ-loop) →
-    let index = c .before .before .before .before .before .index-anchors .last .1 .0 in
-    getD index (c .place .result) 0 ≡ getD index (place (next (c .before .before))) 0
-read c = rw (c .place .ensures)
-
-cast-place : tie.Need-cast-place Inv-loop μ-loop
-cast-place c = omega (arith, read c, most (c .before .before))
+array-read-carried : tie.Need-array-read-carried Inv-loop μ-loop
+array-read-carried c = let s = c .before .before .before .before .before .before in omega (arith, met c .0, few s, full s .1)
 
 sub-reading-of : tie.Need-sub-reading-of Inv-loop μ-loop
-sub-reading-of c = omega (arith, c .before .wide .ensures, knots (c .before .before .before .before .before) .0)
+sub-reading-of c = omega (arith, c .before .wide .ensures, knots (c .before .before .before .before .before .before) .0)
 
 sub-reading-of-2 : tie.Need-sub-reading-of-2 Inv-loop μ-loop
-sub-reading-of-2 c = omega (arith, c .wide2 .ensures, knots (c .before .before .before .before .before) .2)
+sub-reading-of-2 c = omega (arith, c .wide2 .ensures, knots (c .before .before .before .before .before .before) .2)
 
 reading-of-requires : tie.Need-reading-of-requires Inv-loop μ-loop
 reading-of-requires c κs =
-    let t = c .before .before .before .before .before in
-    let k = knots t in
-    old-point (t .before .before .before .before .before .pre .0) _ _ (rw (c .before .wide .ensures) (k .1)) (rw (c .wide2 .ensures) (k .3))
+    let k = knots (c .before .before .before .before .before .before) in old-point
+    (c .before .before .before .before .before .before .before .before .pre .0) _ _ (rw (c .before .wide .ensures) (k .1)) (rw (c .wide2 .ensures) (k .3))
 
 -- the reading at the next blend's anchor
 taken : (c : tie.After-reading-of Inv-loop μ-loop) →
-    let t = c .before .before .before .before .before .before in
-    let a = t .before .before .before .before .before .args in
-    c .reading-of .result ≡ readingAt (blendsOf (a .old)) (take (a .old .count) (a .t2)) (next t .across .m - 1) (next t .up .m - 1)
+    let t = c .before .before .before .before .before .before .before in
+    let a = t .before .before .args in
+    c .reading-of .result ≡ readingAt (blendsOf (a .t1)) (take (a .t1 .count) (a .t2)) (next t .across .m - 1) (next t .up .m - 1)
 taken c = rw (c .before .before .wide .ensures, c .before .wide2 .ensures) at (c .reading-of .ensures)
 
 cast-carried : tie.Need-cast-carried Inv-loop μ-loop
 cast-carried c =
-    let t = c .before .before .before .before .before .before in
-    let s = t .before .before .before .before .before in
+    let t = c .before .before .before .before .before .before .before in
+    let s = t .before .before in
     let old = s .pre .0 in
     let k = knots t in
     let x = next t in
     let u : x .across .m - 1 ≤ old .of .lines .w = rw (old .across) (k .1) in
     let v : x .up .m - 1 ≤ old .of .lines .h = rw (old .up) (k .3) in
-    let is : c .reading-of .result ≡ readingAt (blends (old .of)) (old .of .values) (x .across .m - 1) (x .up .m - 1) = rw (blends-of old, values-of old) at (taken c) in
+    let is : c .reading-of .result ≡ readingAt (blends (old .of)) (old .of .values) (x .across .m - 1) (x .up .m - 1) = rw (blends-of old, values-of old) at
+    (taken c) in
     omega (arith, is, reading-most (old .of) (valued s) (x .across .m - 1) (x .up .m - 1) u v)
-
-sub-carried : tie.Need-sub-carried Inv-loop μ-loop
-sub-carried c = let ne = c .if1 .left in omega arith
-
-mul-carried-2 : tie.Need-mul-carried-2 Inv-loop μ-loop
-mul-carried-2 c = omega (arith, read (c .before), most (c .before .before .before))
-
-array-read-carried : tie.Need-array-read-carried Inv-loop μ-loop
-array-read-carried c = omega (arith, read (c .before), most (c .before .before .before), c .if1 .left)
 
 -- the value of the next blend joins those in front
 fill : (c : tie.In-loop Inv-loop μ-loop) (v : ℕ) →
-    let a = c .before .before .before .before .before .args in
+    let a = c .before .before .args in
     let l = c .before .loop in
-    let f = carried (blendsOf (a .old)) (take (a .old .count) (a .t2)) in
+    let f = carried (blendsOf (a .t1)) (take (a .t1 .count) (a .t2)) in
     v ≡ f (next c) → set (l .carried) (l .i) v ≡ map f (take (l .i + 1) (blendsOf (a .t3))) ++ replicate (1024 - (l .i + 1)) 0
 fill c v e =
-    let s = c .before .before .before .before .before in
+    let s = c .before .before in
     let l = c .before .loop in
     let new = s .args .t3 in
-    let long = length-take-le (new .count) (new .blends) (omega (arith, full s .1)) in
-    rw (l .inv .1)
-    (fill-more (carried (blendsOf (s .args .old)) (take (s .args .old .count) (s .args .t2))) (blendsOf new) (l .i) none (omega (arith, long)) (omega (arith, long)) v
+    let long = length-take-le (new .count) (new .blends) (omega (arith, s .pre .1, full s .2)) in
+    rw (l .inv .2)
+    (fill-more (carried (blendsOf (s .args .t1)) (take (s .args .t1 .count) (s .args .t2))) (blendsOf new) (l .i) none (omega (
+      arith,
+      long,
+      c .loop-test .taken,
+    )) (omega (arith, long, s .pre .1)) v
     (e ∙ rw (getD-take (new .count) (new .blends) (l .i) none (c .loop-test .taken))))
 
 loop-again : tie.Need-loop-again Inv-loop μ-loop
 loop-again c =
-    let p = c .before in
-    let t = p .before .before in
-    let a = t .before .before .before .before .before .args in (
+    let t = c .before .before .before .before in
+    let s = c .before .before .before .before .before .before in
+    let a = s .args in
+    let l = c .before .before .before .before .before .loop in
+    let grown = s .pre .3 in
+    let lt = t .loop-test .taken in
+    let vs = take (a .t1 .count) (a .t2) in
+    ⊎-elim
+    (λ w.
+    let both = met (record { before = c .before; if2 = w .0 }) in
+    let long = length-take-le (a .t1 .count) (a .t1 .blends) (omega (arith, few s, full s .0)) in
+    let old-up = proper-facts (a .w) (a .h) (next-old t) (old-proper t (both .0)) .up in
+    let sides = s .pre .0 .sides in
+    let value = carried-same (blendsOf (a .t1)) (grown .rising) vs (next t) (knots t .4) (l .j) (next-old t) _ (omega (arith, both .0, long)) (old-turn t
+    (both .0)) (both .1) (omega arith) in (
       omega arith,
-      ⊎-elim
-          (λ w.
-          w .4 ∙ fill t _
-          (taken (record { before = record { before = record { before = record { before = p; if1 = w .0 }; wide = w .1 }; wide2 = w .2 }; reading-of = w .3 }) ∙
-          sym (carried-new _ (blendsOf (a .old)) (noted t) (next t) (on t) _ (sym (read p) ∙ w .0 .taken))))
-          (λ w.
-          let i = getD (t .before .before .before .index-anchors .last .1 .0) (place (next t)) 0 in
-          let ne : i ≡ 0 → ⊥ = λ z. w .0 .left (read p ∙ z) in
-          w .1 ∙ fill t _
-          (ap (λ (n : ℕ). getD (a .t2) (n - 1) 0) (read p) ∙ sym (getD-take (a .old .count) (a .t2) (i - 1) 0 (omega (arith, most t .0))) ∙ sym (carried-old _ (blendsOf (a .old)) (noted t) (next t) (on t) _ ne)))
-          (c .if1 .came),
-    )
+      omega (arith, w .2, both .0),
+      w .1 ∙ fill t _ (sym (getD-take (a .t1 .count) (a .t2) (l .j) 0 (both .0)) ∙ sym value),
+      rw (w .2) (walking-both _ _ grown (l .inv .3) (turn t) (old-turn t (both .0)) (both .1)),
+    ))
+    (λ w.
+    let other = apart (record { before = c .before; if2 = w .0 }) in
+    let reads = taken
+    (record { before = record { before = record { before = record { before = c .before; if2 = w .0 }; wide = w .1 }; wide2 = w .2 }; reading-of = w .3 }) in
+    let value = carried-read (blendsOf (a .t1)) (grown .rising) vs (next t) (knots t .4) (none-old _ _ grown (l .inv .3) (turn t) other) in (
+      omega arith,
+      rw (w .5) (l .inv .1),
+      w .4 ∙ fill t _ (reads ∙ sym value),
+      rw (w .5) (walking-new _ _ grown (l .inv .3) (turn t) other),
+    ))
+    (c .if2 .came)
 
 returns : tie.Need-returns Inv-loop μ-loop
 unfolding carriedArray
 returns c =
     let l = c .before .loop in
-    let s = c .before .before .before .before .before in
+    let s = c .before .before in
     let new = s .args .t3 in
-    let long = length-take-le (new .count) (new .blends) (omega (arith, full s .1)) in
-    l .inv .1 ∙ fill-all _ (blendsOf new) (l .i) (omega (arith, long))
+    let long = length-take-le (new .count) (new .blends) (omega (arith, s .pre .1, full s .2)) in
+    l .inv .2 ∙ fill-all _ (blendsOf new) (l .i) (omega (arith, long, c .loop-test .left))
 
 pub carried-values-spec : {M : Type 1} → statement M
 carried-values-spec =
@@ -197,29 +213,35 @@ carried-values-spec =
     (tie.spec
     Inv-loop
     μ-loop
-    (λ c. search needs)
-    index-anchors-requires
     loop-holds
     (λ c. omega arith)
-    (λ c. omega arith)
-    (λ c κs. tt)
-    mul-place
-    array-read-place
-    cast-place
-    (λ c κs. tt)
-    (λ c κs. tt)
+    (λ c. let s = c .before .before in omega (arith, c .loop-test .taken, s .pre .1, full s .2))
+    (λ c. let s = c .before .before .before .before in omega (arith, c .if1 .taken, few s))
+    (λ c. let s = c .before .before .before .before in omega (arith, c .if1 .taken, few s, full s .0))
+    (λ c κs. search needs)
+    (λ c κs. search needs)
+    (λ c. let s = c .before .before .before .before .before .before in omega (arith, met c .0, few s))
+    array-read-carried
+    (λ c. let s = c .before .before .before .before .before .before in omega (arith, c .before .before .before .before .loop-test .taken, s .pre .1))
+    (λ c. let s = c .before .before .before .before .before .before in omega (arith, c .before .before .before .before .loop-test .taken, s .pre .1))
+    (λ c. let s = c .before .before .before .before .before .before in omega (arith, met c .0, few s))
+    (λ c κs. search needs)
+    (λ c κs. search needs)
     sub-reading-of
     sub-reading-of-2
     reading-of-requires
     cast-carried
-    (λ c. omega arith)
-    (λ c. omega arith)
-    sub-carried
-    mul-carried-2
-    array-read-carried
-    (λ c. omega arith)
-    (λ c. omega arith)
-    (λ c. omega arith)
-    (λ c. omega arith)
+    (λ c. let s = c .before .before .before .before .before .before .before .before .before in omega (
+      arith,
+      c .before .before .before .before .before .before .before .loop-test .taken,
+      s .pre .1,
+    ))
+    (λ c. let s = c .before .before .before .before .before .before .before .before .before in omega (
+      arith,
+      c .before .before .before .before .before .before .before .loop-test .taken,
+      s .pre .1,
+    ))
+    (λ c. let s = c .before .before .before .before .before .before in omega (arith, c .before .before .before .before .loop-test .taken, s .pre .1))
+    (λ c. omega (arith, c .before .before .before .before .loop-test .taken))
     loop-again
     returns)

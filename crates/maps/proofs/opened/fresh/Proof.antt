@@ -14,7 +14,8 @@ use Rattle.maps.specs.Record.{linesOf, recordOf}
 use Rattle.maps.specs.Calls.{freshMap}
 use Rattle.maps.specs.Opened.{tableOf, withTable}
 use Rattle.maps.proofs.Opening.{good-table}
-use Rattle.maps.proofs.GoodRecords.{replays-sides, record-good, fresh-holds}
+use Rattle.maps.proofs.GoodRecords.{record-good, fresh-holds}
+use Rattle.mesh.proofs.Accepted.{replays-sides}
 use Rattle.maps.proofs.opened.fresh.Statement.{statement}
 use Rattle.maps.proofs.opened.fresh.Tie as tie
 

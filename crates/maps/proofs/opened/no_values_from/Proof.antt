@@ -1,21 +1,22 @@
--- `maps::opened::no_values_from` meets its contract. The invariant: the values from `i` on decide the whole answer.
+-- `maps::opened::no_values_from` meets its contract. The invariant: what was seen, and the values from `i` on, decide the whole answer.
 use Prim.Native.Nat.{_+_, _-_}
-use mathlib.Core.Path.{_≡_, refl, sym, _∙_}
+use mathlib.Core.Path.{_≡_, refl, sym, ap, _∙_}
+use mathlib.Core.Logic.{⊎-elim}
 use lib.ListN.{drop, getD, length}
 use Rattle.axis.specs.Range.{all}
 use Rattle.maps.specs.Record.{isZero}
 use Rattle.axis.proofs.Entries.{rest-turn, rest-none}
 use borrow.Author.Tests.{eq-eqb, ne-eqb}
-use mathlib.Core.Bool.{_&&_}
+use mathlib.Core.Bool.{Bool, _&&_, and-true, and-false}
 use native.Mathlib.Omega.{arith}
 use Rattle.maps.proofs.opened.no_values_from.Statement.{statement}
 use Rattle.maps.proofs.opened.no_values_from.Tie as tie
 
 abbrev Inv-loop : tie.InvT-loop
-Inv-loop from values i₀ i = all isZero (drop from values) ≡ all isZero (drop i values)
+Inv-loop from values none₀ i₀ none i = all isZero (drop from values) ≡ (none && all isZero (drop i values))
 
 abbrev μ-loop : tie.MeasureT-loop
-μ-loop from values i₀ i = 1024 - i
+μ-loop from values none₀ i₀ none i = 1024 - i
 
 full : (c : tie.Start Inv-loop μ-loop) → length (c .args .t1) ≡ 1024
 full c = c .good .0 .1 .0 .1
@@ -23,22 +24,23 @@ full c = c .good .0 .1 .0 .1
 -- what one value, and those after it, say of the whole
 turn : (c : tie.In-loop Inv-loop μ-loop) →
     let a = c .before .before .args in
-    all isZero (drop (a .from) (a .t1)) ≡
-    (isZero (getD (a .t1) (c .before .loop .i) 0) && all isZero (drop (c .before .loop .i + 1) (a .t1)))
+    let l = c .before .loop in
+    all isZero (drop (a .from) (a .t1)) ≡ (l .none && (isZero (getD (a .t1) (l .i) 0) && all isZero (drop (l .i + 1) (a .t1))))
 turn c =
     let n = full (c .before .before) in
-    c .before .loop .inv ∙ rest-turn isZero (c .before .before .args .t1) (c .before .loop .i) 0 (omega arith)
-
-returns : tie.Need-returns Inv-loop μ-loop
-returns c = sym (turn (c .before) ∙ rw (ne-eqb _ _ (c .if1 .taken)))
+    let l = c .before .loop in
+    l .inv ∙ ap (λ (b : Bool). l .none && b) (rest-turn isZero (c .before .before .args .t1) (l .i) 0 (omega arith))
 
 loop-again : tie.Need-loop-again Inv-loop μ-loop
-loop-again c = turn (c .before) ∙ rw (eq-eqb _ _ (c .if1 .left))
+loop-again c =
+    ⊎-elim (λ w. turn (c .before) ∙ rw (w .1, ne-eqb _ _ (w .0 .taken)) (and-false (c .before .before .loop .none)))
+    (λ w. turn (c .before) ∙ rw (w .1, eq-eqb _ _ (w .0 .left))) (c .if1 .came)
 
-returns-2 : tie.Need-returns-2 Inv-loop μ-loop
-returns-2 c =
+returns : tie.Need-returns Inv-loop μ-loop
+returns c =
     let n = full (c .before .before) in
-    sym (c .before .loop .inv ∙ rest-none _ (c .before .before .args .t1) (c .before .loop .i) (omega arith))
+    let l = c .before .loop in
+    sym (l .inv ∙ rw (rest-none isZero (c .before .before .args .t1) (l .i) (omega arith)) (and-true (l .none)))
 
 pub no-values-from-spec : {M : Type 1} → statement M
 no-values-from-spec =
@@ -49,8 +51,7 @@ no-values-from-spec =
     (λ c. refl)
     (λ c. record { fits = omega arith })
     (λ c. omega arith)
-    returns
     (λ c. record { fits = omega arith })
     (λ c. omega arith)
     loop-again
-    returns-2)
+    returns)

@@ -18,7 +18,7 @@ use Rattle.maps.specs.declared.values.Four.{Four}
 use Rattle.maps.specs.Values.{readingAt}
 use Rattle.maps.specs.Pairs.{countedPairs}
 use Rattle.maps.specs.Inner.{AtPoint, entries, entriesOver, AllListed, withPair}
-use Rattle.maps.proofs.AnchorIndex.{count-most, old-table, old-point}
+use Rattle.maps.proofs.OldTable.{count-most, old-table, old-point}
 use Rattle.maps.proofs.OverSquare.{four-over, all-listed}
 use Rattle.maps.proofs.Adding.{table-over}
 use Rattle.maps.proofs.Walking.{FourOf, four-stay, in-walk, side-most, noted-few, noting, noting-all, noting-turn, noting-done}

@@ -1,6 +1,7 @@
 -- `mesh::cut::cut_across` and `mesh::cut::cut_up` meet their contracts, together. Each hands the halves of a cut to the other, or the blend
 -- as it is where it does not cut it, or keeps it where `tried` tells that the other does not either. The measure is `ahead`.
 use Prim.Native.Nat.{ℕ, _<_}
+use native.Mathlib.Omega.{arith}
 use borrow.Author.Needs.{needs}
 use borrow.Fn.Kinds.{In}
 use borrow.Fn.PlainCycle.{Measures, is, falls, and}
@@ -83,14 +84,14 @@ cut-across-found : (t : ℕ) (c : cut-across-lts.Then1 (cut-across-claims t) (cu
     let a = c .before .before .before .before .before .before .before .before .args in
     Found (bytesMesh (a .uprights .now) (a .levels .now)) upright (a .x) (c .before .first-line .result)
 unfolding bytesMesh
-cut-across-found t c = record { ok = c .before .before .before .before .before .before .before .before .pre .1 .3; is = c .before .first-line .ensures; some = c .if1 .taken }
+cut-across-found t c = record { ok = c .before .before .before .before .before .before .before .before .pre .1 .1; is = c .before .first-line .ensures; some = c .if1 .taken }
 
 cut-across-cut-up-requires : (t : ℕ) → cut-across-lts.Need-cut-up-requires (cut-across-claims t) (cut-across-at t) cut-across.Post
 cut-across-cut-up-requires t c κs =
     let cut = c .before .before in
     let b = cut .before .before .before .before .before .before .before .before in
     let h = half-asks (cut-across-found t cut) (b .args .tried) t (b .pre .0) lower _ (c .before .lower-half .ensures) in
-    (h .0, (b .pre .1 .0, b .pre .1 .1, b .pre .1 .2, h .1, h .2))
+    (h .0, ((omega arith, omega arith, omega arith), h .1, h .2))
 
 cut-across-upper-half-requires : (t : ℕ) → cut-across-lts.Need-upper-half-requires (cut-across-claims t) (cut-across-at t) cut-across.Post
 cut-across-upper-half-requires t c κs = search needs
@@ -101,7 +102,8 @@ cut-across-cut-up-requires-2 t c κs =
     let cut = one .before .before .before in
     let b = cut .before .before .before .before .before .before .before .before in
     let h = half-asks (cut-across-found t cut) (b .args .tried) t (b .pre .0) upper _ (c .before .upper-half .ensures) in
-    (h .0, (b .pre .1 .0, b .pre .1 .1, one .cut-up .kept .1 .1 .1 .1 .0 ∙ b .pre .1 .2, h .1, h .2))
+    let long = one .cut-up .kept .1 .1 .1 .1 .0 in
+    (h .0, ((omega arith, omega arith, omega arith), h .1, h .2))
 
 cut-across-same-length : (t : ℕ) → cut-across-lts.Need-same-length (cut-across-claims t) (cut-across-at t) cut-across.Post
 cut-across-same-length t c = c .before .before .cut-up2 .kept .1 .1 .1 .1 .0 ∙ c .before .before .before .before .before .before .before .cut-up .kept .1 .1 .1 .1 .0
@@ -114,12 +116,12 @@ cut-across-returns t c =
     let lo = one .before .before in
     let b = lo .before .before .before .before .before .before .before .before .before in
     cut-halves (cut-across-found t (lo .before)) (b .args .tried) _ _ (b .args .places .now) (one .cut-up .last .1 .1 .1 .1 .0) (two .cut-up2 .last .1 .1 .1 .1 .0)
-    (b .pre .1 .4) (lo .lower-half .ensures) (hi .upper-half .ensures) (one .cut-up .ensures) (two .cut-up2 .ensures)
+    (b .pre .1 .2) (lo .lower-half .ensures) (hi .upper-half .ensures) (one .cut-up .ensures) (two .cut-up2 .ensures)
 
 cut-across-keep-blend-requires : (t : ℕ) → cut-across-lts.Need-keep-blend-requires (cut-across-claims t) (cut-across-at t) cut-across.Post
 cut-across-keep-blend-requires t c κs =
     let b = c .before .before .before .before .before .before .before .before .before .before in
-    (b .pre .1 .2, b .pre .1 .3)
+    (omega arith, b .pre .1 .1)
 
 cut-across-same-length-2 : (t : ℕ) → cut-across-lts.Need-same-length-2 (cut-across-claims t) (cut-across-at t) cut-across.Post
 cut-across-same-length-2 t c = c .before .before .keep-blend .kept .0
@@ -135,7 +137,7 @@ cut-across-returns-2 t c =
     let a = b .args in
     rw (told .if2 .taken)
     (cut-kept (bytesMesh (a .uprights .now) (a .levels .now)) level (a .x) (a .places .now) (kept .keep-blend .last .0)
-    (b .pre .1 .4 (told .if2 .taken)) (sym (line .first-line .ensures) ∙ none .if1 .left) (kept .keep-blend .ensures))
+    (b .pre .1 .2 (told .if2 .taken)) (sym (line .first-line .ensures) ∙ none .if1 .left) (kept .keep-blend .ensures))
 
 cut-across-cut-up-requires-3 : (t : ℕ) → cut-across-lts.Need-cut-up-requires-3 (cut-across-claims t) (cut-across-at t) cut-across.Post
 unfolding bytesMesh
@@ -145,7 +147,7 @@ cut-across-cut-up-requires-3 t c κs =
     let b = line .before .before .before .before .before .before .before in
     let uncut = sym (line .first-line .ensures) ∙ none .if1 .left in (
       handed-ahead (b .args .x) (b .args .tried) t (b .pre .0) (c .before .if2 .left),
-      (b .pre .1 .0, b .pre .1 .1, b .pre .1 .2, b .pre .1 .3, λ _. uncut),
+      (b .pre .1 .0, b .pre .1 .1, λ _. uncut),
     )
 
 cut-across-same-length-3 : (t : ℕ) → cut-across-lts.Need-same-length-3 (cut-across-claims t) (cut-across-at t) cut-across.Post
@@ -167,14 +169,14 @@ cut-up-found : (t : ℕ) (c : cut-up-lts.Then1 (cut-up-claims t) (cut-up-at t) c
     let a = c .before .before .before .before .before .before .before .before .args in
     Found (bytesMesh (a .uprights .now) (a .levels .now)) level (a .x) (c .before .first-line .result)
 unfolding bytesMesh
-cut-up-found t c = record { ok = c .before .before .before .before .before .before .before .before .pre .1 .3; is = c .before .first-line .ensures; some = c .if1 .taken }
+cut-up-found t c = record { ok = c .before .before .before .before .before .before .before .before .pre .1 .1; is = c .before .first-line .ensures; some = c .if1 .taken }
 
 cut-up-cut-across-requires : (t : ℕ) → cut-up-lts.Need-cut-across-requires (cut-up-claims t) (cut-up-at t) cut-up.Post
 cut-up-cut-across-requires t c κs =
     let cut = c .before .before in
     let b = cut .before .before .before .before .before .before .before .before in
     let h = half-asks (cut-up-found t cut) (b .args .tried) t (b .pre .0) lower _ (c .before .lower-half .ensures) in
-    (h .0, (b .pre .1 .0, b .pre .1 .1, b .pre .1 .2, h .1, h .2))
+    (h .0, ((omega arith, omega arith, omega arith), h .1, h .2))
 
 cut-up-upper-half-requires : (t : ℕ) → cut-up-lts.Need-upper-half-requires (cut-up-claims t) (cut-up-at t) cut-up.Post
 cut-up-upper-half-requires t c κs = search needs
@@ -185,7 +187,8 @@ cut-up-cut-across-requires-2 t c κs =
     let cut = one .before .before .before in
     let b = cut .before .before .before .before .before .before .before .before in
     let h = half-asks (cut-up-found t cut) (b .args .tried) t (b .pre .0) upper _ (c .before .upper-half .ensures) in
-    (h .0, (b .pre .1 .0, b .pre .1 .1, one .cut-across .kept .1 .1 .1 .1 .0 ∙ b .pre .1 .2, h .1, h .2))
+    let long = one .cut-across .kept .1 .1 .1 .1 .0 in
+    (h .0, ((omega arith, omega arith, omega arith), h .1, h .2))
 
 cut-up-same-length : (t : ℕ) → cut-up-lts.Need-same-length (cut-up-claims t) (cut-up-at t) cut-up.Post
 cut-up-same-length t c = c .before .before .cut-across2 .kept .1 .1 .1 .1 .0 ∙ c .before .before .before .before .before .before .before .cut-across .kept .1 .1 .1 .1 .0
@@ -198,12 +201,12 @@ cut-up-returns t c =
     let lo = one .before .before in
     let b = lo .before .before .before .before .before .before .before .before .before in
     cut-halves (cut-up-found t (lo .before)) (b .args .tried) _ _ (b .args .places .now) (one .cut-across .last .1 .1 .1 .1 .0) (two .cut-across2 .last .1 .1 .1 .1 .0)
-    (b .pre .1 .4) (lo .lower-half .ensures) (hi .upper-half .ensures) (one .cut-across .ensures) (two .cut-across2 .ensures)
+    (b .pre .1 .2) (lo .lower-half .ensures) (hi .upper-half .ensures) (one .cut-across .ensures) (two .cut-across2 .ensures)
 
 cut-up-keep-blend-requires : (t : ℕ) → cut-up-lts.Need-keep-blend-requires (cut-up-claims t) (cut-up-at t) cut-up.Post
 cut-up-keep-blend-requires t c κs =
     let b = c .before .before .before .before .before .before .before .before .before .before in
-    (b .pre .1 .2, b .pre .1 .3)
+    (omega arith, b .pre .1 .1)
 
 cut-up-same-length-2 : (t : ℕ) → cut-up-lts.Need-same-length-2 (cut-up-claims t) (cut-up-at t) cut-up.Post
 cut-up-same-length-2 t c = c .before .before .keep-blend .kept .0
@@ -219,7 +222,7 @@ cut-up-returns-2 t c =
     let a = b .args in
     rw (told .if2 .taken)
     (cut-kept (bytesMesh (a .uprights .now) (a .levels .now)) upright (a .x) (a .places .now) (kept .keep-blend .last .0)
-    (b .pre .1 .4 (told .if2 .taken)) (sym (line .first-line .ensures) ∙ none .if1 .left) (kept .keep-blend .ensures))
+    (b .pre .1 .2 (told .if2 .taken)) (sym (line .first-line .ensures) ∙ none .if1 .left) (kept .keep-blend .ensures))
 
 cut-up-cut-across-requires-3 : (t : ℕ) → cut-up-lts.Need-cut-across-requires-3 (cut-up-claims t) (cut-up-at t) cut-up.Post
 unfolding bytesMesh
@@ -229,7 +232,7 @@ cut-up-cut-across-requires-3 t c κs =
     let b = line .before .before .before .before .before .before .before in
     let uncut = sym (line .first-line .ensures) ∙ none .if1 .left in (
       handed-ahead (b .args .x) (b .args .tried) t (b .pre .0) (c .before .if2 .left),
-      (b .pre .1 .0, b .pre .1 .1, b .pre .1 .2, b .pre .1 .3, λ _. uncut),
+      (b .pre .1 .0, b .pre .1 .1, λ _. uncut),
     )
 
 cut-up-same-length-3 : (t : ℕ) → cut-up-lts.Need-same-length-3 (cut-up-claims t) (cut-up-at t) cut-up.Post

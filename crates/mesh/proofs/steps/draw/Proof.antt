@@ -13,11 +13,11 @@ abbrev μ-loop : tie.MeasureT-loop
 μ-loop steps₀ z from to k₀ steps k = to - k
 
 loop-holds : tie.Need-loop-holds Inv-loop μ-loop
-loop-holds c = (omega arith, omega arith, drawn-none _ _ _ (c .pre .0))
+loop-holds c = (omega arith, omega arith, drawn-none _ _ _)
 
 loop-again : tie.Need-loop-again Inv-loop μ-loop
 loop-again c =
-    (omega arith, omega arith, drawn-more (c .before .loop .inv .2) (omega arith) (omega arith) (omega arith))
+    (omega arith, omega arith, drawn-more (c .before .loop .inv .2) (omega arith) (omega arith) (omega arith) (c .before .before .pre .0))
 
 returns : tie.Need-returns Inv-loop μ-loop
 returns c = drawn-until (c .before .loop .inv .2) (omega arith) (omega arith)

@@ -32,7 +32,7 @@ returns c =
     let first = last .before in
     let then = first .before .before in
     let a = then .before .before .before .args in (
-      drawn .draw .ensures .square,
+      drawn .draw .ensures .long,
       λ d w h same along.
           split-drawn (a .s) (a .direction) d w h same (a .run) (drawn .draw .ensures) (then .if1 .taken) refl (first .first-knot .ensures)
           (last .last-knot .ensures .0) along,
@@ -42,7 +42,7 @@ returns-2 : tie.Need-returns-2
 returns-2 c =
     let start = c .before .before .before in
     let a = start .args in (
-      start .pre .0,
+      refl,
       λ d w h same along.
           split-passed (a .s) (a .direction) d w h same (a .steps .now) (c .if1 .left),
     )

@@ -2,7 +2,7 @@
 use borrow.Author.Needs.{needs}
 use mathlib.Core.Path.{ap, _∙_}
 use Rattle.mesh.specs.declared.Found.{Found}
-use Rattle.mesh.proofs.Refining.{four-set}
+use Rattle.mesh.proofs.BlendTables.{four-set}
 use Rattle.mesh.proofs.tables.first_four.Statement.{statement}
 use Rattle.mesh.proofs.tables.first_four.Tie as tie
 

@@ -6,7 +6,7 @@ use Rattle.mesh.specs.declared.Found.{Found}
 use Rattle.mesh.specs.Lines.{allowedSide}
 use Rattle.mesh.specs.Sound.{freshTable}
 use Rattle.axis.proofs.Tests.{passed, failed}
-use Rattle.mesh.proofs.Replaying.{sides-of}
+use Rattle.mesh.proofs.Ranges.{side-says}
 use Rattle.mesh.proofs.tables.fresh_table.Statement.{statement}
 use Rattle.mesh.proofs.tables.fresh_table.Tie as tie
 
@@ -30,7 +30,7 @@ up : (c : tie.Else2) → allowedSide (c .before .before .before .before .args .h
 up c = passed (c .before .allowed-side2 .ensures) (c .if2 .left)
 
 first-four-requires : tie.Need-first-four-requires
-first-four-requires c κs = let s = sides-of _ _ (across (c .before .before)) (up c) in (s .across .1, s .up .1)
+first-four-requires c κs = (side-says _ (across (c .before .before)) .1, side-says _ (up c) .1)
 
 returns-3 : tie.Need-returns-3
 unfolding freshTable

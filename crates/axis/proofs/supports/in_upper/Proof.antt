@@ -1,0 +1,19 @@
+-- `axis::supports::in_upper` meets its contract.
+use borrow.Author.Needs.{needs}
+use native.Mathlib.Omega.{arith}
+use borrow.Author.Tests.{lt-ltb, le-ltb}
+use Rattle.axis.proofs.supports.in_upper.Statement.{statement}
+use Rattle.axis.proofs.supports.in_upper.Tie as tie
+
+returns : tie.Need-returns
+returns c =
+    let a = c .before .before .args in
+    rw (le-ltb (a .t .m) (a .z) (omega arith))
+
+returns-2 : tie.Need-returns-2
+returns-2 c =
+    let a = c .before .before .before .args in
+    rw (lt-ltb (a .t .m) (a .z) (omega arith), c .wide2 .ensures)
+
+pub in-upper-spec : {M : Type 1} → statement M
+in-upper-spec = tie.close (tie.spec (λ c κs. search needs) returns (λ c κs. search needs) returns-2)

@@ -1,0 +1,52 @@
+-- Only lines decide a split: two good records with the same lines take the same line, or get the same number.
+use Prim.Native.Nat.{ℕ}
+use mathlib.Core.Path.{_≡_, refl, ap}
+use mathlib.Core.Bool.{Bool, true, false, cond}
+use mathlib.Core.List.{List, [], _∷_}
+use lib.Dec.{eqb}
+use Rattle.mesh.specs.declared.Split.{Split}
+use Rattle.mesh.specs.Lines.{Layout}
+use Rattle.mesh.specs.Splits.{given, exactNumber, chosen}
+use Rattle.maps.specs.declared.Map.{Map}
+use Rattle.maps.specs.declared.Changed.{Changed}
+use Rattle.maps.specs.Values.{drawn}
+use Rattle.maps.specs.Record.{recordOf, plain, good}
+use Rattle.maps.specs.Calls.{changed, drawnFirst, exactSplit, lengthenedSplit}
+use Rattle.maps.specs.ByLines.{SameButValues, ByLines}
+
+-- one of two outcomes, by equal numbers
+by-number : {k l : ℕ} → k ≡ l → {x y u v : Changed} → SameButValues x u → SameButValues y v → SameButValues (cond (eqb k 0) x y) (cond (eqb l 0) u v)
+by-number {k} {l} e {x} {y} {u} {v} p q = rw e (by (eqb l 0))
+  where
+    by : (b : Bool) → SameButValues (cond b x y) (cond b u v)
+    by true = p
+    by false = q
+
+module _ (m n : Map) (gm : good m ≡ true) (gn : good n ≡ true) (same : m .lines ≡ n .lines) where
+  same-layout : plain m .lines ≡ plain n .lines
+  unfolding plain
+  same-layout = rw same
+
+  refused-alike : {k l : ℕ} → k ≡ l → SameButValues (changed k m) (changed l n)
+  refused-alike e = record { same-number = e; same-lines = same }
+
+  drawn-alike : (s : Split) → SameButValues (changed 0 (recordOf (drawn (plain m) s))) (changed 0 (recordOf (drawn (plain n) s)))
+  unfolding recordOf drawn
+  drawn-alike s = record { same-number = refl; same-lines = rw same-layout }
+
+  first-alike : {cs ds : List Split} → cs ≡ ds → SameButValues (drawnFirst m (plain m) cs) (drawnFirst n (plain n) ds)
+  first-alike {cs} {ds} e = rw e (by ds)
+    where
+      by : (ds : List Split) → SameButValues (drawnFirst m (plain m) ds) (drawnFirst n (plain n) ds)
+      by [] = refused-alike refl
+      by (c ∷ cs) = drawn-alike c
+
+  pub by-lines : (s : Split) → ByLines m n s
+  unfolding exactSplit lengthenedSplit
+  by-lines s =
+      let number = ap (λ (P : Layout). exactNumber P s) same-layout in
+      let first = ap (λ (P : Layout). given P s) same-layout in
+      record {
+        exact = rw (gm, gn) (by-number number (drawn-alike s) (refused-alike number));
+        lengthened = rw (gm, gn) (by-number first (first-alike (ap (λ (P : Layout). chosen P s) same-layout)) (refused-alike first));
+      }

@@ -1,0 +1,163 @@
+// A split on lines that were replayed, whose table is in hand.
+use crate::Lines;
+use crate::Split;
+use crate::Step;
+use crate::Table;
+use crate::carried::load;
+use crate::exact::good_ends;
+use crate::exact::look;
+use crate::exact::run_of;
+use crate::exact::step;
+use crate::read::read_out;
+ghost use mathlib.Core.Path.{_≡_};
+ghost use mathlib.Core.Bool.{cond};
+ghost use Rattle.mesh.specs.Lines.{layout};
+ghost use Rattle.mesh.specs.Ends.{nearestGood};
+ghost use Rattle.mesh.specs.Replay.{HasTable, exactStep, lengthenedStep};
+ghost use Rattle.mesh.specs.Carried.{Searches, Cleared};
+
+// What a refused split gives: the split and the table as they came.
+fn refused(number: usize, s: Split, table: Table) -> Step
+    ensures { λ r. ⌜ r ≡ record { number = number; split = s; table = table } ⌝ }
+{
+    Step {
+        number: number,
+        split: s,
+        table: table,
+    }
+}
+
+// The line that a lengthened split takes: nested loops over length and start, left with the first line between good ends.
+fn longer_line(
+    uprights: &[u8],
+    levels: &[u8],
+    lows: &[usize],
+    highs: &[usize],
+    run: usize,
+    s: Split,
+) -> Split
+    requires { ⌜ Searches (now uprights) (now levels) (now lows) (now highs) run s ⌝ }
+    ensures { λ r. ⌜ ((i : Searches (now (uprights .entry)) (now (levels .entry)) (now (lows .entry)) (now (highs .entry)) run s) →
+        r ≡ nearestGood (layout (i .w) (i .h) (i .splits)) s) ⌝ }
+{
+    let mut found = s;
+    let mut length = s.to - s.from;
+    'search: while length <= run {
+        let mut from = 0;
+        if length < s.to {
+            from = s.to - length;
+        }
+        while from <= s.from {
+            let c = Split {
+                direction: s.direction,
+                position: s.position,
+                from: from,
+                to: from + length,
+            };
+            // A line that would reach past the side is no line.
+            if c.to <= run {
+                if good_ends(uprights, levels, lows, highs, run, c) {
+                    found = c;
+                    break 'search;
+                }
+            }
+            from += 1;
+        }
+        length += 1;
+    }
+    found
+}
+
+// Takes a split as given, or lengthened, in cleared tables: one step, with the line found.
+fn split_in(
+    lines: Lines,
+    table: Table,
+    s: Split,
+    lengthen: bool,
+    uprights: &mut [u8],
+    levels: &mut [u8],
+    columns: &mut [u8],
+    rows: &mut [u8],
+    places: &mut [u32],
+) -> Step
+    requires { ⌜ HasTable lines table × Cleared (lines .w) (lines .h) (now uprights) (now levels) (now columns) (now rows) (now places) ⌝ }
+    ensures { λ r. ⌜ r ≡ cond lengthen (lengthenedStep lines table s) (exactStep lines table s) ⌝ }
+{
+    let w = lines.w;
+    let h = lines.h;
+    let count = lines.count;
+    load(lines, table, uprights, levels, columns, rows, places);
+    let mut line = s;
+    if lengthen {
+        let mut lows = [0usize; 131];
+        let mut highs = [0usize; 131];
+        let number = look(
+            w,
+            h,
+            count,
+            s,
+            uprights,
+            levels,
+            columns,
+            rows,
+            places,
+            &mut lows,
+            &mut highs,
+        );
+        if number != 0 {
+            return refused(number, s, table);
+        }
+        let run = run_of(w, h, s.direction);
+        line = longer_line(uprights, levels, &lows, &highs, run, s);
+    }
+    let number = step(w, h, count, line, uprights, levels, columns, rows, places);
+    if number != 0 {
+        return refused(number, s, table);
+    }
+    Step {
+        number: 0,
+        split: line,
+        table: read_out(places, columns, rows, w, h),
+    }
+}
+
+pub fn split(lines: Lines, table: Table, s: Split, lengthen: bool) -> Step
+    requires { ⌜ HasTable lines table ⌝ }
+    ensures { λ r. ⌜ r ≡ cond lengthen (lengthenedStep lines table s) (exactStep lines table s) ⌝ }
+{
+    let mut columns = [131u8; 131];
+    let mut rows = [131u8; 131];
+    // A small map has few rows of knots, so its tables are short and soon cleared.
+    if lines.w <= 16 {
+        if lines.h <= 16 {
+            let mut uprights = [0u8; 2489];
+            let mut levels = [0u8; 2489];
+            let mut places = [0u32; 2489];
+            return split_in(
+                lines,
+                table,
+                s,
+                lengthen,
+                &mut uprights,
+                &mut levels,
+                &mut columns,
+                &mut rows,
+                &mut places,
+            );
+        }
+    }
+    let mut uprights = [0u8; 17161];
+    let mut levels = [0u8; 17161];
+    let mut places = [0u32; 17161];
+    split_in(
+        lines,
+        table,
+        s,
+        lengthen,
+        &mut uprights,
+        &mut levels,
+        &mut columns,
+        &mut rows,
+        &mut places,
+    )
+}

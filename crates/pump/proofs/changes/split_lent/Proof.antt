@@ -1,0 +1,32 @@
+-- `changes::split_lent` meets its contract: the call on the map that the buffer holds, ended by `replace`.
+use borrow.Author.Needs.{needs}
+use mathlib.Core.Bool.{cond}
+use Rattle.maps.specs.Calls.{exactSplit, lengthenedSplit}
+use Rattle.files.proofs.ReadMaps.{read-opens, read-map}
+use Rattle.maps.proofs.StaysOpened.{split-opens}
+use Rattle.pump.proofs.Changing.{changes}
+use Rattle.pump.proofs.changes.split_lent.Statement.{statement}
+use Rattle.pump.proofs.changes.split_lent.Tie as tie
+
+split-requires : tie.Need-split-requires
+split-requires c κs = read-opens _ (c .read-lent .ensures)
+
+replace-requires : tie.Need-replace-requires
+replace-requires c κs =
+    let call = c .before .before in
+    let read = call .before in
+    let a = read .before .before .before .before .args in
+    split-opens (read-map _ (read .read-lent .ensures)) (a .s) (a .lengthen) (call .split .ensures)
+
+returns : tie.Need-returns
+returns c =
+    let end = c .before .before in
+    let call = end .before .before .before in
+    let read = call .before in
+    let a = read .before .before .before .before .args in
+    changes (λ m. cond (a .lengthen) (lengthenedSplit m (a .s)) (exactSplit m (a .s))) (a .buffer .now) (a .used .now) (read .read-lent .ensures)
+    (call .split .ensures) (end .replace .ensures)
+
+pub split-lent-spec : {M : Type 1} → statement M
+split-lent-spec =
+    tie.close (tie.spec (λ c κs. search needs) split-requires replace-requires (λ c. search needs) returns)
