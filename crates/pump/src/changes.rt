@@ -66,14 +66,19 @@ pub extern "C" fn pump_set(
     replace(buffer, used, old.number, next)
 }
 
-// A split on the map in the buffer.
-fn split_lent(buffer: &mut [u8], used: &mut usize, s: Split, lengthen: bool) -> usize
+// A split on the map in the buffer, which is read: the tables of reading are gone from the stack before those of the split come.
+fn split_lent(
+    buffer: &mut [u8],
+    used: &mut usize,
+    old: Opened,
+    s: Split,
+    lengthen: bool,
+) -> usize
+    requires { ⌜ old ≡ withTable (readFile (lent (now buffer) (now used))) ⌝ }
     ensures { λ r. ⌜ (r ≡ changeNumber (λ old. cond lengthen (lengthenedSplit old s) (exactSplit old s)) (now (buffer .entry)) (now (used .entry))) ×
         (now (buffer .exit) ≡ changeBytes (λ old. cond lengthen (lengthenedSplit old s) (exactSplit old s)) (now (buffer .entry)) (now (used .entry))) ×
         (now (used .exit) ≡ changeUsed (λ old. cond lengthen (lengthenedSplit old s) (exactSplit old s)) (now (buffer .entry)) (now (used .entry))) ⌝ }
 {
-    let length = *used;
-    let old = read_lent(buffer, length);
     let next = old.split(s, lengthen);
     replace(buffer, used, old.number, next)
 }
@@ -97,7 +102,9 @@ pub extern "C" fn pump_exact_split(
         from: from,
         to: to,
     };
-    split_lent(buffer, used, s, false)
+    let length = *used;
+    let old = read_lent(buffer, length);
+    split_lent(buffer, used, old, s, false)
 }
 
 #[no_mangle]
@@ -119,5 +126,7 @@ pub extern "C" fn pump_lengthened_split(
         from: from,
         to: to,
     };
-    split_lent(buffer, used, s, true)
+    let length = *used;
+    let old = read_lent(buffer, length);
+    split_lent(buffer, used, old, s, true)
 }

@@ -9,24 +9,21 @@ use Rattle.pump.proofs.changes.split_lent.Statement.{statement}
 use Rattle.pump.proofs.changes.split_lent.Tie as tie
 
 split-requires : tie.Need-split-requires
-split-requires c κs = read-opens _ (c .read-lent .ensures)
+split-requires c κs = read-opens _ (c .before .pre)
 
 replace-requires : tie.Need-replace-requires
 replace-requires c κs =
     let call = c .before .before in
-    let read = call .before in
-    let a = read .before .before .before .before .args in
-    split-opens (read-map _ (read .read-lent .ensures)) (a .s) (a .lengthen) (call .split .ensures)
+    let a = call .before .before .args in
+    split-opens (read-map _ (call .before .before .pre)) (a .s) (a .lengthen) (call .split .ensures)
 
 returns : tie.Need-returns
 returns c =
     let end = c .before .before in
     let call = end .before .before .before in
-    let read = call .before in
-    let a = read .before .before .before .before .args in
-    changes (λ m. cond (a .lengthen) (lengthenedSplit m (a .s)) (exactSplit m (a .s))) (a .buffer .now) (a .used .now) (read .read-lent .ensures)
+    let a = call .before .before .args in
+    changes (λ m. cond (a .lengthen) (lengthenedSplit m (a .s)) (exactSplit m (a .s))) (a .buffer .now) (a .used .now) (call .before .before .pre)
     (call .split .ensures) (end .replace .ensures)
 
 pub split-lent-spec : {M : Type 1} → statement M
-split-lent-spec =
-    tie.close (tie.spec (λ c κs. search needs) split-requires replace-requires (λ c. search needs) returns)
+split-lent-spec = tie.close (tie.spec split-requires replace-requires (λ c. search needs) returns)
