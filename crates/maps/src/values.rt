@@ -140,17 +140,11 @@ pub(crate) struct Four {
     pub fourth: Entry,
 }
 
-// The four blends over a square, or fewer.
-struct Near {
-    all: bool,
-    four: Four,
-}
-
-// The four blends over the unit square whose low corner is at knots (x, y), in table order, looked for from a place on; not `all` where fewer stand there.
-// The last four found are kept, so that callers name each and index none.
-fn four_from(table: Table, from: usize, x: usize, y: usize) -> Near
+// The four blends over the unit square whose low corner is at knots (x, y), in table order, looked for from a place near them on, and anew from the start
+// where they do not all stand behind it. The last four found are kept, so that callers name each and index none.
+pub(crate) fn four_over(table: Table, near: usize, x: usize, y: usize) -> Four
     requires { ⌜ (table .count ≤ mostBlends) × (length (only (overSquare x y) (blendsOf table)) ≡ 4) ⌝ }
-    ensures { λ r. ⌜ (r .all ≡ true → entries (r .four) ≡ entriesOver (overSquare x y) (blendsOf table) 0) × (from ≡ 0 → r .all ≡ true) ⌝ }
+    ensures { λ r. ⌜ entries r ≡ entriesOver (overSquare x y) (blendsOf table) 0 ⌝ }
 {
     let none = Entry {
         blend: table.blends[0],
@@ -163,8 +157,14 @@ fn four_from(table: Table, from: usize, x: usize, y: usize) -> Near
         fourth: none,
     };
     let mut found: usize = 0;
-    let mut i = from;
-    while i < table.count {
+    let mut from = near;
+    let mut i = near;
+    while found < 4 {
+        if table.count <= i {
+            from = 0;
+            i = 0;
+            found = 0;
+        }
         let b = table.blends[i];
         if is_over(b, x, y) {
             let second = four.second;
@@ -178,31 +178,9 @@ fn four_from(table: Table, from: usize, x: usize, y: usize) -> Near
             };
             found += 1;
         }
-        if found == 4 {
-            return Near {
-                all: true,
-                four: four,
-            };
-        }
         i += 1;
     }
-    Near {
-        all: false,
-        four: four,
-    }
-}
-
-// Those four, looked for from a place near them, and from the start where they do not all stand behind it.
-pub(crate) fn four_over(table: Table, from: usize, x: usize, y: usize) -> Four
-    requires { ⌜ (table .count ≤ mostBlends) × (length (only (overSquare x y) (blendsOf table)) ≡ 4) ⌝ }
-    ensures { λ r. ⌜ entries r ≡ entriesOver (overSquare x y) (blendsOf table) 0 ⌝ }
-{
-    let near = four_from(table, from, x, y);
-    if near.all {
-        return near.four;
-    }
-    let far = four_from(table, 0, x, y);
-    far.four
+    four
 }
 
 // The reading at knots (u, v), a corner of the unit square whose low corner is at knots (x, y), by the four blends over that square and their values: the

@@ -67,13 +67,7 @@ pub extern "C" fn pump_set(
 }
 
 // A split on the map in the buffer, which is read: the tables of reading are gone from the stack before those of the split come.
-fn split_lent(
-    buffer: &mut [u8],
-    used: &mut usize,
-    old: Opened,
-    s: Split,
-    lengthen: bool,
-) -> usize
+fn split_lent(buffer: &mut [u8], used: &mut usize, old: Opened, s: Split, lengthen: bool) -> usize
     requires { ⌜ old ≡ withTable (readFile (lent (now buffer) (now used))) ⌝ }
     ensures { λ r. ⌜ (r ≡ changeNumber (λ old. cond lengthen (lengthenedSplit old s) (exactSplit old s)) (now (buffer .entry)) (now (used .entry))) ×
         (now (buffer .exit) ≡ changeBytes (λ old. cond lengthen (lengthenedSplit old s) (exactSplit old s)) (now (buffer .entry)) (now (used .entry))) ×
