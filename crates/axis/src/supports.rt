@@ -2,6 +2,8 @@
 use crate::Triple;
 use crate::knots::wide;
 ghost use mathlib.Core.Path.{_≡_};
+ghost use mathlib.Core.Bool.{_&&_};
+ghost use lib.Dec.{ltb};
 ghost use Rattle.axis.specs.Triple.{half, lower, upper, sameTriple, spans, knotIn};
 
 pub fn lower_half(z: u8, x: Triple) -> Triple
@@ -63,21 +65,25 @@ pub fn spans_at(t: Triple, x: usize) -> bool
     x < wide(t.r)
 }
 
-// Whether knot z lies strictly inside the upper part of a triple, between its middle and its end; or inside the lower.
-pub fn in_upper(t: Triple, z: usize) -> bool
-    ensures { λ r. ⌜ r ≡ knotIn upper z t ⌝ }
+// Whether knot z lies strictly between two others.
+fn between(low: u8, high: u8, z: usize) -> bool
+    ensures { λ r. ⌜ r ≡ (ltb low z && ltb z high) ⌝ }
 {
-    if z <= wide(t.m) {
+    if z <= wide(low) {
         return false;
     }
-    z < wide(t.r)
+    z < wide(high)
 }
 
+// Whether knot z lies strictly inside the lower part of a triple, between its start and its middle; or inside the upper.
 pub fn in_lower(t: Triple, z: usize) -> bool
     ensures { λ r. ⌜ r ≡ knotIn lower z t ⌝ }
 {
-    if z <= wide(t.l) {
-        return false;
-    }
-    z < wide(t.m)
+    between(t.l, t.m, z)
+}
+
+pub fn in_upper(t: Triple, z: usize) -> bool
+    ensures { λ r. ⌜ r ≡ knotIn upper z t ⌝ }
+{
+    between(t.m, t.r, z)
 }
