@@ -7,10 +7,10 @@ use lib.ListN.{length}
 use Rattle.mesh.specs.declared.Split.{Split}
 use Rattle.axis.specs.Triple as Triple
 use Rattle.axis.specs.Nearest as Nearest
-use Rattle.mesh.specs.Lines.{Layout, layout, meshOf}
+use Rattle.mesh.specs.Lines.{layout, meshOf}
 use Rattle.mesh.specs.Lines as Lines
 use Rattle.mesh.specs.Blends as Blends
-use Rattle.mesh.specs.Crossings.{Point, point, crosses, crossings}
+use Rattle.mesh.specs.Crossings.{crosses, crossings}
 use Rattle.mesh.specs.Ends.{goodEnd, goodEnds, gap, nearestGood}
 
 upright : ℕ → ℕ → ℕ → Split

@@ -11,7 +11,7 @@ use Rattle.axis.proofs.Padding.{padding-passes, padded}
 use Rattle.mesh.specs.declared.Split.{Split}
 use Rattle.mesh.specs.Lines.{Layout, layoutOf, splitsOf, allowedSide}
 use Rattle.mesh.specs.Sound.{sound, table}
-use Rattle.mesh.specs.Splits.{liveOf, withLine, exactNumber, accepted}
+use Rattle.mesh.specs.Splits.{liveOf, withLine, exactNumber}
 use Rattle.mesh.specs.Replay.{replays, Replays, HasTable}
 use Rattle.mesh.proofs.Fresh.{fresh-live}
 use Rattle.mesh.proofs.Accepted.{replays-sides, replays-sound, replays-short, replays-more, fresh-replays, replays-says, counted-lines, lines-replay}

@@ -1,14 +1,14 @@
 -- Links over knots: what linking a knot leaves of them, those of a fresh map, and those of a map with a line more.
-use Prim.Native.Nat.{ℕ, zero, suc, _+_, _≤_, _<_}
+use Prim.Native.Nat.{ℕ, zero, suc, _+_, _<_}
 use native.Mathlib.Omega.{arith}
-use mathlib.Core.Path.{_≡_, refl, sym, ap, subst, _∙_}
+use mathlib.Core.Path.{_≡_, refl, sym, subst, _∙_}
 use mathlib.Core.Logic.{⊎-elim}
-use mathlib.Core.Bool.{Bool, true, false, cond, _&&_, _||_, and-false}
+use mathlib.Core.Bool.{false, _&&_, _||_, and-false}
 use mathlib.Core.List.{List}
-use borrow.Author.Tests.{eq-eqb, ne-eqb, lt-ltb, ltb-true}
+use borrow.Author.Tests.{ne-eqb, lt-ltb, ltb-true}
 use lib.Dec.{ltb, eqb}
-use lib.ListN.{length, getD, replicate, length-replicate}
-use Rattle.mesh.specs.Lines.{Direction, upright, level, number, side, Mesh, draws, freshMesh}
+use lib.ListN.{getD, replicate, length-replicate}
+use Rattle.mesh.specs.Lines.{Direction, number, side, Mesh, draws, freshMesh}
 use Rattle.mesh.specs.Carried.{Leads, Linked, Bare, unlinked}
 use Rattle.mesh.specs.declared.Split.{Split}
 use Rattle.axis.proofs.Tests.{either, true-not-false, and-both, and-of, cond-true, cond-false}

@@ -1,5 +1,5 @@
 -- Document 01, "Blends": a sound map; and what the functions on tables of blends answer.
-use Prim.Native.Nat.{ℕ, _+_, _-_}
+use Prim.Native.Nat.{ℕ, _-_}
 use mathlib.Core.Bool.{Bool, cond, _&&_, not}
 use mathlib.Core.List.{List, [], _++_, List·Memᴰ}
 use lib.Dec.{eqb}

@@ -1,5 +1,4 @@
 -- `mesh::exact::good_ends` meets its contract: one end, then the other.
-use borrow.Author.Needs.{needs}
 use borrow.Author.Tests.{not-true, not-false}
 use mathlib.Core.Path.{sym, _∙_}
 use Rattle.mesh.proofs.exact.good_ends.Statement.{statement}

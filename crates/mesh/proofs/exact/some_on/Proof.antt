@@ -1,7 +1,6 @@
 -- `mesh::exact::some_on` meets its contract. The invariant: what is left to test decides the whole answer.
 use Prim.Native.Nat.{_+_}
 use native.Mathlib.Omega.{arith}
-use borrow.Author.Needs.{needs}
 use mathlib.Core.Path.{_≡_, refl, sym, _∙_}
 use Rattle.axis.specs.Range.{some}
 use Rattle.mesh.specs.Lines.{direction}

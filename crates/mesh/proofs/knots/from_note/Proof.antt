@@ -1,5 +1,4 @@
 -- `mesh::knots::from_note` meets its contract.
-use native.Mathlib.Omega.{arith}
 use borrow.Author.Needs.{needs}
 use Rattle.mesh.specs.Carried.{unnoted}
 use Rattle.mesh.proofs.knots.from_note.Statement.{statement}

@@ -1,7 +1,7 @@
 -- `mesh::links::link_fresh` meets its contract: three knots are linked.
 use native.Mathlib.Omega.{arith}
 use borrow.Author.Needs.{needs}
-use mathlib.Core.Path.{_≡_, sym, ap, subst, _∙_}
+use mathlib.Core.Path.{ap, _∙_}
 use Prim.Native.Nat.{_+_}
 use Rattle.mesh.proofs.Linking.{leads-over, linked-leads, unlinked-leads, fresh-bare}
 use Rattle.mesh.proofs.links.link_fresh.Statement.{statement}

@@ -1,5 +1,4 @@
 -- `mesh::notes::along_of` meets its contract: each return is the case of its direction.
-use borrow.Author.Needs.{needs}
 use borrow.Author.Tests.{eq-eqb, ne-eqb}
 use Rattle.mesh.proofs.notes.along_of.Statement.{statement}
 use Rattle.mesh.proofs.notes.along_of.Tie as tie

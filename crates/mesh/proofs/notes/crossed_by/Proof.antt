@@ -1,5 +1,4 @@
 -- `mesh::notes::crossed_by` meets its contract: each return is the case of its direction.
-use borrow.Author.Needs.{needs}
 use borrow.Author.Tests.{eq-eqb, ne-eqb}
 use Rattle.mesh.proofs.notes.crossed_by.Statement.{statement}
 use Rattle.mesh.proofs.notes.crossed_by.Tie as tie

@@ -1,9 +1,7 @@
 -- `mesh::notes::is_reached` meets its contract: the three tests, in order.
-use native.Mathlib.Omega.{arith}
 use borrow.Author.Needs.{needs}
 use borrow.Author.Tests.{eq-eqb, ne-eqb, lt-leb, le-leb}
-use mathlib.Core.Path.{_≡_, ap, _∙_}
-use Rattle.axis.specs.declared.Triple.{Triple}
+use mathlib.Core.Path.{_≡_, _∙_}
 use Rattle.mesh.specs.Lines.{direction}
 use Rattle.mesh.specs.Blends.{along}
 use Rattle.mesh.specs.Carried.{unnoted}

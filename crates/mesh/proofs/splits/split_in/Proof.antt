@@ -1,7 +1,7 @@
 -- `mesh::splits::split_in` meets its contract: one step, with the line as given or with the line found.
 use borrow.Author.Needs.{needs}
 use mathlib.Core.Path.{_≡_, refl, sym, _∙_}
-use mathlib.Core.Logic.{_⊎_, ⊎-elim}
+use mathlib.Core.Logic.{⊎-elim}
 use lib.ListN.{length}
 use Rattle.mesh.specs.Lines.{splitsOf, layoutOf}
 use Rattle.mesh.specs.Splits.{exactNumber}
