@@ -27,7 +27,7 @@ use Rattle.files.proofs.RoundTrip.{file-length}
 use Rattle.files.proofs.GoodFiles.{accepts}
 use Rattle.files.proofs.FromFile.{read-reached, calls-end}
 use Rattle.pump.specs.Border.{newNumber, newBytes, newUsed, freshNumber, lent}
-use Rattle.pump.specs.Histories.{PumpCall, fresh, set, exact, lengthened, place, reads, weighs, alongRow, alongColumn, sameAs, sameTo, checks, payloads, lists, PumpOutcome, Buffer, buffer, Desk, desk, puts, changes, byRules, shown}
+use Rattle.pump.specs.Histories.{PumpCall, fresh, set, exact, lengthened, place, reads, weighs, alongRow, alongColumn, sameAs, sameTo, checks, payloads, lists, PumpOutcome, Buffer, buffer, Desk, desk, puts, changes, byRules, lentBy, shown}
 use Rattle.pump.specs.Demand.{Past, past, withChange, pastAfter, BorderFrom, begun, BorderDemand, BorderFile}
 use Rattle.pump.proofs.Histories.{At, puts-untouched, changes-untouched, step-shown}
 
@@ -159,33 +159,47 @@ border-demand w h start e cs =
               });
         }
 
--- and from a buffer that holds a map's file.
-pub border-file : (start : Buffer) → readFile (lent (start .bytes) (start .used)) .number ≡ 0 → (cs : List PumpCall) → BorderFile start cs
-border-file start e cs =
-    let bytes = lent (start .bytes) (start .used) in
-    let P = readPlain bytes in
-    let reached = read-reached bytes e in
-    let is-file : bytes ≡ fileOf P = accepts bytes .accepted (readFile bytes .map) (λ i. changed (e i) (readFile bytes .map)) .is-file in
-    let long = file-length P (reached .holds .counted) in
-    let in-buffer : leb (start .used) (length (start .bytes)) ≡ true =
-    ⊎-elim (λ t. t) (λ f. let none : _≡_ {A = ℕ} 0 (length (fileOf P)) = ap length (sym (cond-false _ _ _ f) ∙ is-file) in absurd (omega arith))
-    (either (leb (start .used) (length (start .bytes)))) in
-    let front : take (start .used) (start .bytes) ≡ fileOf P = sym (cond-true _ _ _ in-buffer) ∙ is-file in
-    let used : length (fileOf P) ≡ start .used =
-    ap length (sym front) ∙ length-take-le (start .used) (start .bytes) (leb-true _ _ in-buffer) in
-    record {
-      is-lent = λ i. buffer (start .bytes) (used i);
-      holds =
-          border-from cs (past (P .lines .w) (P .lines .h) (fileCalls P)) (desk P (start .bytes))
-          (record {
-            at =
-                record {
-                  reached = reached;
-                  rest = drop (start .used) (start .bytes);
-                  begins = sym (take-append-drop (start .used) (start .bytes)) ∙ ap (λ (l : List ℕ). l ++ drop (start .used) (start .bytes)) front;
-                };
-            across = reached .holds .taken .across;
-            up = reached .holds .taken .up;
-            is = sym (calls-end P reached);
-          });
-    }
+-- and from a buffer that holds a map's file: what the machine then holds.
+module _ (start : Buffer) (e : readFile (lent (start .bytes) (start .used)) .number ≡ 0) where
+  abbrev pub file-desk : Desk
+  file-desk = desk (readPlain (lent (start .bytes) (start .used))) (start .bytes)
+
+  read-at : Reached (file-desk .holds)
+  read-at = read-reached (lent (start .bytes) (start .used)) e
+
+  is-file : lent (start .bytes) (start .used) ≡ fileOf (file-desk .holds)
+  is-file =
+      let bytes = lent (start .bytes) (start .used) in
+      accepts bytes .accepted (readFile bytes .map) (λ i. changed (e i) (readFile bytes .map)) .is-file
+
+  in-buffer : leb (start .used) (length (start .bytes)) ≡ true
+  in-buffer =
+      let long = file-length (file-desk .holds) (read-at .holds .counted) in
+      ⊎-elim (λ t. t)
+      (λ f. let none : _≡_ {A = ℕ} 0 (length (fileOf (file-desk .holds))) = ap length (sym (cond-false _ _ _ f) ∙ is-file) in absurd (omega arith))
+      (either (leb (start .used) (length (start .bytes))))
+
+  front : take (start .used) (start .bytes) ≡ fileOf (file-desk .holds)
+  front = sym (cond-true _ _ _ in-buffer) ∙ is-file
+
+  pub file-lent : lentBy file-desk ≡ start
+  file-lent =
+      let used = ap length (sym front) ∙ length-take-le (start .used) (start .bytes) (leb-true _ _ in-buffer) in λ i. buffer (start .bytes) (used i)
+
+  pub file-at : At file-desk
+  file-at =
+      record {
+        reached = read-at;
+        rest = drop (start .used) (start .bytes);
+        begins = sym (take-append-drop (start .used) (start .bytes)) ∙ ap (λ (l : List ℕ). l ++ drop (start .used) (start .bytes)) front;
+      }
+
+  pub border-file : (cs : List PumpCall) → BorderFile start cs
+  border-file cs =
+      let P = file-desk .holds in
+      record {
+        is-lent = file-lent;
+        holds =
+            border-from cs (past (P .lines .w) (P .lines .h) (fileCalls P)) file-desk
+            (record { at = file-at; across = read-at .holds .taken .across; up = read-at .holds .taken .up; is = sym (calls-end P read-at) });
+      }

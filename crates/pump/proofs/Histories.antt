@@ -77,7 +77,7 @@ module _ {d : Desk} (at : At d) where
       let short : length (fileOf (d .holds)) ≤ length (fileOf (d .holds) ++ at .rest) = simp length-append (omega arith) in
       rw (at .begins, le-leb _ _ short, take-append-seam)
 
-  is-read : readFile (lent (d .bytes) (length (fileOf (d .holds)))) ≡ changed 0 (recordOf (d .holds))
+  pub is-read : readFile (lent (d .bytes) (length (fileOf (d .holds)))) ≡ changed 0 (recordOf (d .holds))
   is-read =
       ap readFile is-lent ∙
       reads-back (d .holds) (at .reached .valued .small) (at .reached .valued .counted) (record-good (at .reached .holds) .0)

@@ -3,3 +3,4 @@ pub mod Coordinates
 pub mod Changing
 pub mod Histories
 pub mod Demand3
+pub mod ByLines

@@ -1,3 +1,4 @@
 pub mod Border
 pub mod Histories
 pub mod Demand
+pub mod ByLines

@@ -1,0 +1,116 @@
+-- At the border only lines decide a split: two buffers of one length, whose maps have the same lines, give the same answer and are left with the same lines.
+use Prim.Native.Nat.{ℕ}
+use mathlib.Core.Path.{_≡_, refl, sym, ap, subst, _∙_}
+use mathlib.Core.Logic.{⊎-elim}
+use mathlib.Core.Bool.{true, false}
+use mathlib.Core.List.{[]}
+use lib.Dec.{leb, ltb}
+use lib.ListN.{length, drop}
+use Rattle.axis.proofs.Tests.{either}
+use Rattle.mesh.specs.declared.Split.{Split}
+use Rattle.mesh.specs.declared.Lines.{Lines}
+use Rattle.mesh.specs.Lines.{layoutOf}
+use Rattle.maps.specs.declared.Map.{Map}
+use Rattle.maps.specs.declared.Changed.{Changed}
+use Rattle.maps.specs.Plain.{Plain}
+use Rattle.maps.specs.Record.{linesOf, recordOf, plain}
+use Rattle.maps.specs.Histories as Maps
+use Rattle.maps.specs.Histories.{Call, Outcome, numberOf, byMachine}
+use Rattle.maps.specs.Demand.{recorded}
+use Rattle.maps.specs.ByLines.{SameButValues}
+use Rattle.maps.proofs.GoodRecords.{Holds, record-good}
+use Rattle.maps.proofs.Reached.{step-leads}
+use Rattle.maps.proofs.Following.{step-follows}
+use Rattle.maps.proofs.ByLines.{by-lines}
+use Rattle.files.specs.File.{fileOf}
+use Rattle.files.specs.Calls.{readFile}
+use Rattle.files.proofs.RoundTrip.{file-length}
+use Rattle.pump.specs.Border.{lent}
+use Rattle.pump.specs.Histories.{PumpAnswer, PumpOutcome, Buffer, exact, lengthened, outcome, says, Desk, changes, lentBy, shown}
+use Rattle.pump.specs.ByLines.{inBuffer, SameInBuffer, BorderByLines}
+use Rattle.pump.proofs.Histories.{At, is-read, step-shown}
+use Rattle.pump.proofs.Demand3.{file-desk, file-lent, file-at}
+
+-- the lines of a record and of what it holds tell each other, and how long the file is
+records-alike : {P Q : Plain} → P .lines ≡ Q .lines → recordOf P .lines ≡ recordOf Q .lines
+unfolding recordOf
+records-alike e = ap linesOf e
+
+held-lines : {P : Plain} → Holds P → P .lines ≡ layoutOf (recordOf P .lines)
+unfolding plain
+held-lines h = sym (ap (λ (P : Plain). P .lines) (record-good h .1))
+
+files-alike : {P Q : Plain} → Holds P → Holds Q → P .lines ≡ Q .lines → length (fileOf P) ≡ length (fileOf Q)
+files-alike {P} {Q} p q e = file-length P (p .counted) ∙ rw e (sym (file-length Q (q .counted)))
+
+-- two buffers with the files of maps with the same lines
+left-alike : {d e : Desk} → At d → At e → d .holds .lines ≡ e .holds .lines → (a : PumpAnswer) → SameInBuffer (outcome a (lentBy d)) (outcome a (lentBy e))
+left-alike {d} {e} at too same a =
+    record {
+      same-answer = refl;
+      same-used = files-alike (at .reached .holds) (too .reached .holds) same;
+      same-lines =
+          ap (λ (r : Changed). r .map .lines) (is-read at) ∙ records-alike same ∙ sym (ap (λ (r : Changed). r .map .lines) (is-read too));
+    }
+
+-- what the machine shows is what the calls give
+both-shown : {x y u v : PumpOutcome Buffer} → x ≡ u → y ≡ v → SameInBuffer u v → SameInBuffer x y
+both-shown {x} {y} {u} {v} p q s = rw (p, q) s
+
+module _ {d e : Desk} (at : At d) (too : At e) (same : d .holds .lines ≡ e .holds .lines) (room : length (d .bytes) ≡ length (e .bytes)) where
+  -- a change that the machine answers alike, and that leaves the same lines,
+  changes-alike : (c : Call) → numberOf (byMachine (d .holds) c .answer) ≡ numberOf (byMachine (e .holds) c .answer) →
+      byMachine (d .holds) c .next .lines ≡ byMachine (e .holds) c .next .lines → SameInBuffer (shown (changes d c)) (shown (changes e c))
+  changes-alike c number lines =
+      let n = numberOf (byMachine (e .holds) c .answer) in
+      let P = byMachine (d .holds) c .next in
+      let Q = byMachine (e .holds) c .next in
+      let p = step-leads (d .holds) (at .reached) c .reached in
+      let q = step-leads (e .holds) (too .reached) c .reached in
+      let long = files-alike (p .holds) (q .holds) lines in
+      let short = ltb (length (e .bytes)) (length (fileOf Q)) in
+      let both : ltb (length (d .bytes)) (length (fileOf P)) ≡ short = rw (room, long) in
+      ⊎-elim (λ (t : leb 1 n ≡ true). rw (number, t) (left-alike at too same (says n [] [])))
+      (λ (f : leb 1 n ≡ false).
+      rw (number, f)
+      (⊎-elim (λ (t : short ≡ true). rw (both ∙ t, t) (left-alike at too same (says 12 [] [])))
+      (λ (u : short ≡ false).
+      rw (both ∙ u, u)
+      (left-alike (record { reached = p; rest = drop (length (fileOf P)) (d .bytes); begins = refl })
+      (record { reached = q; rest = drop (length (fileOf Q)) (e .bytes); begins = refl }) lines (says 0 [] []))) (either short)))
+      (either (leb 1 n))
+
+  -- and so a split,
+  split-alike : (c : Call) (r q : Changed) → Maps.outcome (Maps.number (r .number)) (r .map) ≡ recorded (byMachine (d .holds) c) →
+      Maps.outcome (Maps.number (q .number)) (q .map) ≡ recorded (byMachine (e .holds) c) → SameButValues r q →
+      SameInBuffer (shown (changes d c)) (shown (changes e c))
+  split-alike c r q f g alike =
+      let number : Outcome Map → ℕ = λ o. numberOf (o .answer) in
+      let lines : Outcome Map → Lines = λ o. o .next .lines in
+      changes-alike c (sym (ap number f) ∙ alike .same-number ∙ ap number g)
+      (held-lines (step-leads (d .holds) (at .reached) c .reached .holds) ∙ ap layoutOf (sym (ap lines f) ∙ alike .same-lines ∙ ap lines g) ∙
+      sym (held-lines (step-leads (e .holds) (too .reached) c .reached .holds)))
+
+  -- on the buffers of both desks.
+  border-alike : (s : Split) → BorderByLines (lentBy d) (lentBy e) s
+  border-alike s =
+      let P = d .holds in
+      let Q = e .holds in
+      let alike = by-lines (recordOf P) (recordOf Q) (record-good (at .reached .holds) .0) (record-good (too .reached .holds) .0) (records-alike same) s in
+      record {
+        exact =
+            both-shown (step-shown at (exact s)) (step-shown too (exact s))
+            (split-alike (Maps.exact s) _ _ (step-follows P (at .reached) (Maps.exact s)) (step-follows Q (too .reached) (Maps.exact s)) (alike .exact));
+        lengthened =
+            both-shown (step-shown at (lengthened s)) (step-shown too (lengthened s))
+            (split-alike (Maps.lengthened s) _ _ (step-follows P (at .reached) (Maps.lengthened s)) (step-follows Q (too .reached) (Maps.lengthened s))
+            (alike .lengthened));
+      }
+
+pub border-by-lines : (one other : Buffer) → readFile (lent (one .bytes) (one .used)) .number ≡ 0 → readFile (lent (other .bytes) (other .used)) .number ≡ 0 →
+    inBuffer one .lines ≡ inBuffer other .lines → length (one .bytes) ≡ length (other .bytes) → (s : Split) → BorderByLines one other s
+unfolding plain
+border-by-lines one other e f same room s =
+    subst (λ (b : Buffer). BorderByLines b other s) (file-lent one e)
+    (subst (λ (b : Buffer). BorderByLines (lentBy (file-desk one e)) b s) (file-lent other f)
+    (border-alike (file-at one e) (file-at other f) (ap layoutOf same) room s))
