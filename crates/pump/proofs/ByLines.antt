@@ -32,9 +32,9 @@ use Rattle.pump.proofs.Histories.{At, is-read, step-shown}
 use Rattle.pump.proofs.Demand3.{file-desk, file-lent, file-at}
 
 -- the lines of a record and of what it holds tell each other, and how long the file is
-records-alike : {P Q : Plain} → P .lines ≡ Q .lines → recordOf P .lines ≡ recordOf Q .lines
+records-alike : (P Q : Plain) → P .lines ≡ Q .lines → recordOf P .lines ≡ recordOf Q .lines
 unfolding recordOf
-records-alike e = ap linesOf e
+records-alike P Q e = ap linesOf e
 
 held-lines : {P : Plain} → Holds P → P .lines ≡ layoutOf (recordOf P .lines)
 unfolding plain
@@ -50,7 +50,7 @@ left-alike {d} {e} at too same a =
       same-answer = refl;
       same-used = files-alike (at .reached .holds) (too .reached .holds) same;
       same-lines =
-          ap (λ (r : Changed). r .map .lines) (is-read at) ∙ records-alike same ∙ sym (ap (λ (r : Changed). r .map .lines) (is-read too));
+          ap (λ (r : Changed). r .map .lines) (is-read at) ∙ records-alike (d .holds) (e .holds) same ∙ sym (ap (λ (r : Changed). r .map .lines) (is-read too));
     }
 
 -- what the machine shows is what the calls give
@@ -96,7 +96,7 @@ module _ {d e : Desk} (at : At d) (too : At e) (same : d .holds .lines ≡ e .ho
   border-alike s =
       let P = d .holds in
       let Q = e .holds in
-      let alike = by-lines (recordOf P) (recordOf Q) (record-good (at .reached .holds) .0) (record-good (too .reached .holds) .0) (records-alike same) s in
+      let alike = by-lines (recordOf P) (recordOf Q) (record-good (at .reached .holds) .0) (record-good (too .reached .holds) .0) (records-alike P Q same) s in
       record {
         exact =
             both-shown (step-shown at (exact s)) (step-shown too (exact s))
