@@ -8,8 +8,7 @@ use crate::links::link;
 use crate::links::link_fresh;
 use crate::steps::draw_fresh;
 use crate::steps::draw_split;
-use crate::tables::high;
-use crate::tables::low;
+use crate::tables::first_four;
 ghost use mathlib.Core.Path.{_≡_};
 ghost use mathlib.Core.Bool.{true, _||_};
 ghost use mathlib.Core.List.{[], List·Memᴰ};
@@ -57,38 +56,13 @@ fn keep_first(w: usize, h: usize, places: &mut [u32])
     requires { ⌜ (allowedSide w ≡ true) × (allowedSide h ≡ true) × Rows (w + 3) (now places) ⌝ }
     ensures { λ _. ⌜ now (places .exit) ≡ keepAll (now (places .entry)) (firstFour w h) ⌝ }
 {
-    let left = low(w);
-    let right = high(w);
-    let bottom = low(h);
-    let top = high(h);
-    keep_blend(
-        places,
-        Blend {
-            across: left,
-            up: bottom,
-        },
-    );
-    keep_blend(
-        places,
-        Blend {
-            across: left,
-            up: top,
-        },
-    );
-    keep_blend(
-        places,
-        Blend {
-            across: right,
-            up: bottom,
-        },
-    );
-    keep_blend(
-        places,
-        Blend {
-            across: right,
-            up: top,
-        },
-    );
+    let four = first_four(w, h);
+    let mut i = 0;
+    while i < 4 {
+        let x = four[i];
+        keep_blend(places, x);
+        i += 1;
+    }
 }
 
 // Keeps the blends of a table.

@@ -34,7 +34,7 @@ pub(crate) fn refusal() -> Found
 }
 
 // The two triples of the first blends, on one axis.
-pub(crate) fn low(side: usize) -> Triple
+fn low(side: usize) -> Triple
     requires { ⌜ side ≤ largestSide ⌝ }
     ensures { λ r. ⌜ r ≡ triples.low side ⌝ }
 {
@@ -45,7 +45,7 @@ pub(crate) fn low(side: usize) -> Triple
     }
 }
 
-pub(crate) fn high(side: usize) -> Triple
+fn high(side: usize) -> Triple
     requires { ⌜ side ≤ largestSide ⌝ }
     ensures { λ r. ⌜ r ≡ triples.high side ⌝ }
 {
@@ -57,29 +57,32 @@ pub(crate) fn high(side: usize) -> Triple
 }
 
 // The first four blends.
-fn first_four(w: usize, h: usize) -> Table
+pub(crate) fn first_four(w: usize, h: usize) -> [Blend; 4]
     requires { ⌜ (w ≤ largestSide) × (h ≤ largestSide) ⌝ }
-    ensures { λ r. ⌜ r ≡ table (firstFour w h) ⌝ }
+    ensures { λ r. ⌜ r ≡ firstFour w h ⌝ }
 {
-    let mut t = refusal().table;
-    t.blends[0] = Blend {
-        across: low(w),
-        up: low(h),
-    };
-    t.blends[1] = Blend {
-        across: low(w),
-        up: high(h),
-    };
-    t.blends[2] = Blend {
-        across: high(w),
-        up: low(h),
-    };
-    t.blends[3] = Blend {
-        across: high(w),
-        up: high(h),
-    };
-    t.count = 4;
-    t
+    let left = low(w);
+    let right = high(w);
+    let bottom = low(h);
+    let top = high(h);
+    [
+        Blend {
+            across: left,
+            up: bottom,
+        },
+        Blend {
+            across: left,
+            up: top,
+        },
+        Blend {
+            across: right,
+            up: bottom,
+        },
+        Blend {
+            across: right,
+            up: top,
+        },
+    ]
 }
 
 // The table of a fresh map; an empty one where a side is out of range.
@@ -92,5 +95,12 @@ pub fn fresh_table(w: usize, h: usize) -> Table
     if !allowed_side(h) {
         return refusal().table;
     }
-    first_four(w, h)
+    let four = first_four(w, h);
+    let mut t = refusal().table;
+    t.blends[0] = four[0];
+    t.blends[1] = four[1];
+    t.blends[2] = four[2];
+    t.blends[3] = four[3];
+    t.count = 4;
+    t
 }

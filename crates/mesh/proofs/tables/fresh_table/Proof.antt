@@ -2,10 +2,16 @@
 use borrow.Author.Needs.{needs}
 use mathlib.Core.Path.{_≡_, ap, _∙_}
 use mathlib.Core.Bool.{true}
+use mathlib.Core.List.{List, [], _∷_}
+use Prim.Native.Nat.{ℕ}
+use lib.ListN.{getD}
 use Rattle.mesh.specs.declared.Found.{Found}
+use Rattle.mesh.specs.declared.Blend.{Blend}
+use Rattle.mesh.specs.Blends.{firstFour}
 use Rattle.mesh.specs.Lines.{allowedSide}
-use Rattle.mesh.specs.Sound.{freshTable}
+use Rattle.mesh.specs.Sound.{none, table, freshTable}
 use Rattle.axis.proofs.Tests.{passed, failed}
+use Rattle.mesh.proofs.BlendTables.{four-set}
 use Rattle.mesh.proofs.Ranges.{side-says}
 use Rattle.mesh.proofs.tables.fresh_table.Statement.{statement}
 use Rattle.mesh.proofs.tables.fresh_table.Tie as tie
@@ -32,9 +38,17 @@ up c = passed (c .before .allowed-side2 .ensures) (c .if2 .left)
 first-four-requires : tie.Need-first-four-requires
 first-four-requires c κs = (side-says _ (across (c .before .before)) .1, side-says _ (up c) .1)
 
+in-front : (four : List Blend) (w h : ℕ) → four ≡ firstFour w h →
+    table (getD four 0 none ∷ getD four 1 none ∷ getD four 2 none ∷ getD four 3 none ∷ []) ≡ table (firstFour w h)
+in-front four w h e = rw e
+
 returns-3 : tie.Need-returns-3
 unfolding freshTable
-returns-3 c = c .first-four .ensures ∙ rw (across (c .before .before .before), up (c .before))
+returns-3 c =
+    let empty = c .before .before .before .before .before in
+    let f = empty .before in
+    let blank = ap (λ (r : Found). r .table .blends) (empty .refusal3 .ensures) in
+    four-set _ _ _ _ _ blank ∙ in-front _ _ _ (f .first-four .ensures) ∙ rw (across (f .before .before .before), up (f .before))
 
 pub fresh-table-spec : {M : Type 1} → statement M
 fresh-table-spec =
@@ -47,4 +61,13 @@ fresh-table-spec =
     (λ c κs. search needs)
     returns-2
     first-four-requires
+    (λ c κs. search needs)
+    (λ c. search needs)
+    (λ c. search needs)
+    (λ c. search needs)
+    (λ c. search needs)
+    (λ c. search needs)
+    (λ c. search needs)
+    (λ c. search needs)
+    (λ c. search needs)
     returns-3)
