@@ -60,8 +60,8 @@ place-none (B ∷ bs) m n none =
     let rest = place-none bs m n (λ C k. none C (List·Memᴰ·tail k)) in
     rw (none B (List·Memᴰ·head refl)) (omega arith)
 
--- The old blends that are left and the new ones that are left: whichever old blend has the anchor of a new one that is left is left itself, and each old one that is left
--- has its anchor among the new ones that are.
+-- The old blends that are left and the new ones that are left: whichever old blend has the anchor of a new one that is left is left itself, and each old
+-- one that is left has its anchor among the new ones that are.
 pub record Walking (old new : List Blend) (j i : ℕ) : Type 0 where
   pub left-too : (B C : Blend) → List·Memᴰ B old → List·Memᴰ C (drop i new) → place B ≡ place C → List·Memᴰ B (drop j old)
   pub ahead : (B : Blend) → List·Memᴰ B (drop j old) → (C : Blend) × List·Memᴰ C (drop i new) × (place C ≡ place B)

@@ -12,8 +12,8 @@ ghost use Rattle.axis.specs.Range.{all};
 ghost use Rattle.mesh.specs.Sound.{proper, blendsOf};
 ghost use Rattle.maps.specs.Inner.{carriedArray, InTable, Grown};
 
-// The values of the new table's blends, from the old table and its values; unused places are zero. Both tables are in table order, and the old anchors are among the
-// new ones, so the two are walked side by side and no anchor is searched for.
+// The values of the new table's blends, from the old table and its values; unused places are zero. Both tables are in table order, and the old anchors are
+// among the new ones, so the two are walked side by side and no anchor is searched for.
 pub(crate) fn carried_values(
     old: Table,
     values: [u16; Table::MOST_BLENDS],

@@ -230,7 +230,8 @@ module _ (w h : ℕ) (hw : 1 ≤ w) (wide : w ≤ 128) (hh : 1 ≤ h) (high : h 
         at-note upper m = Memᴰ·append-left _ m
         at-note lower m = Memᴰ·append-right (ifReached d from to (entry upper (along d B .m))) m
 
-    pub some-reached : some from (to - from) (λ k. reached d from to (getD (notes upper d z lives) k 0) || reached d from to (getD (notes lower d z lives) k 0)) ≡
+    pub some-reached :
+        some from (to - from) (λ k. reached d from to (getD (notes upper d z lives) k 0) || reached d from to (getD (notes lower d z lives) k 0)) ≡
         any (λ B. inside z (crossed d B) && leb from (along d B .l) && leb (along d B .r) to) lives
     some-reached = same-test _ _ to-one of-one
       where

@@ -80,7 +80,8 @@ module _ (P : Layout) (b : Built P) (s : Split) (fits : inRange (P .w) (P .h) s 
   pub low-end : (line .from ≤ s .from) × (ends lower (line .from + 1) ≡ true) × ((k : ℕ) → line .from < k → k ≤ s .from → ends lower (k + 1) ≡ false)
   low-end = below-last (λ k. ends lower (k + 1)) (s .from) (gaps lower 1 (gap-edge P way at lower 1 refl))
 
-  pub high-end : (s .to ≤ line .to) × (line .to ≤ run P s) × (ends upper (line .to + 1) ≡ true) × ((k : ℕ) → s .to ≤ k → k < line .to → ends upper (k + 1) ≡ false)
+  pub high-end : (s .to ≤ line .to) × (line .to ≤ run P s) × (ends upper (line .to + 1) ≡ true) ×
+      ((k : ℕ) → s .to ≤ k → k < line .to → ends upper (k + 1) ≡ false)
   high-end =
       let in-side = ends-in P s fits in
       let f = above-first (λ k. ends upper (k + 1)) (run P s + 1) (run P s + 1 - s .to) (omega arith) (omega arith)

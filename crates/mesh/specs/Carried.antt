@@ -61,8 +61,8 @@ noted B = packed B * 65536 + (B .across .m * 256 + B .up .m)
 unfoldable pub unnoted : ℕ → Blend
 unnoted c = unpacked (c / 256 % 256) (c % 256) (c / 65536)
 
--- The notes for a line of the direction at knot z: of the blends over it those with their anchor before it (`upper`: z lies in the upper part of their triple) or
--- after it, each at the level of its anchor.
+-- The notes for a line of the direction at knot z: of the blends over it those with their anchor before it (`upper`: z lies in the upper part of their
+-- triple) or after it, each at the level of its anchor.
 unfoldable pub noteAll : Side → Direction → ℕ → List ℕ → List Blend → List ℕ
 noteAll e d z notes [] = notes
 noteAll e d z notes (B ∷ bs) = noteAll e d z (cond (knotIn e z (crossed d B)) (set notes (along d B .m) (noted B)) notes) bs

@@ -97,8 +97,8 @@ fn runs_from(uprights: &[u8], levels: &[u8], s: Split) -> usize
 fn runs_to(uprights: &[u8], levels: &[u8], run: usize, s: Split) -> usize
     requires { ⌜ Rows (s .position + 2) (now uprights) × Rows (s .position + 2) (now levels) × (s .position < largestSide) × (s .to ≤ run) ×
         (run ≤ largestSide) ⌝ }
-    ensures { λ r. ⌜ (r ≡ runsTo (bytesMesh (now (uprights .entry)) (now (levels .entry)) (direction (s .direction)) (s .position + 1)) (end run s) (131 - end run s)) ×
-        (r ≤ 131) ⌝ }
+    ensures { λ r. ⌜ (r ≡ runsTo (bytesMesh (now (uprights .entry)) (now (levels .entry)) (direction (s .direction)) (s .position + 1)) (end run s)
+        (131 - end run s)) × (r ≤ 131) ⌝ }
 {
     let mut k = last_knot(run, s);
     while k < 131 {

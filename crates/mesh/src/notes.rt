@@ -1,5 +1,5 @@
-// Notes for a line: the blends over its position, at the levels of their anchors. At each level there is one at most with its anchor before the line, and one with it
-// after, since no anchor lies inside another's support.
+// Notes for a line: the blends over its position, at the levels of their anchors. At each level there is one at most with its anchor before the line, and
+// one with it after, since no anchor lies inside another's support.
 use crate::Blend;
 use crate::cut::cut_across;
 use crate::knots::from_note;
@@ -138,7 +138,8 @@ pub(crate) fn cut_reached(
     to: usize,
     places: &mut [u32],
 )
-    requires { ⌜ (length (now lows) ≡ 131) × (length (now highs) ≡ 131) × (to ≤ 131) × AllProper (allReached (direction number) from to (now lows) (now highs)) ×
+    requires { ⌜ (length (now lows) ≡ 131) × (length (now highs) ≡ 131) × (to ≤ 131) ×
+        AllProper (allReached (direction number) from to (now lows) (now highs)) ×
         ((B : Blend) → List·Memᴰ B (allReached (direction number) from to (now lows) (now highs)) → RowsOf (now uprights) (now levels) (now places) B) ⌝ }
     ensures { λ _. ⌜ now (places .exit) ≡ keepAll (now (places .entry)) (leavesOf (bytesMesh (now (uprights .entry)) (now (levels .entry)))
         (allReached (direction number) from to (now (lows .entry)) (now (highs .entry)))) ⌝ }
@@ -157,7 +158,8 @@ pub(crate) fn cut_reached(
     }
 }
 
-// Whether at level k a blend before the line and one after it reach equally far back: at an end of the line, down to where they begin; at a start, up to where they end.
+// Whether at level k a blend before the line and one after it reach equally far back: at an end of the line, down to where they begin; at a start, up to
+// where they end.
 pub(crate) fn alike_at(
     lows: &[usize],
     highs: &[usize],

@@ -1,5 +1,5 @@
--- `maps::carry::carried_values` meets its contract. The invariant: the values of the blends passed stand in front, and zeros behind them; the old blends passed have no
--- anchor of a new one that is left.
+-- `maps::carry::carried_values` meets its contract. The invariant: the values of the blends passed stand in front, and zeros behind them; the old blends
+-- passed have no anchor of a new one that is left.
 use Prim.Native.Nat.{ℕ, _+_, _-_, _≤_, _<_}
 use native.Mathlib.Omega.{arith}
 use mathlib.Core.Path.{_≡_, refl, sym, ap, _∙_}

@@ -1,5 +1,5 @@
--- `maps::values::four_over` meets its contract. The invariant: the entries found are the last of the four, and those that remain follow them. A walk from the start finds all, so it is begun
--- anew once at most.
+-- `maps::values::four_over` meets its contract. The invariant: the entries found are the last of the four, and those that remain follow them. A walk from
+-- the start finds all, so it is begun anew once at most.
 use borrow.Author.Needs.{needs}
 use native.Mathlib.Omega.{arith}
 use Prim.Native.Nat.{ℕ, zero, suc, _+_, _-_, _*_, _<_, _≤_}
@@ -56,7 +56,8 @@ looks c =
     let behind = rw (blends-end (a .t1) (l .i) past) at (window-left (l .inv)) in
     let from = some-of (l .from) (λ z. omega (arith, four s, c .before .loop-test .taken, rw z at behind)) in
     let count = some-of (a .t1 .count) (λ z. omega (arith, rw (blends-end (a .t1) 0 (omega (arith, z))) at (four s))) in
-    rw (t .1, t .2, t .3) (record { few = omega arith; there = count; less = omega (arith, s .pre .0, from); window = record { most = omega arith; joins = refl } }))
+    let none = record { most = omega arith; joins = refl } in
+    rw (t .1, t .2, t .3) (record { few = omega arith; there = count; less = omega (arith, s .pre .0, from); window = none }))
     (λ t. rw (t .1, t .2, t .3) (record { few = c .before .loop-test .taken; there = omega (arith, t .0 .left); less = omega arith; window = l .inv }))
     (c .if1 .came)
 

@@ -1,7 +1,7 @@
 -- `mesh::carried::keep_first` meets its contract: what is kept, with the blends that are left, is the whole answer; each of the four has its row.
 use native.Mathlib.Omega.{arith}
 use native.Mathlib.Numerals.{add-one}
-use Prim.Native.Nat.{ℕ, _+_, _-_, _*_, _<_, _≤_}
+use Prim.Native.Nat.{_+_, _-_, _*_, _≤_}
 use mathlib.Core.Path.{_≡_, refl, ap, _∙_}
 use mathlib.Core.List.{List, _∷_, List·Memᴰ}
 use lib.ListN.{length, drop, getD, drop-of-length-le}

@@ -41,7 +41,19 @@ abbrev μ-loop : tie.MeasureT-loop
 μ-loop table uprights₀ levels₀ columns₀ rows₀ places lines w h count i₀ uprights levels columns rows i = count - i
 
 -- What was replayed has its table in hand:
-module _ (L : Lines) (t : Table) (hand : HasTable L t) (room : length (L .splits) ≡ 60) where
+module _ (s : tie.Start Inv-loop μ-loop) where
+  abbrev L : Lines
+  L = s .args .t1
+
+  abbrev t : Table
+  t = s .args .table
+
+  abbrev hand : HasTable L t
+  hand = s .pre .0
+
+  room : length (L .splits) ≡ 60
+  room = lines-full L (s .good .0)
+
   few : L .count ≤ 60
   few = replays-says L (hand .accepted?) .2
 
@@ -78,12 +90,12 @@ module _ (L : Lines) (t : Table) (hand : HasTable L t) (room : length (L .splits
     next = getD (L .splits) i blank
 
     more : take i (L .splits) ++ next ∷ [] ≡ take (i + 1) (L .splits)
-    more = let f = few in sym (rw add-one (take-suc (L .splits) i blank (omega arith)))
+    more = sym (rw add-one (take-suc (L .splits) i blank (omega (arith, few, room))))
 
     next-fits : inRange (L .w) (L .h) next ≡ true
     next-fits =
-        let f = few in
-        all-at (inRange (L .w) (L .h)) (splitsOf L) (replays-stands taken .ranges) _ (left-mem (L .splits) (L .count) i (omega arith) blank lt)
+        all-at (inRange (L .w) (L .h)) (splitsOf L) (replays-stands taken .ranges) _
+        (left-mem (L .splits) (L .count) i (omega (arith, few, room)) blank lt)
 
   -- all lines are drawn and all blends kept
   loaded : {i : ℕ} {ups lvs cols rows places places' : List ℕ} → i ≤ L .count → L .count ≤ i → Tall (L .w) (L .h) ups × Tall (L .w) (L .h) lvs ×
@@ -100,10 +112,10 @@ module _ (L : Lines) (t : Table) (hand : HasTable L t) (room : length (L .splits
             places (tall .2 .0) none);
       }
 
-full : (s : tie.Start Inv-loop μ-loop) → length (s .args .t1 .splits) ≡ 60
-full s = lines-full (s .args .t1) (s .good .0)
+-- the way back: from a line that is drawn to its turn, from the loop to the sides, and to the start
+abbrev turn : tie.After-add-line Inv-loop μ-loop → tie.In-loop Inv-loop μ-loop
+turn c = c .before .before .before .before .before .before
 
--- the way back: from the loop to the sides, and to the start
 abbrev drawn-at : tie.At-loop Inv-loop μ-loop → tie.After-load-sides Inv-loop μ-loop
 drawn-at c = c .before .before .before .before .before .before .before .before .before
 
@@ -113,7 +125,7 @@ start c = c .before .before .before .before .before .before .before .before .bef
 load-sides-requires : tie.Need-load-sides-requires Inv-loop μ-loop
 load-sides-requires c κs =
     let s = c .before .before .before .before .before .before .before .before .before in
-    let a = sides (s .args .t1) (s .args .table) (s .pre .0) (full s) in
+    let a = sides s in
     (a .1, a .3, s .pre .1 .undrawn)
 
 loop-holds : tie.Need-loop-holds Inv-loop μ-loop
@@ -133,7 +145,7 @@ add-line-requires c κs =
     let k = c .before .before .before .before .before .before in
     let s = start (drawn-at k) in
     let l = k .loop in
-    let a = sides (s .args .t1) (s .args .table) (s .pre .0) (full s) in
+    let a = sides s in
     let tall = still-tall k in (
       tall .0,
       tall .1,
@@ -141,29 +153,43 @@ add-line-requires c κs =
       l .inv .3 .over-rows .long,
       a .1,
       a .3,
-      next-fits (s .args .t1) (s .args .table) (s .pre .0) (full s) (l .i) (c .before .before .before .before .before .loop-test .taken),
+      next-fits s (l .i) (c .before .before .before .before .before .loop-test .taken),
     )
+
+add-i : tie.Need-add-i Inv-loop μ-loop
+add-i c =
+    let k = turn (c .before .before .before .before .before .before .before .before) in
+    omega (arith, k .loop-test .taken, few (start (drawn-at (k .before))))
 
 loop-again : tie.Need-loop-again Inv-loop μ-loop
 loop-again c =
-    let k = c .before .before .before .before .before .before .before .before .before .before .before .before .before .before .before in
-    let s = start (drawn-at k) in
-    let L = s .args .t1 in
-    let l = k .loop in
-    let lt = c .before .before .before .before .before .before .before .before .before .before .before .before .before .before .loop-test .taken in
-    let added = c .before .before .before .before .before .before .before .before .add-line .ensures in (
-      omega arith,
+    let d = c .before .before .before .before .before .before .before .before in
+    let k = turn d in
+    let s = start (drawn-at (k .before)) in
+    let l = k .before .loop in
+    let added = d .add-line .ensures in (
+      omega (arith, k .loop-test .taken),
       added .0 ∙ l .inv .1,
       added .1 ∙ l .inv .2,
-      rw (more L (s .args .table) (s .pre .0) (full s) (l .i) lt) at (drawn-more (L .w) (L .h) (take (l .i) (L .splits)) _ (l .inv .3) (added .2) (added .3)),
+      rw (more s (l .i) (k .loop-test .taken)) at
+          (drawn-more (L s .w) (L s .h) (take (l .i) (L s .splits)) _ (l .inv .3) (added .2) (added .3)),
     )
 
 keep-table-requires : tie.Need-keep-table-requires Inv-loop μ-loop
 keep-table-requires c κs =
     let s = start (drawn-at (c .before .before)) in
-    let L = s .args .t1 in
-    let t = s .args .table in
-    (few-blends L t (s .pre .0) (full s), are-proper L t (s .pre .0) (full s), are-there L t (s .pre .0) (full s) (s .args .places .now) (s .pre .1 .tall))
+    (few-blends s, are-proper s, are-there s (s .args .places .now) (s .pre .1 .tall))
+
+-- the links are as long as they were
+columns-long : tie.Need-same-length-3 Inv-loop μ-loop
+columns-long c =
+    let k = c .before .before .before .before .before in
+    k .loop .inv .3 .over-columns .long ∙ sym (unlinked-leads (start (drawn-at k) .pre .1 .undrawn .no-column) .long)
+
+rows-long : tie.Need-same-length-4 Inv-loop μ-loop
+rows-long c =
+    let k = c .before .before .before .before .before in
+    k .loop .inv .3 .over-rows .long ∙ sym (unlinked-leads (start (drawn-at k) .pre .1 .undrawn .no-row) .long)
 
 returns : tie.Need-returns Inv-loop μ-loop
 returns c =
@@ -171,8 +197,8 @@ returns c =
     let s = start (drawn-at k) in
     let clear = s .pre .1 in
     let tall = still-tall k in
-    loaded (s .args .t1) (s .args .table) (s .pre .0) (full s) (k .loop .inv .0) (c .before .before .before .before .loop-test .left) (tall .0, tall .1, clear .tall) (k .loop .inv .3)
-    (clear .no-place) (c .before .before .keep-table .ensures)
+    loaded s (k .loop .inv .0) (c .before .before .before .before .loop-test .left) (tall .0, tall .1, clear .tall) (k .loop .inv .3) (clear .no-place)
+    (c .before .before .keep-table .ensures)
 
 pub load-spec : {M : Type 1} → statement M
 load-spec =
@@ -182,16 +208,16 @@ load-spec =
     μ-loop
     load-sides-requires
     loop-holds
-    (λ c. let s = start (drawn-at (c .before)) in omega (arith, c .loop-test .taken, few (s .args .t1) (s .args .table) (s .pre .0) (full s)))
-    (λ c. let s = start (drawn-at (c .before)) in omega (arith, c .loop-test .taken, few (s .args .t1) (s .args .table) (s .pre .0) (full s), full s))
+    (λ c. omega (arith, c .loop-test .taken, few (start (drawn-at (c .before)))))
+    (λ c. let s = start (drawn-at (c .before)) in omega (arith, c .loop-test .taken, few s, room s))
     add-line-requires
-    (λ c. let s = start (drawn-at (c .before .before .before .before .before .before .before .before .before .before .before .before .before .before .before)) in omega (arith, c .before .before .before .before .before .before .before .before .before .before .before .before .before .before .loop-test .taken, few (s .args .t1) (s .args .table) (s .pre .0) (full s)))
-    (λ c. omega (arith, c .before .before .before .before .before .before .before .before .before .before .before .before .before .before .loop-test .taken))
+    add-i
+    (λ c. omega (arith, turn (c .before .before .before .before .before .before .before .before) .loop-test .taken))
     loop-again
     keep-table-requires
-    (λ c. c .before .before .before .before .before .loop .inv .1 ∙ drawn-at (c .before .before .before .before .before) .load-sides .ensures .0)
-    (λ c. c .before .before .before .before .before .loop .inv .2 ∙ drawn-at (c .before .before .before .before .before) .load-sides .ensures .1)
-    (λ c. c .before .before .before .before .before .loop .inv .3 .over-columns .long ∙ sym (unlinked-leads (start (drawn-at (c .before .before .before .before .before)) .pre .1 .undrawn .no-column) .long))
-    (λ c. c .before .before .before .before .before .loop .inv .3 .over-rows .long ∙ sym (unlinked-leads (start (drawn-at (c .before .before .before .before .before)) .pre .1 .undrawn .no-row) .long))
+    (λ c. let k = c .before .before .before .before .before in k .loop .inv .1 ∙ drawn-at k .load-sides .ensures .0)
+    (λ c. let k = c .before .before .before .before .before in k .loop .inv .2 ∙ drawn-at k .load-sides .ensures .1)
+    columns-long
+    rows-long
     (λ c. search needs)
     returns)

@@ -28,27 +28,42 @@ drawn-fresh : (w h : ℕ) {ups lvs cols rows : List ℕ} → bytesMesh ups lvs �
 drawn-fresh w h {ups} {lvs} {cols} {rows} on p q =
     subst (λ (M : Mesh). Drawn M ups lvs cols rows) (sym (no-splits w h)) (record { drawn = on; over-columns = p; over-rows = q })
 
+-- the way back: from each call to the one before it, and to the start
+abbrev columns-linked : tie.After-link-fresh2 → tie.After-link-fresh
+columns-linked c = c .before .before .before .before
+
+abbrev levels-drawn : tie.After-link-fresh → tie.After-draw-fresh2
+levels-drawn c = c .before .before .before .before
+
+abbrev uprights-drawn : tie.After-draw-fresh2 → tie.After-draw-fresh
+uprights-drawn c = c .before .before .before .before
+
+abbrev start : tie.After-draw-fresh → tie.Start
+start c = c .before .before .before .before .before .before
+
 draw-fresh-requires : tie.Need-draw-fresh-requires
 draw-fresh-requires c κs = let pre = c .before .before .before .before .before .pre in (pre .2 .no-upright, pre .2 .tall .0 .0, pre .0, pre .1)
 
 draw-fresh-requires-2 : tie.Need-draw-fresh-requires-2
-draw-fresh-requires-2 c κs = let pre = c .before .before .before .before .before .before .before .before .before .pre in (pre .2 .no-level, pre .2 .tall .1 .1, pre .1, pre .0)
+draw-fresh-requires-2 c κs = let pre = start (c .before .before .before) .pre in (pre .2 .no-level, pre .2 .tall .1 .1, pre .1, pre .0)
 
 link-fresh-requires : tie.Need-link-fresh-requires
-link-fresh-requires c κs = let pre = c .before .before .before .before .before .before .before .before .before .before .before .before .before .pre in (pre .2 .no-column, pre .0)
+link-fresh-requires c κs = let pre = start (uprights-drawn (c .before .before .before)) .pre in (pre .2 .no-column, pre .0)
 
 link-fresh-requires-2 : tie.Need-link-fresh-requires-2
-link-fresh-requires-2 c κs = let pre = c .before .before .before .before .before .before .before .before .before .before .before .before .before .before .before .before .before .pre in (pre .2 .no-row, pre .1)
+link-fresh-requires-2 c κs = let pre = start (uprights-drawn (levels-drawn (c .before .before .before))) .pre in (pre .2 .no-row, pre .1)
 
 returns : tie.Need-returns
 returns c =
-    let a = c .before .before .before .before .before .before .before .before .before .before .before .before .before .before .before .before .before .before .before .before .args in
-    let ups = c .before .before .before .before .before .before .before .before .before .before .before .before .before .before .draw-fresh .ensures in
-    let lvs = c .before .before .before .before .before .before .before .before .before .before .draw-fresh2 .ensures in (
-      ups .0,
-      lvs .0,
-      drawn-fresh (a .w) (a .h) (both-fresh (a .w) (a .h) _ _ (ups .1 upright _ _ refl refl) (lvs .1 level _ _ refl refl))
-          (c .before .before .before .before .before .before .link-fresh .ensures upright _ _ refl) (c .before .before .link-fresh2 .ensures level _ _ refl),
+    let rows = c .before .before in
+    let columns = columns-linked rows in
+    let l = levels-drawn columns in
+    let u = uprights-drawn l in
+    let a = start u .args in
+    let on = both-fresh (a .w) (a .h) _ _ (u .draw-fresh .ensures .1 upright _ _ refl refl) (l .draw-fresh2 .ensures .1 level _ _ refl refl) in (
+      u .draw-fresh .ensures .0,
+      l .draw-fresh2 .ensures .0,
+      drawn-fresh (a .w) (a .h) on (columns .link-fresh .ensures upright _ _ refl) (rows .link-fresh2 .ensures level _ _ refl),
     )
 
 pub load-sides-spec : {M : Type 1} → statement M
@@ -59,8 +74,8 @@ load-sides-spec =
     draw-fresh-requires-2
     link-fresh-requires
     link-fresh-requires-2
-    (λ c. c .before .before .before .before .before .before .before .before .before .before .before .before .before .before .draw-fresh .ensures .0)
-    (λ c. c .before .before .before .before .before .before .before .before .before .before .draw-fresh2 .ensures .0)
+    (λ c. uprights-drawn (levels-drawn (columns-linked (c .before .before))) .draw-fresh .ensures .0)
+    (λ c. levels-drawn (columns-linked (c .before .before)) .draw-fresh2 .ensures .0)
     (λ c. search needs)
     (λ c. search needs)
     returns)

@@ -84,7 +84,8 @@ cut-across-found : (t : ℕ) (c : cut-across-lts.Then1 (cut-across-claims t) (cu
     let a = c .before .before .before .before .before .before .before .before .args in
     Found (bytesMesh (a .uprights .now) (a .levels .now)) upright (a .x) (c .before .first-line .result)
 unfolding bytesMesh
-cut-across-found t c = record { ok = c .before .before .before .before .before .before .before .before .pre .1 .1; is = c .before .first-line .ensures; some = c .if1 .taken }
+cut-across-found t c =
+    record { ok = c .before .before .before .before .before .before .before .before .pre .1 .1; is = c .before .first-line .ensures; some = c .if1 .taken }
 
 cut-across-cut-up-requires : (t : ℕ) → cut-across-lts.Need-cut-up-requires (cut-across-claims t) (cut-across-at t) cut-across.Post
 cut-across-cut-up-requires t c κs =
@@ -169,7 +170,8 @@ cut-up-found : (t : ℕ) (c : cut-up-lts.Then1 (cut-up-claims t) (cut-up-at t) c
     let a = c .before .before .before .before .before .before .before .before .args in
     Found (bytesMesh (a .uprights .now) (a .levels .now)) level (a .x) (c .before .first-line .result)
 unfolding bytesMesh
-cut-up-found t c = record { ok = c .before .before .before .before .before .before .before .before .pre .1 .1; is = c .before .first-line .ensures; some = c .if1 .taken }
+cut-up-found t c =
+    record { ok = c .before .before .before .before .before .before .before .before .pre .1 .1; is = c .before .first-line .ensures; some = c .if1 .taken }
 
 cut-up-cut-across-requires : (t : ℕ) → cut-up-lts.Need-cut-across-requires (cut-up-claims t) (cut-up-at t) cut-up.Post
 cut-up-cut-across-requires t c κs =

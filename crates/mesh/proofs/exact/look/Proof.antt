@@ -154,8 +154,10 @@ last c ss now =
     let b = ranged (shared (ended-at k)) in
     let s = start b in
     let told = k .note-all .ensures in
+    let n = noted-there now (s .args .s) (s .pre .1) (s .pre .2) (told .0) (told .1) in
     c .some-reached .ensures ∙
-    cuts-some now (s .args .s) (noted-there now (s .args .s) (s .pre .1) (s .pre .2) (told .0) (told .1)) (fits b) (c .before .before .before .before .run-of .ensures) (c .before .before .before .before .before .runs-from .ensures) (c .before .before .before .runs-to .ensures .0)
+    cuts-some now (s .args .s) n (fits b) (c .before .before .before .before .run-of .ensures) (c .before .before .before .before .before .runs-from .ensures)
+    (c .before .before .before .runs-to .ensures .0)
 
 passed : (c : tie.After-some-reached) (ss : List Split) → let s = start (ranged (shared (ended-at (noted-at c)))) in let a = s .args in
     a .count ≡ length ss → Now s ss → given (layout (a .w) (a .h) ss) (a .s) ≡ cond (not (c .some-reached .result)) 7 0
@@ -167,7 +169,7 @@ passed c ss e now =
       fits (ranged l),
       lt-leb 60 (length ss) (omega (arith, l .before .if2 .left)),
       sym (shares-is l ss now) ∙ k .before .if3 .left,
-      sym (ended-is k ss now) ∙ not-false _ (c .before .before .before .before .before .before .before .before .before .before .before .before .before .before .if4 .left),
+      sym (ended-is k ss now) ∙ not-false _ (noted-at c .before .before .before .before .if4 .left),
       sym (last c ss now),
     )
 

@@ -16,9 +16,15 @@ use Rattle.mesh.proofs.Stepping.{refused-first, carried-sides, carried-
 use Rattle.mesh.proofs.exact.step.Statement.{statement}
 use Rattle.mesh.proofs.exact.step.Tie as tie
 
--- the way back: from the ends' test to the look, and to the start
+-- the way back: from the drawing to the ends' test, behind the first five, to the look, and to the start
+abbrev ends-good : tie.After-draw → tie.Else2
+ends-good c = c .before .before .before .before .before .before .before .before
+
+abbrev behind : tie.After-good-ends → tie.Else1
+behind c = c .before .before .before .before .before .before
+
 abbrev looked : tie.After-good-ends → tie.After-look
-looked c = c .before .before .before .before .before .before .before .before .before
+looked c = behind c .before .before .before
 
 abbrev start : tie.After-look → tie.Start
 start c = c .before .before .before .before .before .before .before .before .before .before .before .before .before
@@ -57,8 +63,9 @@ decided : (c : tie.After-good-ends) (ss : List Split) → let s = start (looked 
     exactNumber (layout (a .w) (a .h) ss) (a .s) ≡ cond (c .good-ends .result) 0 8
 decided c ss e now =
     let told = looked c .look .ensures ss e now in
-    let none = c .before .before .before .before .before .before .if1 .left in
-    judged now (start (looked c) .args .s) (told .1 none) (sym (told .0) ∙ none) (c .before .before .before .before .before .run-of .ensures) (c .good-ends .ensures)
+    let none = behind c .if1 .left in
+    let run = c .before .before .before .before .before .run-of .ensures in
+    judged now (start (looked c) .args .s) (told .1 none) (sym (told .0) ∙ none) run (c .good-ends .ensures)
 
 returns-2 : tie.Need-returns-2
 returns-2 c = (
@@ -72,15 +79,18 @@ accepted c ss e now = decided (c .before) ss e now ∙ rw (not-false (c .before 
 
 draw-requires : tie.Need-draw-requires
 draw-requires c κs =
-    let k = looked (c .before .before .before .before .before .before .before .before) in
-    let pre = start k .pre in
-    (pre .0, pre .2, k .look .ensures (pre .0) (pre .1) (pre .2) .1 (c .before .before .before .before .before .before .before .before .before .before .before .before .before .before .if1 .left), accepted (c .before .before .before .before .before .before .before) (pre .0) (pre .1) (pre .2))
+    let k = c .before .before .before .before .before .before .before in
+    let l = looked (k .before) in
+    let pre = start l .pre in
+    (pre .0, pre .2, l .look .ensures (pre .0) (pre .1) (pre .2) .1 (behind (k .before) .if1 .left), accepted k (pre .0) (pre .1) (pre .2))
 
 returns-3 : tie.Need-returns-3
 returns-3 c = (
   λ ss e now.
-      let ok = accepted (c .before .before .before .before .before .before .before .before .before .before .before .before .before .before .before .before .before .before) ss e now in
-      (sym ok, λ z. c .before .before .before .before .before .before .before .before .before .before .draw .ensures ss now (looked (c .before .before .before .before .before .before .before .before .before .before .before .before .before .before .before .before .before .before .before) .look .ensures ss e now .1 (c .before .before .before .before .before .before .before .before .before .before .before .before .before .before .before .before .before .before .before .before .before .before .before .before .before .if1 .left)) ok),
+      let d = c .before .before .before .before .before .before .before .before .before .before in
+      let k = ends-good d in
+      let ok = accepted k ss e now in
+      (sym ok, λ z. d .draw .ensures ss now (looked (k .before) .look .ensures ss e now .1 (behind (k .before) .if1 .left)) ok),
   λ ne. absurd (ne refl),
 )
 

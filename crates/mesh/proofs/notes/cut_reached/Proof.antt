@@ -80,9 +80,10 @@ cut-across-requires : tie.Need-cut-across-requires Inv-loop μ-loop
 cut-across-requires c κs =
     let s = c .before .before .before .before .before .before .before .before .before .before .before .before in
     let a = s .args in
-    let l = c .before .before .before .before .before .before .loop in
-    let there = low-there (direction (a .number)) (a .from) (a .to) (a .lows .now) (a .highs .now) (l .k) (l .inv .0) (c .before .before .before .before .before .loop-test .taken)
-    (sym (c .before .before .before .is-reached .ensures) ∙ c .before .before .if1 .taken) in (
+    let k = c .before .before .before .before .before in
+    let l = k .before .loop in
+    let on = sym (c .before .before .before .is-reached .ensures) ∙ c .before .before .if1 .taken in
+    let there = low-there (direction (a .number)) (a .from) (a .to) (a .lows .now) (a .highs .now) (l .k) (l .inv .0) (k .loop-test .taken) on in (
       rw (c .before .from-note .ensures, l .inv .1 .long) (s .pre .4 _ there),
       rw (c .before .from-note .ensures) (s .pre .3 _ there),
       λ e. absurd (true-not-false _ e refl),
@@ -110,9 +111,10 @@ cut-across-requires-2 : tie.Need-cut-across-requires-2 Inv-loop μ-loop
 cut-across-requires-2 c κs =
     let s = c .before .before .before .before .before .before .before .before .before .before .before .before .before .before .before in
     let a = s .args in
-    let l = c .before .before .before .before .before .before .before .before .before .loop in
-    let there = high-there (direction (a .number)) (a .from) (a .to) (a .lows .now) (a .highs .now) (l .k) (l .inv .0) (c .before .before .before .before .before .before .before .before .loop-test .taken)
-    (sym (c .before .before .before .is-reached2 .ensures) ∙ c .before .before .if2 .taken) in (
+    let k = c .before .before .before .before .before .before .before .before in
+    let l = k .before .loop in
+    let on = sym (c .before .before .before .is-reached2 .ensures) ∙ c .before .before .if2 .taken in
+    let there = high-there (direction (a .number)) (a .from) (a .to) (a .lows .now) (a .highs .now) (l .k) (l .inv .0) (k .loop-test .taken) on in (
       rw (c .before .from-note2 .ensures, half-way (c .before .before .before .before .before) .long) (s .pre .4 _ there),
       rw (c .before .from-note2 .ensures) (s .pre .3 _ there),
       λ e. absurd (true-not-false _ e refl),

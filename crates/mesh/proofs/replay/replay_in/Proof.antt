@@ -40,6 +40,11 @@ returns c =
     let r = turn k .before .loop .inv .0 in
     c .refusal .ensures ∙ replay-stop r (turn k .loop-test .taken) (k .step .ensures .0 _ (replay-long r) (r .carried) .0) (c .before .if1 .taken)
 
+add-i : tie.Need-add-i Inv-loop μ-loop
+add-i c =
+    let k = turn (c .before .before .before .before .before .before .before .before .before .before .before) in
+    omega (arith, k .loop-test .taken, k .before .loop .inv .0 .few)
+
 loop-again : tie.Need-loop-again Inv-loop μ-loop
 loop-again c =
     let k = c .before .before .before .before .before .before .before .before .before .before .before in
@@ -79,7 +84,7 @@ replay-in-spec =
     (λ c. search needs)
     (λ c. search needs)
     returns
-    (λ c. let k = turn (c .before .before .before .before .before .before .before .before .before .before .before) in omega (arith, k .loop-test .taken, k .before .loop .inv .0 .few))
+    add-i
     (λ c. omega (arith, turn (c .before .before .before .before .before .before .before .before .before .before .before) .loop-test .taken))
     loop-again
     read-out-requires

@@ -19,8 +19,14 @@ line-of c = c .before .before .before .before .before .before
 abbrev behind : tie.Joined1 → tie.After-load
 behind c = c .before .before .before .before .before .before .before .before .before .before .before
 
+abbrev lengthens : tie.After-look → tie.Then1
+lengthens c = c .before .before .before .before .before .before .before .before
+
+abbrev loaded : tie.Then1 → tie.After-load
+loaded c = c .before .before .before .before .before .before .before .before .before .before .before
+
 abbrev looked : tie.After-look → tie.After-load
-looked c = c .before .before .before .before .before .before .before .before .before .before .before .before .before .before .before .before .before .before .before
+looked c = loaded (lengthens c)
 
 abbrev start : tie.After-load → tie.Start
 start c = c .before .before .before .before .before .before .before .before .before .before .before
@@ -32,13 +38,13 @@ counted : (s : tie.Start) → s .args .lines .count ≡ length (splitsOf (s .arg
 counted s = sym (counted-lines (s .args .lines) (places s) (s .pre .0 .accepted?))
 
 look-requires : tie.Need-look-requires
-look-requires c κs = let l = c .before .before .before .before .before .before .before .before .before .before .before .before .before .before .before .before .before .before in ((_, counted (start l), l .load .ensures), refl, refl)
+look-requires c κs = let l = loaded (c .before .before .before .before .before .before .before) in ((_, counted (start l), l .load .ensures), refl, refl)
 
 returns : tie.Need-returns
 returns c =
     let k = c .before .before .before .before in
     let s = start (looked k) in
-    rw (c .before .before .before .before .before .before .before .before .before .before .before .before .if1 .taken)
+    rw (lengthens k .if1 .taken)
     (c .refused .ensures ∙ refused-given (s .args .lines) (s .args .table) (s .args .s) (k .look .ensures _ (counted s) (looked k .load .ensures) .0)
     (c .before .if2 .taken))
 
