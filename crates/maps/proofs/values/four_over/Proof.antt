@@ -56,8 +56,8 @@ looks c =
     let behind = rw (blends-end (a .t1) (l .i) past) at (window-left (l .inv)) in
     let from = some-of (l .from) (λ z. omega (arith, four s, c .before .loop-test .taken, rw z at behind)) in
     let count = some-of (a .t1 .count) (λ z. omega (arith, rw (blends-end (a .t1) 0 (omega (arith, z))) at (four s))) in
-    let none = record { most = omega arith; joins = refl } in
-    rw (t .1, t .2, t .3) (record { few = omega arith; there = count; less = omega (arith, s .pre .0, from); window = none }))
+    rw (t .1, t .2, t .3)
+    (record { few = omega arith; there = count; less = omega (arith, s .pre .0, from); window = record { most = omega arith; joins = refl } }))
     (λ t. rw (t .1, t .2, t .3) (record { few = c .before .loop-test .taken; there = omega (arith, t .0 .left); less = omega arith; window = l .inv }))
     (c .if1 .came)
 
