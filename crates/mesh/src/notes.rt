@@ -170,16 +170,16 @@ pub(crate) fn alike_at(
     requires { ⌜ (length (now lows) ≡ 131) × (length (now highs) ≡ 131) × (k < 131) ⌝ }
     ensures { λ r. ⌜ r ≡ alike (cond start lower upper) (direction number) (getD (now (lows .entry)) k 0) (getD (now (highs .entry)) k 0) ⌝ }
 {
-    let a = lows[k];
-    if a == 0 {
+    let low = lows[k];
+    if low == 0 {
         return false;
     }
-    let b = highs[k];
-    if b == 0 {
+    let high = highs[k];
+    if high == 0 {
         return false;
     }
-    let s = along_of(number, from_note(a));
-    let t = along_of(number, from_note(b));
+    let s = along_of(number, from_note(low));
+    let t = along_of(number, from_note(high));
     if start {
         return s.r == t.r;
     }

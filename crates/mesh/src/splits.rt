@@ -114,10 +114,11 @@ fn split_in(
     if number != 0 {
         return refused(number, s, table);
     }
+    let after = read_out(places, columns, rows, w, h);
     Step {
         number: 0,
         split: line,
-        table: read_out(places, columns, rows, w, h),
+        table: after,
     }
 }
 
