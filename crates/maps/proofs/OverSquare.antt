@@ -7,19 +7,18 @@ use mathlib.Core.Logic.{⊎-elim}
 use mathlib.Core.Bool.{Bool, true, false}
 use borrow.Author.Tests.{eqb-true}
 use lib.Dec.{eqb}
-use lib.ListN.{length, getD, take, drop, length-map, length-append, length-drop, length-take}
+use lib.ListN.{length, take, drop, length-map, length-append, length-drop, length-take}
 use mathlib.Core.List.{List, [], _∷_, _++_, map, List·Memᴰ, List·Memᴰ·cases-cons, List·Memᴰ·not-nil}
 use mathlib.Core.List.List·Memᴰ.{List·Memᴰ·head, List·Memᴰ·tail}
 use Rattle.axis.specs.Triple.{hat, spans}
 use Rattle.axis.specs.Fraction.{Equal}
 use Rattle.mesh.specs.Weight.{weight}
 use Rattle.axis.specs.Range.{every, all, only}
-use Rattle.mesh.specs.Sound.{overSquare, proper, blendsOf, none, sound, fourEverywhere, noneNested, ProperIn}
+use Rattle.mesh.specs.Sound.{overSquare, proper, blendsOf, sound, fourEverywhere, noneNested, ProperIn}
 use Rattle.mesh.specs.declared.Table.{Table}
 use Rattle.mesh.specs.declared.Blend.{Blend}
 use Rattle.axis.proofs.Tests.{either, and-both, and-fails, every-at, all-at}
 use Rattle.mesh.proofs.BlendTables.{proper-most}
-use Rattle.axis.proofs.Entries.{left-mem}
 use Rattle.axis.specs.Gap.{gap, share, corner}
 use Rattle.axis.proofs.Sums.{times-equal}
 use Rattle.axis.proofs.Triples.{rise-of}
@@ -69,12 +68,6 @@ four-at w h bs e u v w1 h1 uw vh =
     let i = corner-in w u (corner w u) w1 uw refl in
     let j = corner-in h v (corner h v) h1 vh refl in
     four-over w h bs e _ _ (i .0) (i .1) (j .0) (j .1)
-
--- a blend of a table that is proper for sides of at most 128
-pub proper-at : (w h : ℕ) → w ≤ 128 → h ≤ 128 → (t : Table) → all (proper w h) (blendsOf t) ≡ true → (i : ℕ) → i < t .count →
-    t .count ≤ length (t .blends) → proper 128 128 (getD (t .blends) i none) ≡ true
-proper-at w h hw hh t e i lt le =
-    all-at (proper 128 128) (blendsOf t) (proper-most w h (blendsOf t) hw hh e) _ (left-mem (t .blends) (t .count) i le none lt)
 
 -- the entries that pass a test: their blends are those that do, and each has its place
 module _ (test : Blend → Bool) where
