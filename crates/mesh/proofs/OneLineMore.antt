@@ -15,7 +15,7 @@ use Rattle.mesh.specs.Lines.{Direction, upright, level, number, other, s
 use Rattle.mesh.specs.Splits.{withLine}
 use Rattle.mesh.specs.Order.{Coarser}
 use Rattle.mesh.specs.Bytes.{bytesMesh}
-use Rattle.mesh.specs.Carried.{Leads, Bare, Drawn}
+use Rattle.mesh.specs.Carried.{Leads, Bare, InBytes}
 use Rattle.mesh.specs.declared.Split.{Split}
 use Rattle.mesh.proofs.Ranges.{in-range-says}
 
@@ -123,11 +123,11 @@ module _ (P : Layout) (s : Split) where
         (or-either (meshOf P e z k) (draws (P .w) (P .h) e z k s) (sym (more-steps P s e z k) ∙ on))
 
 -- bytes and links with one line more
-pub drawn-more : (w h : ℕ) (ss : List Split) (s : Split) {ups lvs cols rows ups' lvs' cols' rows' : List ℕ} → Drawn (mesh w h ss) ups lvs cols rows →
+pub in-bytes-more : (w h : ℕ) (ss : List Split) (s : Split) {ups lvs cols rows ups' lvs' cols' rows' : List ℕ} → InBytes (mesh w h ss) ups lvs cols rows →
     ((e : Direction) (y k : ℕ) → bytesMesh ups' lvs' e y k ≡ (bytesMesh ups lvs e y k || draws w h e y k s)) →
     ((M N : Mesh) → ((e : Direction) (y k : ℕ) → N e y k ≡ (M e y k || draws w h e y k s)) → Leads (Bare M upright) cols → Leads (Bare M level) rows →
-    Leads (Bare N upright) cols' × Leads (Bare N level) rows') → Drawn (mesh w h (ss ++ s ∷ [])) ups' lvs' cols' rows'
-drawn-more w h ss s was drawn linked =
+    Leads (Bare N upright) cols' × Leads (Bare N level) rows') → InBytes (mesh w h (ss ++ s ∷ [])) ups' lvs' cols' rows'
+in-bytes-more w h ss s was drawn linked =
     let P = layout w h ss in
     let leads = linked (mesh w h ss) (mesh w h (ss ++ s ∷ [])) (more-steps P s) (was .over-columns) (was .over-rows) in
     record {

@@ -25,7 +25,7 @@ use Rattle.mesh.proofs.Cuts.{proper-facts}
 use Rattle.mesh.proofs.Ranges.{in-range-rows}
 use Rattle.mesh.proofs.BlendTables.{proper-largest}
 use Rattle.mesh.proofs.SoundMaps.{live-proper}
-use Rattle.mesh.proofs.OneLineMore.{more-finer, drawn-more}
+use Rattle.mesh.proofs.OneLineMore.{more-finer, in-bytes-more}
 use Rattle.mesh.proofs.Accepted.{replays-sides, replays-stands, replays-sound, replays-short, replays-more}
 use Rattle.mesh.proofs.Holding.{held-next, held-walk, held-walks, keepAll-length}
 use Rattle.mesh.proofs.Noting.{notes-long, reached-mem, some-reached}
@@ -158,7 +158,7 @@ module _ {w h : ℕ} {ss : List Split} {ups lvs cols rows places : List ℕ} (no
             let a = carried-sides in
             let N = mesh w h (ss ++ s ∷ []) in
             let taken = replays-more (now .taken) s ok in
-            let lines = drawn-more w h ss s (now .lines) drawn linked in
+            let lines = in-bytes-more w h ss s (now .lines) drawn linked in
             let same : places' ≡ keepAll places (leavesOf N cut) = kept ∙ rw (lines .drawn) in
             record {
               taken = taken;

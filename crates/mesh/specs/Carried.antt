@@ -38,7 +38,7 @@ abbrev pub Held : List ℕ → List Blend → Type 0
 Held places bs = (m n : ℕ) → m < 131 → n < 131 → kept places m n ≡ only (anchored m n) bs
 
 -- A mesh in bytes, and links over the columns and the rows in which no line stands.
-pub record Drawn (M : Mesh) (uprights levels columns rows : List ℕ) : Type 0 where
+pub record InBytes (M : Mesh) (uprights levels columns rows : List ℕ) : Type 0 where
   pub drawn : bytesMesh uprights levels ≡ M
   pub over-columns : Leads (Bare M upright) columns
   pub over-rows : Leads (Bare M level) rows
@@ -47,7 +47,7 @@ pub record Drawn (M : Mesh) (uprights levels columns rows : List ℕ) : Type 0 w
 pub record Carried (w h : ℕ) (ss : List Split) (uprights levels columns rows places : List ℕ) : Type 0 where
   pub taken : Replays (layout w h ss)
   pub tall : Tall w h uprights × Tall w h levels × Tall w h places
-  pub lines : Drawn (mesh w h ss) uprights levels columns rows
+  pub lines : InBytes (mesh w h ss) uprights levels columns rows
   pub held : Held places (live w h (mesh w h ss))
 
 -- of some splits, so many

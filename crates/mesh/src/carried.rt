@@ -21,7 +21,7 @@ ghost use Rattle.mesh.specs.Blends.{firstFour};
 ghost use Rattle.mesh.specs.Sound.{proper, blendsOf};
 ghost use Rattle.mesh.specs.Replay.{HasTable};
 ghost use Rattle.mesh.specs.Bytes.{Rows, Tall, bytesMesh, keepAll};
-ghost use Rattle.mesh.specs.Carried.{Leads, Bare, Drawn, Carried, Undrawn, Cleared};
+ghost use Rattle.mesh.specs.Carried.{Leads, Bare, InBytes, Carried, Undrawn, Cleared};
 
 // Draws a split's line and links its knot.
 pub(crate) fn add_line(
@@ -91,7 +91,7 @@ fn load_sides(
 )
     requires { ⌜ (w ≤ largestSide) × (h ≤ largestSide) × Undrawn w h (now uprights) (now levels) (now columns) (now rows) ⌝ }
     ensures { λ _. ⌜ (length (now (uprights .exit)) ≡ length (now (uprights .entry))) × (length (now (levels .exit)) ≡ length (now (levels .entry))) ×
-        Drawn (mesh w h []) (now (uprights .exit)) (now (levels .exit)) (now (columns .exit)) (now (rows .exit)) ⌝ }
+        InBytes (mesh w h []) (now (uprights .exit)) (now (levels .exit)) (now (columns .exit)) (now (rows .exit)) ⌝ }
 {
     draw_fresh(w, h, uprights);
     draw_fresh(h, w, levels);

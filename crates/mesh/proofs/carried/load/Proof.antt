@@ -16,7 +16,7 @@ use Rattle.mesh.specs.Blends.{live}
 use Rattle.mesh.specs.Sound.{proper, blendsOf}
 use Rattle.mesh.specs.Bytes.{Rows, Tall, Zeros, keepAll}
 use Rattle.mesh.specs.Replay.{Replays, HasTable}
-use Rattle.mesh.specs.Carried.{Drawn, Carried}
+use Rattle.mesh.specs.Carried.{InBytes, Carried}
 use Rattle.mesh.specs.declared.Split.{Split}
 use Rattle.mesh.specs.declared.Blend.{Blend}
 use Rattle.mesh.specs.declared.Lines.{Lines}
@@ -26,7 +26,7 @@ use Rattle.mesh.proofs.BlendTables.{lines-full, table-blends, table-cou
 use Rattle.mesh.proofs.Drawing.{blank}
 use Rattle.mesh.proofs.Accepted.{replays-says, lines-replay, replays-sides, replays-stands, replays-sound, replays-short}
 use Rattle.mesh.proofs.SoundMaps.{live-proper}
-use Rattle.mesh.proofs.OneLineMore.{drawn-more}
+use Rattle.mesh.proofs.OneLineMore.{in-bytes-more}
 use Rattle.mesh.proofs.Holding.{held-table, keepAll-length}
 use Rattle.mesh.proofs.Linking.{unlinked-leads}
 use Rattle.mesh.proofs.carried.load.Statement.{statement}
@@ -35,7 +35,7 @@ use Rattle.mesh.proofs.carried.load.Tie as tie
 abbrev Inv-loop : tie.InvT-loop
 Inv-loop table uprights₀ levels₀ columns₀ rows₀ places lines w h count i₀ uprights levels columns rows i =
     (i ≤ count) × (length uprights ≡ length uprights₀) × (length levels ≡ length levels₀) ×
-    Drawn (mesh (lines .w) (lines .h) (take i (lines .splits))) uprights levels columns rows
+    InBytes (mesh (lines .w) (lines .h) (take i (lines .splits))) uprights levels columns rows
 
 abbrev μ-loop : tie.MeasureT-loop
 μ-loop table uprights₀ levels₀ columns₀ rows₀ places lines w h count i₀ uprights levels columns rows i = count - i
@@ -99,7 +99,7 @@ module _ (s : tie.Start Inv-loop μ-loop) where
 
   -- all lines are drawn and all blends kept
   loaded : {i : ℕ} {ups lvs cols rows places places' : List ℕ} → i ≤ L .count → L .count ≤ i → Tall (L .w) (L .h) ups × Tall (L .w) (L .h) lvs ×
-      Tall (L .w) (L .h) places → Drawn (mesh (L .w) (L .h) (take i (L .splits))) ups lvs cols rows → Zeros places → places' ≡ keepAll places (blendsOf t) →
+      Tall (L .w) (L .h) places → InBytes (mesh (L .w) (L .h) (take i (L .splits))) ups lvs cols rows → Zeros places → places' ≡ keepAll places (blendsOf t) →
       Carried (L .w) (L .h) (splitsOf L) ups lvs cols rows places'
   loaded {i} {ups} {lvs} {cols} {rows} {places} {places'} le ge tall lines none kept =
       let last : i ≡ L .count = omega arith in
@@ -172,7 +172,7 @@ loop-again c =
       added .0 ∙ l .inv .1,
       added .1 ∙ l .inv .2,
       rw (more s (l .i) (k .loop-test .taken)) at
-          (drawn-more (L s .w) (L s .h) (take (l .i) (L s .splits)) _ (l .inv .3) (added .2) (added .3)),
+          (in-bytes-more (L s .w) (L s .h) (take (l .i) (L s .splits)) _ (l .inv .3) (added .2) (added .3)),
     )
 
 keep-table-requires : tie.Need-keep-table-requires Inv-loop μ-loop

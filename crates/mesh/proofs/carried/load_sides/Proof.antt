@@ -6,7 +6,7 @@ use mathlib.Core.Bool.{or-false}
 use mathlib.Core.List.{List, []}
 use Rattle.mesh.specs.Lines.{Direction, upright, level, Mesh, freshMesh, mesh}
 use Rattle.mesh.specs.Bytes.{stepOn, bytesMesh}
-use Rattle.mesh.specs.Carried.{Leads, Bare, Drawn}
+use Rattle.mesh.specs.Carried.{Leads, Bare, InBytes}
 use Rattle.mesh.proofs.carried.load_sides.Statement.{statement}
 use Rattle.mesh.proofs.carried.load_sides.Tie as tie
 
@@ -24,9 +24,9 @@ unfolding mesh
 no-splits w h = fun-ext (λ d. fun-ext (λ z. fun-ext (λ k. or-false (freshMesh w h d z k))))
 
 drawn-fresh : (w h : ℕ) {ups lvs cols rows : List ℕ} → bytesMesh ups lvs ≡ freshMesh w h → Leads (Bare (freshMesh w h) upright) cols →
-    Leads (Bare (freshMesh w h) level) rows → Drawn (mesh w h []) ups lvs cols rows
+    Leads (Bare (freshMesh w h) level) rows → InBytes (mesh w h []) ups lvs cols rows
 drawn-fresh w h {ups} {lvs} {cols} {rows} on p q =
-    subst (λ (M : Mesh). Drawn M ups lvs cols rows) (sym (no-splits w h)) (record { drawn = on; over-columns = p; over-rows = q })
+    subst (λ (M : Mesh). InBytes M ups lvs cols rows) (sym (no-splits w h)) (record { drawn = on; over-columns = p; over-rows = q })
 
 -- the way back: from each call to the one before it, and to the start
 abbrev columns-linked : tie.After-link-fresh2 → tie.After-link-fresh
