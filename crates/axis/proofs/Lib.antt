@@ -5,6 +5,7 @@ pub mod Distinct
 pub mod Counts
 pub mod Runs
 pub mod Turns
+pub mod Least
 pub mod Padding
 pub mod Triples
 pub mod Nearest

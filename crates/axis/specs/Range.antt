@@ -2,6 +2,7 @@
 use Prim.Native.Nat.{ℕ, zero, suc, _+_}
 use mathlib.Core.Bool.{Bool, true, false, cond, _&&_, _||_, not}
 use mathlib.Core.List.{List, [], _∷_, _++_, List·Memᴰ}
+use lib.Dec.{leb}
 
 -- whether the test holds of each of the `n` numbers from `from` on
 abbrev pub every : ℕ → ℕ → (ℕ → Bool) → Bool
@@ -42,6 +43,10 @@ any test (x ∷ xs) = test x || any test xs
 abbrev pub only {ℓ} : {A : Type ℓ} → (A → Bool) → List A → List A
 only test [] = []
 only test (x ∷ xs) = let rest = only test xs in cond (test x) (x ∷ rest) rest
+
+-- the entries of a list for which a number is least, in their order
+abbrev pub least {ℓ} : {A : Type ℓ} → (A → ℕ) → List A → List A
+least number xs = only (λ x. all (λ y. leb (number x) (number y)) xs) xs
 
 -- the lists that the entries give, joined
 abbrev pub joined {ℓ ℓ′} : {A : Type ℓ} {B : Type ℓ′} → (A → List B) → List A → List B

@@ -18,10 +18,10 @@ use Rattle.axis.proofs.Tests.{any-at, any-of}
 use Rattle.mesh.proofs.Cuts.{RiseB, cut-exactly, proper-rises}
 use Rattle.mesh.proofs.Order.{finer-cuts}
 use Rattle.mesh.proofs.SoundMaps.{live-proper}
-use Rattle.mesh.proofs.Containing.{contains-reaching, chosen-least}
-use Rattle.mesh.specs.Splits.{liveOf, withLine, given, exactNumber, run, Contains, stepsOf, chosen}
+use Rattle.mesh.proofs.Containing.{contains-spanning, chosen-least}
+use Rattle.mesh.specs.Splits.{liveOf, withLine, given, exactNumber, run, Contains, chosen}
 use Rattle.mesh.proofs.OneLineMore.{Ranged, Row, ranged, more-finer, step-drawn, step-either}
-use Rattle.mesh.proofs.Passing.{given-says, candidate-says, reaching-fits, ends-in}
+use Rattle.mesh.proofs.Passing.{given-says, candidate-says, spanning-fits, ends-in}
 
 -- A finer mesh cuts what a coarser one cuts.
 finer-cut : (M N : Mesh) → Coarser M N → (B : Blend) → RiseB B → isCut M B ≡ true → isCut N B ≡ true
@@ -32,10 +32,10 @@ finer-cut M N finer B h e =
 pub contains-fits : (P : Layout) (s c : Split) → inRange (P .w) (P .h) s ≡ true → Contains P s c → inRange (P .w) (P .h) c ≡ true
 contains-fits P s c fits i =
     let ends = ends-in P s fits in
-    rw (contains-reaching P s (omega arith) c i) (reaching-fits P s (c .from) (stepsOf c) fits (omega arith) (omega arith))
+    rw (contains-spanning P s c i) (spanning-fits P s (c .from) (c .to) fits (omega (arith, i .begins, i .ends)) (i .within))
 
 -- draws, run out, all that it draws,
-contains-finer : (P : Layout) (s c : Split) → inRange (P .w) (P .h) s ≡ true → Contains P s c → Coarser (meshOf (withLine P s)) (meshOf (withLine P c))
+pub contains-finer : (P : Layout) (s c : Split) → inRange (P .w) (P .h) s ≡ true → Contains P s c → Coarser (meshOf (withLine P s)) (meshOf (withLine P c))
 contains-finer P s c fits i e z k on =
     ⊎-elim (more-finer P c e z k)
     (λ q. subst (λ (f : Direction). meshOf (withLine P c) f z k ≡ true) (sym (q .0))

@@ -1,146 +1,124 @@
--- The lines that contain a given one are all listed, in order of length and start, so the line that a lengthened split takes is the least candidate.
-use Prim.Native.Nat.{ℕ, _+_, _≤_, _<_}
+-- The lines that contain a given one are all listed, each once, so the line that a lengthened split takes is the least candidate.
+use Prim.Native.Nat.{ℕ, _+_, _-_, _≤_, _<_}
 use native.Mathlib.Omega.{arith}
-use mathlib.Core.Path.{_≡_, refl, sym, ap, subst}
-use mathlib.Core.Logic.{inl, inr}
-use mathlib.Core.Bool.{Bool, true, _&&_}
+use mathlib.Core.Path.{_≡_, refl, sym, subst, _∙_}
 use mathlib.Core.List.{List, [], _∷_, List·Memᴰ, List·Memᴰ·eq-of-singleton, List·Memᴰ·not-nil}
 use mathlib.Core.List.List·Memᴰ.{List·Memᴰ·head}
-use borrow.Author.Tests.{leb-true, le-leb}
-use lib.Dec.{leb}
-use lib.ListN.{take}
-use Rattle.axis.specs.Range.{each, only, Ordered}
-use Rattle.axis.proofs.Tests.{and-both, and-of, only-mem, mem-only, each-mem, mem-each}
-use Rattle.axis.proofs.Distinct.{each-ordered, only-ordered, first-before}
+use Rattle.axis.specs.Range.{each, only, least, Distinct}
+use Rattle.axis.proofs.Tests.{only-mem, mem-only, each-mem, mem-each}
+use Rattle.axis.proofs.Distinct.{only-distinct, each-distinct, singleton, nothing}
+use Rattle.axis.proofs.Least.{least-says, least-of, some-least}
 use Rattle.mesh.specs.declared.Split.{Split}
 use Rattle.mesh.specs.Lines.{Layout}
-use Rattle.mesh.specs.Splits.{reaching, run, containing, Contains, stepsOf, Precedes, candidate, chosen, Least}
+use Rattle.mesh.specs.Splits.{spanning, run, containing, Contains, adds, stepsOf, candidate, chosen, Candidate, Least}
 
 module _ (P : Layout) (s : Split) where
-  -- the line of a length from a start, where it reaches the given end and not past the side; the lines of a length
-  abbrev reaches : Split → Bool
-  reaches c = leb (s .to) (c .to) && leb (c .to) (run P s)
+  -- the lines from a start on
+  abbrev ends : ℕ → ℕ → List Split
+  ends from to = spanning s from to ∷ []
 
-  abbrev pub line : ℕ → ℕ → List Split
-  line n from = only reaches (reaching s from n ∷ [])
+  abbrev starts : ℕ → List Split
+  starts from = each (s .to) (run P s + 1 - s .to) (ends from)
 
-  abbrev row : ℕ → List Split
-  row n = each 0 (s .from + 1) (line n)
+  pub contains-spanning : (c : Split) → Contains P s c → c ≡ spanning s (c .from) (c .to)
+  contains-spanning c i = rw (← i .same-way, ← i .same-place)
 
-  pub line-says : (n from : ℕ) (c : Split) → List·Memᴰ c (line n from) → (c ≡ reaching s from n) × (s .to ≤ from + n) × (from + n ≤ run P s)
-  line-says n from c m =
-      let o = only-mem reaches (reaching s from n ∷ []) c m in
-      let is : c ≡ reaching s from n = List·Memᴰ·eq-of-singleton (o .0) in
-      let t : leb (s .to) (from + n) && leb (from + n) (run P s) ≡ true =
-      subst (λ (x : Split). leb (s .to) (x .to) && leb (x .to) (run P s) ≡ true) is (o .1) in
-      let b = and-both (leb (s .to) (from + n)) (leb (from + n) (run P s)) t in
-      (is, leb-true _ _ (b .0), leb-true _ _ (b .1))
-
-  row-says : (n : ℕ) (c : Split) → List·Memᴰ c (row n) →
-      (from : ℕ) × (c ≡ reaching s from n) × (from ≤ s .from) × (s .to ≤ from + n) × (from + n ≤ run P s)
-  row-says n c m =
-      let q = each-mem 0 (s .from + 1) (line n) c m in
-      let hi : q .0 < 0 + (s .from + 1) = q .2 in
-      let l = line-says n (q .0) c (q .3) in
-      (q .0, l .0, omega arith, l .1, l .2)
-
-  -- every line of the list contains the given one,
-  pub containing-says : (c : Split) → List·Memᴰ c (containing P s) →
-      (from : ℕ) × (n : ℕ) × (c ≡ reaching s from n) × (from ≤ s .from) × (s .to ≤ from + n) × (from + n ≤ run P s)
+  -- every line of the list contains the given one, and every line that does is in it,
+  pub containing-complete : (c : Split) → (List·Memᴰ c (containing P s) → Contains P s c) × (Contains P s c → List·Memᴰ c (containing P s))
   unfolding containing
-  containing-says c m =
-      let r = each-mem 0 (run P s + 1) row c m in
-      let q = row-says (r .0) c (r .3) in
-      (q .0, r .0, q .1, q .2, q .3, q .4)
+  containing-complete c = (
+    λ m.
+        let f = each-mem 0 (s .from + 1) starts c m in
+        let t = each-mem (s .to) (run P s + 1 - s .to) (ends (f .0)) c (f .3) in
+        let begins : f .0 < 0 + (s .from + 1) = f .2 in
+        let within : t .0 < s .to + (run P s + 1 - s .to) = t .2 in
+        rw (List·Memᴰ·eq-of-singleton (t .3)) (record { same-way = refl; same-place = refl; begins = omega arith; ends = t .1; within = omega arith }),
+    λ i.
+        mem-each 0 (s .from + 1) starts c (c .from) (omega arith) (omega (arith, i .begins))
+        (mem-each (s .to) (run P s + 1 - s .to) (ends (c .from)) c (c .to) (i .ends) (omega (arith, i .ends, i .within)) (List·Memᴰ·head (contains-spanning c i))),
+  )
 
-  listed-contains : (c : Split) → List·Memᴰ c (containing P s) → Contains P s c
-  listed-contains c m =
-      let r = containing-says c m in
-      let le : r .0 ≤ s .from = r .3 in
-      rw (r .2) (record { same-way = refl; same-place = refl; begins = le; ends = r .4; within = r .5 })
-
-  pub contains-reaching : s .from ≤ s .to → (c : Split) → Contains P s c → c ≡ reaching s (c .from) (stepsOf c)
-  contains-reaching rises c i =
-      let begins = i .begins in
-      let ends = i .ends in
-      let reach : c .from + stepsOf c ≡ c .to = omega arith in
-      rw (← i .same-way, ← i .same-place, reach)
-
-  -- and every line that does is in it.
-  contains-listed : s .from ≤ s .to → (c : Split) → Contains P s c → List·Memᴰ c (containing P s)
+  -- once.
+  containing-distinct : Distinct (containing P s)
   unfolding containing
-  contains-listed rises c i =
-      let from = c .from in
-      let n = stepsOf c in
-      let begins = i .begins in
-      let ends = i .ends in
-      let within = i .within in
-      let is = contains-reaching rises c i in
-      let there : List·Memᴰ c (line n from) =
-      mem-only reaches (reaching s from n ∷ []) c (List·Memᴰ·head is)
-      (and-of _ _ (le-leb _ _ ends) (le-leb _ _ within)) in
-      mem-each 0 (run P s + 1) (λ n. each 0 (s .from + 1) (line n)) c n (omega arith) (omega arith)
-      (mem-each 0 (s .from + 1) (line n) c from (omega arith) (omega arith) there)
+  containing-distinct =
+      each-distinct (λ c. c .from) 0 (s .from + 1) starts
+      (λ from. each-distinct (λ c. c .to) (s .to) (run P s + 1 - s .to) (ends from) (λ to. (λ m. List·Memᴰ·not-nil m, tt))
+      (λ to c m. rw (List·Memᴰ·eq-of-singleton m)))
+      (λ from c m. rw (List·Memᴰ·eq-of-singleton (each-mem (s .to) (run P s + 1 - s .to) (ends from) c m .3)))
 
-  pub containing-complete : s .from ≤ s .to → (c : Split) →
-      (List·Memᴰ c (containing P s) → Contains P s c) × (Contains P s c → List·Memᴰ c (containing P s))
-  containing-complete rises c = (listed-contains c, contains-listed rises c)
+  -- the candidates, and those of them that add the fewest and the shortest of these
+  abbrev all-of-them : List Split
+  all-of-them = only (candidate P) (containing P s)
 
-  -- Lines of one length stand by their start, and shorter ones first.
-  steps-reaching : (from n : ℕ) (c : Split) → c ≡ reaching s from n → (stepsOf c ≡ n) × (c .from ≡ from)
-  steps-reaching from n c is = rw is (omega arith, refl)
+  abbrev few : List Split
+  few = least (adds P) all-of-them
 
-  pub containing-ordered : Ordered Precedes (containing P s)
-  unfolding containing
-  containing-ordered =
-      each-ordered Precedes 0 (run P s + 1) (λ n. each 0 (s .from + 1) (line n)) by-start
-      (λ j k b c lt hi mb mc.
-      let x = row-says j b mb in
-      let y = row-says k c mc in
-      let p : stepsOf b ≡ j = steps-reaching (x .0) j b (x .1) .0 in
-      let q : stepsOf c ≡ k = steps-reaching (y .0) k c (y .1) .0 in
-      inl (omega arith))
+  abbrev short : List Split
+  short = least stepsOf few
+
+  listed : (c : Split) → Candidate P s c → List·Memᴰ c all-of-them
+  listed c i = mem-only (candidate P) (containing P s) c (containing-complete c .1 (i .0)) (i .1)
+
+  is-candidate : (c : Split) → List·Memᴰ c all-of-them → Candidate P s c
+  is-candidate c m = let o = only-mem (candidate P) (containing P s) c m in (containing-complete c .0 (o .0), o .1)
+
+  -- what the line taken is least of
+  record Taken (c : Split) : Type 0 where
+    there : List·Memᴰ c all-of-them
+    among-few : List·Memᴰ c few
+    among-short : List·Memᴰ c short
+    fewest : (b : Split) → List·Memᴰ b all-of-them → adds P c ≤ adds P b
+    shortest : (b : Split) → List·Memᴰ b few → stepsOf c ≤ stepsOf b
+    lowest : (b : Split) → List·Memᴰ b short → c .from ≤ b .from
+
+  taken-says : (c : Split) → List·Memᴰ c (chosen P s) → Taken c
+  unfolding chosen
+  taken-says c m =
+      let low = least-says (λ (b : Split). b .from) short c m in
+      let brief = least-says stepsOf few c (low .0) in
+      let scant = least-says (adds P) all-of-them c (brief .0) in
+      record { there = scant .0; among-few = brief .0; among-short = low .0; fewest = scant .1; shortest = brief .1; lowest = low .1 }
+
+  as-few : (b c : Split) → Taken c → Candidate P s b → adds P b ≡ adds P c → List·Memᴰ b few
+  as-few b c t i e = least-of (adds P) all-of-them b (listed b i) (λ x m. omega (arith, t .fewest x m))
+
+  as-short : (b c : Split) → Taken c → Candidate P s b → adds P b ≡ adds P c → stepsOf b ≡ stepsOf c → List·Memᴰ b short
+  as-short b c t i e f = least-of stepsOf few b (as-few b c t i e) (λ x m. omega (arith, t .shortest x m))
+
+  -- two lines taken have the same ends
+  one-taken : s .from ≤ s .to → (b c : Split) → List·Memᴰ b (chosen P s) → List·Memᴰ c (chosen P s) → b ≡ c
+  one-taken rises b c m n =
+      let t = taken-says b m in
+      let u = taken-says c n in
+      let i = is-candidate b (t .there) .0 in
+      let j = is-candidate c (u .there) .0 in
+      let from : b .from ≡ c .from = omega (arith, t .lowest c (u .among-short), u .lowest b (t .among-short)) in
+      let to : b .to ≡ c .to = omega (arith, i .begins, i .ends, j .begins, j .ends, t .shortest c (u .among-few), u .shortest b (t .among-few)) in
+      contains-spanning b i ∙ (λ k. spanning s (from k) (to k)) ∙ sym (contains-spanning c j)
+
+  chosen-distinct : Distinct (chosen P s)
+  unfolding chosen
+  chosen-distinct =
+      only-distinct _ short (only-distinct _ few (only-distinct _ all-of-them (only-distinct (candidate P) (containing P s) containing-distinct)))
+
+  pub chosen-least : s .from ≤ s .to → Least P s
+  unfolding chosen
+  chosen-least rises =
+      record {
+        taken = λ c m. is-candidate c (taken-says c m .there);
+        fewest = λ b c m i. taken-says c m .fewest b (listed b i);
+        shortest = λ b c m i e. let t = taken-says c m in t .shortest b (as-few b c t i e);
+        lowest = λ b c m i e f. let t = taken-says c m in t .lowest b (as-short b c t i e f);
+        one = λ b i. let c = some b i in (c .0, singleton (c .0) (chosen P s) chosen-distinct (λ y m. one-taken rises y (c .0) m (c .1)) (c .1));
+        none = (
+          λ e b i. let c = some b i in List·Memᴰ·not-nil (subst (List·Memᴰ (c .0)) e (c .1)),
+          λ f. nothing (chosen P s) (λ c m. f c (is-candidate c (taken-says c m .there))),
+        );
+      }
     where
-      by-start : (n : ℕ) → Ordered Precedes (each 0 (s .from + 1) (line n))
-      by-start n =
-          each-ordered Precedes 0 (s .from + 1) (line n)
-          (λ from. only-ordered Precedes reaches (reaching s from n ∷ []) (λ y m. absurd (List·Memᴰ·not-nil m), tt))
-          (λ j k b c lt hi mb mc.
-          let x = steps-reaching j n b (line-says n j b mb .0) in
-          let y = steps-reaching k n c (line-says n k c mc .0) in
-          let p : stepsOf b ≡ n = x .0 in
-          let q : stepsOf c ≡ n = y .0 in
-          let f : b .from ≡ j = x .1 in
-          let g : c .from ≡ k = y .1 in
-          inr (omega arith, omega arith))
-
--- the first of an ordered list
-first-one : (xs : List Split) (c : Split) → List·Memᴰ c (take 1 xs) → (rest : List Split) × (xs ≡ c ∷ rest)
-first-one [] c m = absurd (List·Memᴰ·not-nil m)
-first-one (x ∷ xs) c m = (xs, ap (λ (y : Split). y ∷ xs) (sym (List·Memᴰ·eq-of-singleton m)))
-
--- So the line that a lengthened split takes is the least candidate of all.
-pub chosen-least : (P : Layout) (s : Split) → s .from ≤ s .to → Least P s
-unfolding chosen
-chosen-least P s rises =
-    record {
-      taken = λ c m.
-          let e = first-one passed c m in
-          let o = only-mem (candidate P) (containing P s) c (rw (e .1) (List·Memᴰ·head refl)) in
-          (listed-contains P s c (o .0), o .1);
-      first = λ b c m i ok.
-          let e = first-one passed c m in
-          first-before Precedes c (e .0) (rw (e .1) at (only-ordered Precedes (candidate P) (containing P s) (containing-ordered P s))) b
-          (rw (e .1) at (there b i ok));
-      some = λ b i ok. begins passed b (there b i ok);
-    }
-  where
-    passed : List Split
-    passed = only (candidate P) (containing P s)
-
-    there : (b : Split) → Contains P s b → candidate P b ≡ true → List·Memᴰ b (only (candidate P) (containing P s))
-    there b i ok = mem-only (candidate P) (containing P s) b (contains-listed P s rises b i) ok
-
-    begins : (xs : List Split) (b : Split) → List·Memᴰ b xs → (c : Split) × (take 1 xs ≡ c ∷ [])
-    begins [] b m = absurd (List·Memᴰ·not-nil m)
-    begins (x ∷ xs) b m = (x, refl)
+      some : (b : Split) → Candidate P s b → (c : Split) × List·Memᴰ c (chosen P s)
+      some b i =
+          let x = some-least (adds P) all-of-them b (listed b i) in
+          let y = some-least stepsOf few (x .0) (x .1) in
+          some-least (λ (c : Split). c .from) short (y .0) (y .1)

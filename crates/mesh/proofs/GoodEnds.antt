@@ -138,6 +138,10 @@ comes-clear {M} d z {B} r c (cut e y s p rest) =
     (cut-either M d e y B p))
     rest
 
+pub end-room : (P : Layout) (s : Split) (d : Direction) → Ranged (P .w) (P .h) d s → (e : Side) → Room P d e (endOf e s)
+end-room P s d r lower = (omega arith, omega arith)
+end-room P s d r upper = (omega arith, omega arith)
+
 -- A split in range at d, whose rows are free:
 module _ (P : Layout) (b : Built P) (s : Split) (d : Direction) (r : Ranged (P .w) (P .h) d s)
     (free : (k : ℕ) → s .from + 1 ≤ k → k < s .to + 1 → meshOf P d (s .position + 1) k ≡ false) where
@@ -146,10 +150,6 @@ module _ (P : Layout) (b : Built P) (s : Split) (d : Direction) (r : Ranged (P .
 
   abbrev run : ℕ
   run = side (other d) (P .w) (P .h)
-
-  end-room : (e : Side) → Room P d e (endOf e s)
-  end-room lower = (omega arith, omega arith)
-  end-room upper = (omega arith, omega arith)
 
   drawn-line : ((e : Side) → Good (viewOf d P) e z (endOf e s)) → Drawn (viewOf d P) z (s .from + 1) (s .to + 1) (meshOf (withLine P s) d z)
   drawn-line good =
@@ -170,12 +170,12 @@ module _ (P : Layout) (b : Built P) (s : Split) (d : Direction) (r : Ranged (P .
   pub good-sound : ((e : Side) → goodEnd P d z e (endOf e s) ≡ true) → soundWith P s ≡ true
   good-sound good =
       four-sound (P .w) (P .h) (b .wide) (b .high) (withLine P s .splits)
-      (line-four P b s d r (drawn-line (λ e. good-says P d z e (endOf e s) (end-room e) (good e))))
+      (line-four P b s d r (drawn-line (λ e. good-says P d z e (endOf e s) (end-room P s d r e) (good e))))
 
   -- and lie on crossing lines.
   pub good-on-line : (e : Side) → goodEnd P d z e (endOf e s) ≡ true → onLine (meshOf P) (other d) (endOf e s) z ≡ true
   unfolding onLine
-  good-on-line e good = or-left _ _ (by e (good-says P d z e (endOf e s) (end-room e) good))
+  good-on-line e good = or-left _ _ (by e (good-says P d z e (endOf e s) (end-room P s d r e) good))
     where
       inside : z < side (other (other d)) (P .w) (P .h) + 2
       inside = subst (λ (f : Direction). z < side f (P .w) (P .h) + 2) (sym (twice d)) (omega arith)
@@ -186,13 +186,13 @@ module _ (P : Layout) (b : Built P) (s : Split) (d : Direction) (r : Ranged (P .
       by lower (line i on) =
           abreast-level P b d
           (line-ends (viewOf d P) (tight-view P b d) z (s .from + 1) (omega arith, omega arith) i upper on
-          (free (s .from + 1) (omega arith) (omega arith)) .abreast)
+          (free (s .from + 1) (omega arith) (omega arith)) .abreast) .1
       by upper (line i on) =
           abreast-level P b d
           (line-ends (viewOf d P) (tight-view P b d) z (s .to + 1) (omega arith, omega arith) i lower on
-          (free (s .to + 1 - 1) (omega arith) (omega arith)) .abreast)
-      by lower (blends i off q) = abreast-level P b d q
-      by upper (blends i off q) = abreast-level P b d q
+          (free (s .to + 1 - 1) (omega arith) (omega arith)) .abreast) .1
+      by lower (blends i off q) = abreast-level P b d q .1
+      by upper (blends i off q) = abreast-level P b d q .1
 
   -- A sound map is left only by good ends, if the ends lie on crossing lines and the split cuts something.
   module _ (on-lines : (e : Side) → onLine (meshOf P) (other d) (endOf e s) z ≡ true) (some-cut : any (isCut (meshOf (withLine P s))) (liveOf P) ≡ true)
@@ -241,7 +241,7 @@ module _ (P : Layout) (b : Built P) (s : Split) (d : Direction) (r : Ranged (P .
         by : (e : Side) → Good (viewOf d P) e z (endOf e s)
         by e =
             if-equal (endOf e s) (edgeOf (viewOf d P) e) edge
-            (λ ne. let inner = inner-room P d e (endOf e s) (end-room e) ne in
+            (λ ne. let inner = inner-room P d e (endOf e s) (end-room P s d r e) ne in
             ⊎-elim (λ on. line inner on)
             (λ off. blends inner off (abreast-before e (endOf e s) (ends e inner off)))
             (either (meshOf P d z (outward e (endOf e s)))))

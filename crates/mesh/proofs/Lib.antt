@@ -36,6 +36,8 @@ pub mod Looking
 pub mod Stepping
 pub mod Replaying
 pub mod CrossingList
+pub mod MoreBlends
+pub mod LeastLine
 pub mod Cutting
 pub mod Drawing
 pub mod Reading

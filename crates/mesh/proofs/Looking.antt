@@ -12,7 +12,7 @@ use Rattle.axis.proofs.Tests.{true-not-false, and-both, and-of}
 use Rattle.axis.proofs.Runs.{if-at-most, if-equal}
 use Rattle.mesh.specs.Lines.{Direction, upright, level, direction, other, side, mesh, Layout, layout}
 use Rattle.mesh.specs.Blends.{live}
-use Rattle.mesh.specs.Splits.{reaching, stepsOf}
+use Rattle.mesh.specs.Splits.{spanning, stepsOf}
 use Rattle.mesh.specs.Ends.{gapEnds, abreast, goodEnd, goodEnds, nearestGood}
 use Rattle.mesh.specs.Replay.{Replays}
 use Rattle.mesh.specs.Bytes.{Rows, bytesMesh}
@@ -111,7 +111,7 @@ module _ {uprights levels lows highs : List ℕ} {run : ℕ} {s : Split} (i : Se
       let f = high-end P (replays-stands (i .carried .taken) .built) s (g .fits) (g .apart) good (gap-good P _ _) in
       (f .0, rw (i .along) (f .1), f .2, f .3)
 
-  is-nearest : (steps from : ℕ) → steps ≡ stepsOf nearest → from ≡ nearest .from → reaching s from steps ≡ nearest
+  is-nearest : (steps from : ℕ) → steps ≡ stepsOf nearest → from ≡ nearest .from → spanning s from (from + steps) ≡ nearest
   unfolding nearestGood
   is-nearest steps from p q =
       let last : from + steps ≡ nearest .to = omega (arith, nearest-low .0, nearest-high .0, search-sizes .1) in
@@ -141,7 +141,7 @@ module _ {uprights levels lows highs : List ℕ} {run : ℕ} {s : Split} (i : Se
       if-equal steps (stepsOf nearest) (λ e. inr (e, omega (arith, nearest-high .0))) (λ ne. inl (omega arith))
 
   -- it goes past a line that is none, or has an end that is not good,
-  pub search-passes : (steps from : ℕ) → Ahead nearest steps from → (from + steps ≤ run → looks (reaching s from steps) ≡ true → ⊥) →
+  pub search-passes : (steps from : ℕ) → Ahead nearest steps from → (from + steps ≤ run → looks (spanning s from (from + steps)) ≡ true → ⊥) →
       Ahead nearest steps (from + 1)
   search-passes steps from ahead off =
       ⊎-elim inl
@@ -157,10 +157,10 @@ module _ {uprights levels lows highs : List ℕ} {run : ℕ} {s : Split} (i : Se
   search-leaves steps from ahead past = ⊎-elim (λ lt. omega arith) (λ r. absurd (omega (arith, nearest-low .0))) ahead
 
   -- a line between good ends is the one, and the search does not end without it
-  pub search-finds : (steps from : ℕ) → Ahead nearest steps from → from ≤ s .from → s .to ≤ from + steps → looks (reaching s from steps) ≡ true →
-      reaching s from steps ≡ nearest
+  pub search-finds : (steps from : ℕ) → Ahead nearest steps from → from ≤ s .from → s .to ≤ from + steps → looks (spanning s from (from + steps)) ≡ true →
+      spanning s from (from + steps) ≡ nearest
   search-finds steps from ahead begins ends t =
-      let r = reaches (reaching s from steps) refl refl begins ends t in
+      let r = reaches (spanning s from (from + steps)) refl refl begins ends t in
       let low = nearest-low .0 in
       let high = nearest-high .0 in
       let sizes = search-sizes in

@@ -10,7 +10,7 @@ use borrow.Author.Tests.{leb-false, le-leb, lt-ltb, ne-eqb, not-true, not-false}
 use Rattle.axis.specs.Range.{any}
 use Rattle.mesh.specs.Lines.{Layout, meshOf, fits, inRange, shares, ended}
 use Rattle.mesh.specs.Blends.{isCut}
-use Rattle.mesh.specs.Splits.{liveOf, withLine, soundWith, candidate, given, exactNumber, run, reaching}
+use Rattle.mesh.specs.Splits.{liveOf, withLine, soundWith, candidate, given, exactNumber, run, spanning}
 use Rattle.mesh.specs.declared.Split.{Split}
 use Rattle.axis.proofs.Tests.{either, and-both, and-of, cond-true, cond-false}
 use Rattle.mesh.proofs.OneLineMore.{ranged}
@@ -54,12 +54,12 @@ exact-says P s e = let r = both-pass (given P s) (soundWith P s) e in (given-say
     both-pass (suc g) b e = absurd (omega (arith, rw (ne-eqb (suc g) 0 (omega arith)) at e))
 
 -- and that a line is a candidate
-pub record Candidate (P : Layout) (c : Split) : Type 0 where
+pub record Drawable (P : Layout) (c : Split) : Type 0 where
   pub ends : ended (meshOf P) c ≡ true
   pub apart : shares (meshOf P) c ≡ false
   pub is-sound : soundWith P c ≡ true
 
-pub candidate-says : (P : Layout) (c : Split) → candidate P c ≡ true → Candidate P c
+pub candidate-says : (P : Layout) (c : Split) → candidate P c ≡ true → Drawable P c
 unfolding candidate
 candidate-says P c e =
     let a = and-both _ _ e in
@@ -67,21 +67,21 @@ candidate-says P c e =
     record { ends = f .0; apart = not-true _ (f .1); is-sound = a .1 }
 
 -- a line in range keeps to its ranges with other ends within the side that it runs along
-pub reaching-fits : (P : Layout) (s : Split) (from n : ℕ) → inRange (P .w) (P .h) s ≡ true → 0 < n → from + n ≤ run P s →
-    inRange (P .w) (P .h) (reaching s from n) ≡ true
+pub spanning-fits : (P : Layout) (s : Split) (from to : ℕ) → inRange (P .w) (P .h) s ≡ true → from < to → to ≤ run P s →
+    inRange (P .w) (P .h) (spanning s from to) ≡ true
 unfolding inRange
-reaching-fits P s from n e lo hi =
+spanning-fits P s from to e lo hi =
     ⊎-elim
     (λ q. cond-true _ _ _ q ∙ ends-kept (P .w) (P .h) (rw q at e) (rw q at hi))
     (λ q. let r = and-both (eqb (s .direction) 1) (fits (P .h) (P .w) s) (rw q at e) in
     cond-false _ _ _ q ∙ and-of _ _ (r .0) (ends-kept (P .h) (P .w) (r .1) (rw q at hi)))
     (either (eqb (s .direction) 0))
   where
-    ends-kept : (crossed along : ℕ) → fits crossed along s ≡ true → from + n ≤ along → fits crossed along (reaching s from n) ≡ true
+    ends-kept : (crossed along : ℕ) → fits crossed along s ≡ true → to ≤ along → fits crossed along (spanning s from to) ≡ true
     ends-kept crossed along f le =
         let p = and-both (ltb 0 (s .position) && ltb (s .position) crossed && ltb (s .from) (s .to)) (leb (s .to) along) f in
         let q = and-both (ltb 0 (s .position) && ltb (s .position) crossed) (ltb (s .from) (s .to)) (p .0) in
-        and-of _ _ (and-of _ _ (q .0) (lt-ltb from (from + n) (omega arith))) (le-leb (from + n) along le)
+        and-of _ _ (and-of _ _ (q .0) (lt-ltb from to lo)) (le-leb to along le)
 
 -- the ends of a split in range
 pub ends-in : (P : Layout) (s : Split) → inRange (P .w) (P .h) s ≡ true → (s .from < s .to) × (s .to ≤ run P s)

@@ -24,7 +24,7 @@ use Rattle.mesh.specs.declared.Table.{Table}
 use Rattle.mesh.specs.declared.Step.{Step}
 use Rattle.mesh.proofs.Drawing.{blank}
 use Rattle.mesh.proofs.ChosenLine.{chosen-exact}
-use Rattle.mesh.proofs.TwoLooks.{two-looks}
+use Rattle.mesh.proofs.LeastLine.{least-sound-line}
 use Rattle.mesh.proofs.Accepted.{lines-replay, replays-stands, replays-sides}
 use Rattle.mesh.proofs.Stepping.{carried-walk}
 
@@ -140,7 +140,7 @@ module _ (L : Lines) (t : Table) (s : Split) where
 
   module _ (places : length (L .splits) ≡ 60) (hand : HasTable L t) (e : given (layoutOf L) s ≡ 0) where
     is-chosen : chosen (layoutOf L) s ≡ nearestGood (layoutOf L) s ∷ []
-    is-chosen = two-looks (layoutOf L) (replays-stands (lines-replay L places (hand .accepted?)) .built) s e .taken
+    is-chosen = least-sound-line (layoutOf L) (replays-stands (lines-replay L places (hand .accepted?)) .built) s e .taken
 
     pub nearest-accepted : exactNumber (layoutOf L) (nearestGood (layoutOf L) s) ≡ 0
     nearest-accepted =

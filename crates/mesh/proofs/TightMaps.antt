@@ -74,13 +74,17 @@ pub tight-view : (P : Layout) (b : Built P) (d : Direction) → TightView (viewO
 tight-view P b upright = upright-tight P b
 tight-view P b level = turn-tight (viewOf upright P) (upright-tight P b)
 
--- two blends abreast of an upright have a level beside it
-pub abreast-level : (P : Layout) (b : Built P) (d : Direction) {e : Side} {z k : ℕ} → Abreast (viewOf d P) e z k → meshOf P (other d) k z ≡ true
-abreast-level P b d q =
-    let known = tight-view P b d .is-sound in
-    let over = q .over upper in
-    let rise = known .x .rises (q .at upper) (q .live upper) in
-    level-at (viewOf d P) known (q .at upper) (q .live upper) (q .anchored upper) (omega arith) (omega arith)
+-- two blends abreast of an upright have a level that passes through its end
+pub abreast-level : (P : Layout) (b : Built P) (d : Direction) {e : Side} {z k : ℕ} → Abreast (viewOf d P) e z k →
+    (meshOf P (other d) k (z - 1) ≡ true) × (meshOf P (other d) k z ≡ true)
+abreast-level P b d {z = z} {k = k} q = (beside (z - 1) (omega arith) (omega arith), beside z (omega arith) (omega arith))
+  where
+    beside : (j : ℕ) → j ≤ z → z ≤ j + 1 → meshOf P (other d) k j ≡ true
+    beside j le ge =
+        let known = tight-view P b d .is-sound in
+        let over = q .over upper in
+        let rise = known .x .rises (q .at upper) (q .live upper) in
+        level-at (viewOf d P) known (q .at upper) (q .live upper) (q .anchored upper) (omega arith) (omega arith)
 
 pub live-rises : (P : Layout) (b : Built P) (B : Blend) → List·Memᴰ B (liveOf P) → RiseB B
 live-rises P b B m = proper-rises (P .w) (P .h) B (live-proper (P .w) (P .h) (b .wide) (b .high) (meshOf P) B m)
@@ -158,7 +162,7 @@ module _ (P : Layout) (b : Built P) (s : Split) (d : Direction) (r : Ranged (P .
             let off-before = false-of (meshOf P d z (outward e v)) (λ t. true-not-false _ (more-finer P s d z (outward e v) t) off) in
             rests-beside v z hv (inl refl)
             (abreast-level P b d
-            (line-ends (viewOf d P) (tight-view P b d) z v (omega arith, omega arith) (omega arith, omega arith) e here-on off-before .abreast))
+            (line-ends (viewOf d P) (tight-view P b d) z v (omega arith, omega arith) (omega arith, omega arith) e here-on off-before .abreast) .1)
 
         own-end : (e : Side) → meshOf N d z (outward e v) ≡ false → Row run s (inward e v) → v ≡ endOf e s
         own-end lower off row =

@@ -1,10 +1,9 @@
 -- Two looks tell whether a line is sound, and the nearest good ends which line a lengthened split takes.
 use Prim.Native.Nat.{ℕ, _+_, _-_, _≤_, _<_}
 use native.Mathlib.Omega.{arith}
-use mathlib.Core.Path.{_≡_, refl, sym, ap, subst, _∙_}
+use mathlib.Core.Path.{_≡_, refl, sym, ap, subst}
 use mathlib.Core.Logic.{⊎-elim}
 use mathlib.Core.Bool.{Bool, true, false, cond, _&&_, not}
-use mathlib.Core.List.{[], _∷_, List·Memᴰ}
 use borrow.Author.Tests.{eq-eqb}
 use Rattle.axis.specs.Range.{any}
 use Rattle.axis.specs.Triple.{Side, lower, upper}
@@ -13,10 +12,9 @@ use Rattle.axis.proofs.Runs.{if-at-most}
 use Rattle.axis.proofs.Nearest.{below-last, above-first}
 use Rattle.mesh.specs.Lines.{Direction, other, direction, Layout, meshOf, inRange, shares, ended, onLine}
 use Rattle.mesh.specs.Blends.{isCut}
-use Rattle.mesh.specs.Splits.{liveOf, withLine, soundWith, given, exactNumber, run, Contains, candidate, chosen}
+use Rattle.mesh.specs.Splits.{liveOf, withLine, soundWith, given, exactNumber, run, Contains, candidate, Candidate}
 use Rattle.mesh.specs.Ends.{gapEnds, goodEnd, goodEnds, between, gap, nearestGood, TwoLooks}
 use Rattle.mesh.specs.declared.Split.{Split}
-use Rattle.mesh.proofs.Containing.{chosen-least}
 use Rattle.mesh.proofs.Passing.{Given, given-says, candidate-says, ends-in}
 use Rattle.mesh.proofs.ChosenLine.{contains-fits, contains-cuts}
 use Rattle.mesh.proofs.OneLineMore.{Ranged, ranged, endOf}
@@ -34,11 +32,11 @@ module _ (P : Layout) (b : Built P) (s : Split) (fits : inRange (P .w) (P .h) s 
   r : Ranged (P .w) (P .h) d s
   r = ranged (P .w) (P .h) s fits
 
-  free : (k : ℕ) → s .from + 1 ≤ k → k < s .to + 1 → meshOf P d z k ≡ false
+  pub free : (k : ℕ) → s .from + 1 ≤ k → k < s .to + 1 → meshOf P d z k ≡ false
   unfolding shares
   free k lo hi = some-fails (s .from + 1) (s .to - s .from) (meshOf P d z) apart k lo (omega arith)
 
-  both-good : goodEnds P s ≡ true → (e : Side) → goodEnd P d z e (endOf e s) ≡ true
+  pub both-good : goodEnds P s ≡ true → (e : Side) → goodEnd P d z e (endOf e s) ≡ true
   unfolding goodEnds
   both-good t lower = and-both (goodEnd P d z lower (s .from + 1)) (goodEnd P d z upper (s .to + 1)) t .0
   both-good t upper = and-both (goodEnd P d z lower (s .from + 1)) (goodEnd P d z upper (s .to + 1)) t .1
@@ -118,7 +116,7 @@ module _ (P : Layout) (b : Built P) (s : Split) (fits : inRange (P .w) (P .h) s 
 
 -- The whole gap is a candidate, also where nothing is cut.
 pub gap-sound : (P : Layout) (b : Built P) (s : Split) → inRange (P .w) (P .h) s ≡ true → shares (meshOf P) s ≡ false →
-    Contains P s (gap P s) × (candidate P (gap P s) ≡ true)
+    Candidate P s (gap P s)
 unfolding gap
 gap-sound P b s fits apart =
     let d = direction (s .direction) in
@@ -130,10 +128,16 @@ module _ (P : Layout) (b : Built P) (s : Split) (e : given P s ≡ 0) where
   g : Given P s
   g = given-says P s e
 
-  candidate-good : (c : Split) → Contains P s c → candidate P c ≡ true → goodEnds P c ≡ true
-  candidate-good c i t =
+  pub candidate-good : (c : Split) → Candidate P s c → goodEnds P c ≡ true
+  candidate-good c (i, t) =
       let f = candidate-says P c t in
       sound-ends P b c (contains-fits P s c (g .fits) i) (f .apart) (f .ends) (contains-cuts P (b .wide) (b .high) s c (g .fits) i (g .cut)) (f .is-sound)
+
+  -- and it leaves a map that is sound and tight again
+  pub candidate-built : (c : Split) → Candidate P s c → Built (withLine P c)
+  candidate-built c (i, t) =
+      let f = candidate-says P c t in
+      stays-built P b c (contains-fits P s c (g .fits) i) (f .apart) (f .ends) (contains-cuts P (b .wide) (b .high) s c (g .fits) i (g .cut)) (f .is-sound)
 
   exact-is : soundWith P s ≡ goodEnds P s
   exact-is =
@@ -151,9 +155,9 @@ module _ (P : Layout) (b : Built P) (s : Split) (e : given P s ≡ 0) where
   all-gaps = gap-good P (direction (s .direction)) (s .position + 1)
 
   -- a candidate lies in the gap, and a line there between good ends is one
-  in-whole-gap : (c : Split) → Contains P s c → candidate P c ≡ true → Contains P c (gap P s)
+  in-whole-gap : (c : Split) → Candidate P s c → Contains P c (gap P s)
   unfolding gap shares
-  in-whole-gap c i t =
+  in-whole-gap c (i, t) =
       let low = low-end P b s (g .fits) (g .apart) gaps (λ k n t. t) in
       let high = high-end P b s (g .fits) (g .apart) gaps (λ k n t. t) in
       let in-side = ends-in P s (g .fits) in
@@ -181,18 +185,15 @@ module _ (P : Layout) (b : Built P) (s : Split) (e : given P s ≡ 0) where
   abbrev good-ends : Side → ℕ → Bool
   good-ends = goodEnd P (direction (s .direction)) (s .position + 1)
 
-  nearest-contains : Contains P s (nearestGood P s)
+  pub nearest-candidate : Candidate P s (nearestGood P s)
   unfolding nearestGood
-  nearest-contains = contains P b s (g .fits) (g .apart) good-ends all-gaps
+  nearest-candidate =
+      (contains P b s (g .fits) (g .apart) good-ends all-gaps, between-candidate P b s (g .fits) (g .apart) good-ends all-gaps (λ k n t. t))
 
-  nearest-candidate : candidate P (nearestGood P s) ≡ true
-  unfolding nearestGood
-  nearest-candidate = between-candidate P b s (g .fits) (g .apart) good-ends all-gaps (λ k n t. t)
-
-  nearest-in : (c : Split) → Contains P s c → candidate P c ≡ true → Contains P (nearestGood P s) c
+  pub nearest-in : (c : Split) → Candidate P s c → Contains P (nearestGood P s) c
   unfolding nearestGood goodEnds
-  nearest-in c i t =
-      let good = candidate-good c i t in
+  nearest-in c (i, t) =
+      let good = candidate-good c (i, t) in
       let f : (good-ends lower (c .from + 1) && good-ends upper (c .to + 1)) ≡ true = rw (i .same-way, i .same-place) at good in
       let a = and-both _ _ f in
       let low = low-end P b s (g .fits) (g .apart) good-ends all-gaps in
@@ -205,30 +206,11 @@ module _ (P : Layout) (b : Built P) (s : Split) (e : given P s ≡ 0) where
         within = i .within;
       }
 
-  taken-is : chosen P s ≡ nearestGood P s ∷ []
-  taken-is =
-      let least = chosen-least P s (omega (arith, ends-in P s (g .fits))) in
-      let f = least .some (nearestGood P s) nearest-contains nearest-candidate in
-      f .1 ∙ ap (λ (c : Split). c ∷ []) (sym (same (f .0) (f .1)))
-    where
-      same : (c : Split) → chosen P s ≡ c ∷ [] → nearestGood P s ≡ c
-      same c q =
-          let in-side = ends-in P s (g .fits) in
-          let least = chosen-least P s (omega arith) in
-          let there : List·Memᴰ c (chosen P s) = subst (List·Memᴰ c) (sym q) (List·Memᴰ.List·Memᴰ·head refl) in
-          let t = least .taken c there in
-          let i = nearest-in c (t .0) (t .1) in
-          let own = nearest-contains in
-          ⊎-elim (λ e. e) (λ p. absurd (⊎-elim (λ short. omega arith) (λ low. omega arith) p))
-          (least .first (nearestGood P s) c there nearest-contains nearest-candidate)
-
   pub two-looks : TwoLooks P s
   two-looks =
       record {
         exact = exact-is;
         refused = refused-is;
         whole-gap = gap-sound P b s (g .fits) (g .apart);
-        taken = taken-is;
-        in-all = nearest-in;
-        candidates = λ c i. (λ t. (in-whole-gap c i t, candidate-good c i t), λ f. gap-candidate c i (f .0) (f .1));
+        candidates = λ c i. (λ t. (in-whole-gap c (i, t), candidate-good c (i, t)), λ f. gap-candidate c i (f .0) (f .1));
       }

@@ -1,7 +1,7 @@
 -- Which ends a split may have: what refusal 8 comes to (document 01, "When a call says no"), and which line a lengthened split takes.
-use Prim.Native.Nat.{ℕ, _+_, _-_}
+use Prim.Native.Nat.{ℕ, _+_, _-_, _<_}
 use mathlib.Core.Path.{_≡_}
-use mathlib.Core.Logic.{_↔_}
+use mathlib.Core.Logic.{_↔_, _⊎_}
 use mathlib.Core.Bool.{Bool, true, cond, _&&_, _||_}
 use mathlib.Core.List.{[], _∷_}
 use lib.Dec.{eqb}
@@ -11,7 +11,7 @@ use Rattle.axis.specs.Nearest.{below, above}
 use Rattle.axis.specs.declared.Triple.{Triple}
 use Rattle.mesh.specs.Lines.{Direction, direction, other, side, Layout, meshOf}
 use Rattle.mesh.specs.Blends.{crossed, along}
-use Rattle.mesh.specs.Splits.{liveOf, soundWith, exactNumber, run, Contains, candidate, chosen}
+use Rattle.mesh.specs.Splits.{liveOf, soundWith, exactNumber, run, spanning, Contains, candidate, adds, stepsOf, chosen, Candidate}
 use Rattle.mesh.specs.declared.Split.{Split}
 use Rattle.mesh.specs.declared.Blend.{Blend}
 
@@ -44,12 +44,7 @@ goodEnds P s =
 -- that is one, else 0, and the first of the numbers `to` to the side that is one. (0 and the side are ends of every kind.)
 abbrev pub between : (Side → ℕ → Bool) → Layout → Split → Split
 between ends P s =
-    record {
-      direction = s .direction;
-      position = s .position;
-      from = below (λ k. ends lower (k + 1)) 0 (s .from);
-      to = above (λ k. ends upper (k + 1)) (run P s + 1) (run P s + 1 - s .to);
-    }
+    spanning s (below (λ k. ends lower (k + 1)) 0 (s .from)) (above (λ k. ends upper (k + 1)) (run P s + 1) (run P s + 1 - s .to))
 
 -- the whole gap at the position; and the line between the nearest good ends
 unfoldable pub gap : Layout → Split → Split
@@ -63,9 +58,18 @@ pub record TwoLooks (P : Layout) (s : Split) : Type 0 where
   -- "The exact split leaves a map that is not sound": exactly where an end is not good.
   pub exact : soundWith P s ≡ goodEnds P s
   pub refused : exactNumber P s ≡ cond (goodEnds P s) 0 8
-  -- The candidates are the lines through it within the gap whose ends are both good. The whole gap is one;
+  -- The candidates are the lines through it within the gap whose ends are both good. The whole gap is one.
   pub candidates : (c : Split) → Contains P s c → candidate P c ≡ true ↔ (Contains P c (gap P s) × (goodEnds P c ≡ true))
-  pub whole-gap : Contains P s (gap P s) × (candidate P (gap P s) ≡ true)
-  -- so a lengthened split always takes a line: the one between the nearest good ends, which lies in every other candidate.
+  pub whole-gap : Candidate P s (gap P s)
+
+-- The least sound line (document 02, L4). What `least-sound-line` shows of such a split:
+pub record LeastSoundLine (P : Layout) (s : Split) : Type 0 where
+  -- The line between the nearest good ends is a candidate that lies in all the others.
+  pub is-candidate : Candidate P s (nearestGood P s)
+  pub in-all : (c : Split) → Candidate P s c → Contains P (nearestGood P s) c
+  -- A candidate that lies in another one adds fewer live blends;
+  pub longer-adds : (b c : Split) → Candidate P s b → Candidate P s c → Contains P b c → (b ≡ c) ⊎ (adds P b < adds P c)
+  -- so "the fewest" names that line alone, as "the shortest" does: a lengthened split always takes it.
   pub taken : chosen P s ≡ nearestGood P s ∷ []
-  pub in-all : (c : Split) → Contains P s c → candidate P c ≡ true → Contains P (nearestGood P s) c
+  pub fewest-alone : (c : Split) → Candidate P s c → (nearestGood P s ≡ c) ⊎ (adds P (nearestGood P s) < adds P c)
+  pub shortest-alone : (c : Split) → Candidate P s c → (nearestGood P s ≡ c) ⊎ (stepsOf (nearestGood P s) < stepsOf c)

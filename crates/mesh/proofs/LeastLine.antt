@@ -1,0 +1,101 @@
+-- The least sound line: of the candidates one lies in all the others and adds the fewest live blends, and a lengthened split takes it.
+use Prim.Native.Nat.{ℕ, _+_, _≤_, _<_}
+use native.Mathlib.Omega.{arith}
+use mathlib.Core.Path.{_≡_, refl, sym, ap, subst, _∙_}
+use mathlib.Core.Logic.{_⊎_, inl, inr, ⊎-elim}
+use mathlib.Core.Bool.{true}
+use mathlib.Core.List.{[], _∷_, List·Memᴰ}
+use mathlib.Core.List.List·Memᴰ.{List·Memᴰ·head}
+use lib.ListN.{length}
+use Rattle.axis.specs.Triple.{Side, lower, upper}
+use Rattle.axis.proofs.Runs.{if-equal}
+use Rattle.mesh.specs.Lines.{direction, Layout, meshOf}
+use Rattle.mesh.specs.Splits.{liveOf, withLine, given, spanning, Contains, adds, stepsOf, chosen, Candidate}
+use Rattle.mesh.specs.Ends.{nearestGood, LeastSoundLine}
+use Rattle.mesh.specs.declared.Split.{Split}
+use Rattle.mesh.proofs.Containing.{contains-spanning, chosen-least}
+use Rattle.mesh.proofs.Passing.{Given, given-says, candidate-says, ends-in}
+use Rattle.mesh.proofs.OneLineMore.{more-finer, ranged, endOf}
+use Rattle.mesh.proofs.ChosenLine.{contains-fits, contains-finer}
+use Rattle.mesh.proofs.TightMaps.{Built}
+use Rattle.mesh.proofs.TwoLooks.{free, both-good, candidate-good, candidate-built, nearest-candidate, nearest-in}
+use Rattle.mesh.proofs.MoreBlends.{as-many, more-crossings, Past, longer-crosses}
+
+-- A split that passes 3 to 7:
+module _ (P : Layout) (built : Built P) (s : Split) (passes : given P s ≡ 0) where
+  g : Given P s
+  g = given-says P s passes
+
+  -- A candidate takes no live blend away,
+  pub more-blends : (c : Split) → Candidate P s c → length (liveOf P) ≤ length (liveOf (withLine P c))
+  more-blends c i =
+      rw (as-many P built, as-many (withLine P c) (candidate-built P built s passes c i))
+      (more-crossings (meshOf P) (meshOf (withLine P c)) (more-finer P c) (P .w) (P .h))
+
+  -- and adds more than one that lies in it and ends before it at some end,
+  past-adds : (b : Split) (from to : ℕ) → Candidate P s b → Candidate P s (spanning b from to) → Contains P b (spanning b from to) →
+      (e : Side) → Past b from to e → adds P b < adds P (spanning b from to)
+  past-adds b from to i j o e p =
+      let c = spanning b from to in
+      let fits = contains-fits P s b (g .fits) (i .0) in
+      let fit = contains-fits P s c (g .fits) (j .0) in
+      let more = longer-crosses P built b (direction (b .direction)) from to (ranged (P .w) (P .h) b fits) (ranged (P .w) (P .h) c fit) (o .begins) (o .ends)
+      (free P built c fit (candidate-says P c (j .1) .apart)) (contains-finer P b c fits o) e p
+      (both-good P built b fits (candidate-says P b (i .1) .apart) (candidate-good P built s passes b i) e) in
+      let few = as-many (withLine P b) (candidate-built P built s passes b i) in
+      let many = as-many (withLine P c) (candidate-built P built s passes c j) in
+      let kept = more-blends b i in
+      omega arith
+
+  -- so more than every other one that lies in it.
+  longer-adds : (b c : Split) → Candidate P s b → Candidate P s c → Contains P b c → (b ≡ c) ⊎ (adds P b < adds P c)
+  longer-adds b c i j o =
+      subst (λ (x : Split). (b ≡ x) ⊎ (adds P b < adds P x)) (sym is) (by (c .from) (c .to) (subst (Candidate P s) is j) (subst (Contains P b) is o))
+    where
+      is : c ≡ spanning b (c .from) (c .to)
+      is = contains-spanning P b c o
+
+      by : (from to : ℕ) → Candidate P s (spanning b from to) → Contains P b (spanning b from to) → (b ≡ spanning b from to) ⊎ (adds P b < adds P (spanning b from to))
+      by from to j o =
+          if-equal (b .from) from
+          (λ p. if-equal (b .to) to (λ q. inl (λ k. spanning b (p k) (q k))) (λ ne. inr (past-adds b from to i j o upper (omega (arith, o .ends)))))
+          (λ ne. inr (past-adds b from to i j o lower (omega (arith, o .begins))))
+
+  -- The line between the nearest good ends lies in every candidate; so it alone adds the fewest,
+  fewest-alone : (c : Split) → Candidate P s c → (nearestGood P s ≡ c) ⊎ (adds P (nearestGood P s) < adds P c)
+  fewest-alone c i = longer-adds (nearestGood P s) c (nearest-candidate P built s passes) i (nearest-in P built s passes c i)
+
+  -- it alone is the shortest,
+  shortest-alone : (c : Split) → Candidate P s c → (nearestGood P s ≡ c) ⊎ (stepsOf (nearestGood P s) < stepsOf c)
+  shortest-alone c i =
+      let n = nearestGood P s in
+      let own = nearest-candidate P built s passes .0 in
+      let o = nearest-in P built s passes c i in
+      let rises = ends-in P s (g .fits) in
+      if-equal (stepsOf n) (stepsOf c)
+      (λ e. let from : n .from ≡ c .from = omega (arith, own .begins, own .ends, o .begins, o .ends) in
+      let to : n .to ≡ c .to = omega (arith, own .begins, own .ends, o .begins, o .ends) in
+      inl ((λ k. spanning n (from k) (to k)) ∙ sym (contains-spanning P n c o)))
+      (λ ne. inr (omega (arith, own .begins, own .ends, o .begins, o .ends)))
+
+  -- and it is the line taken.
+  is-taken : chosen P s ≡ nearestGood P s ∷ []
+  is-taken =
+      let least = chosen-least P s (omega (arith, ends-in P s (g .fits))) in
+      let own = nearest-candidate P built s passes in
+      let f = least .one (nearestGood P s) own in
+      let there : List·Memᴰ (f .0) (chosen P s) = subst (List·Memᴰ (f .0)) (sym (f .1)) (List·Memᴰ·head refl) in
+      let is : nearestGood P s ≡ f .0 =
+      ⊎-elim (λ q. q) (λ lt. absurd (omega (arith, least .fewest (nearestGood P s) (f .0) there own))) (fewest-alone (f .0) (least .taken (f .0) there)) in
+      f .1 ∙ ap (λ (c : Split). c ∷ []) (sym is)
+
+  pub least-sound-line : LeastSoundLine P s
+  least-sound-line =
+      record {
+        is-candidate = nearest-candidate P built s passes;
+        in-all = nearest-in P built s passes;
+        longer-adds = longer-adds;
+        taken = is-taken;
+        fewest-alone = fewest-alone;
+        shortest-alone = shortest-alone;
+      }
