@@ -6,10 +6,11 @@ use mathlib.Core.List.{[], _∷_, _++_}
 use lib.Dec.{eqb}
 use Rattle.mesh.specs.declared.Split.{Split}
 use Rattle.mesh.specs.Splits.{given, exactNumber}
-use Rattle.mesh.specs.Ends.{goodEnds, nearestGood, TwoLooks}
+use Rattle.mesh.specs.Ends.{goodEnds, nearestGood, TwoLooks, LeastSoundLine}
 use Rattle.mesh.proofs.Passing.{exact-says}
 use Rattle.mesh.proofs.TightMaps.{Built}
 use Rattle.mesh.proofs.TwoLooks.{two-looks}
+use Rattle.mesh.proofs.LeastLine.{least-sound-line}
 use Rattle.mesh.proofs.ChosenLine.{chosen-exact}
 use Rattle.maps.specs.declared.Map.{Map}
 use Rattle.maps.specs.Plain.{Plain}
@@ -31,6 +32,9 @@ module _ (P : Plain) (at : Reached P) where
     looks : TwoLooks (P .lines) s
     looks = two-looks (P .lines) built s e
 
+    least : LeastSoundLine (P .lines) s
+    least = least-sound-line (P .lines) built s e
+
     by-number : (n : ℕ) (b : Bool) → n ≡ cond b 0 8 → (o : Outcome Plain) → o .answer ≡ number 0 →
         cond (eqb n 0) o (outcome (number n) P) .answer ≡ number (cond b 0 8)
     by-number n true q o a = rw q a
@@ -40,13 +44,13 @@ module _ (P : Plain) (at : Reached P) where
     exact-answer = by-number (exactNumber (P .lines) s) (goodEnds (P .lines) s) (looks .refused) (outcome (number 0) (drawn P s)) refl
 
     lengthened-is : byMachine P (lengthened s) ≡ outcome (number 0) (drawn P (nearestGood (P .lines) s))
-    lengthened-is = rw (e, looks .taken)
+    lengthened-is = rw (e, least .taken)
 
     -- the line drawn is accepted, so the record holds it
     drawn-reached : Reached (drawn P (nearestGood (P .lines) s))
     drawn-reached =
         drawn-leads P at (nearestGood (P .lines) s)
-        (chosen-exact (P .lines) (at .valued .wide .0) (at .valued .tall .0) s (nearestGood (P .lines) s) [] e (looks .taken)) .reached
+        (chosen-exact (P .lines) (at .valued .wide .0) (at .valued .tall .0) s (nearestGood (P .lines) s) [] e (least .taken)) .reached
 
     drawn-splits : drawn P (nearestGood (P .lines) s) .lines .splits ≡ P .lines .splits ++ nearestGood (P .lines) s ∷ []
     unfolding drawn
@@ -63,6 +67,7 @@ module _ (P : Plain) (at : Reached P) where
             ap (λ (Q : Plain). Q .lines .splits) (record-good (drawn-reached s e .holds) .1) ∙ drawn-splits s e ∙
             ap (λ (Q : Plain). Q .lines .splits ++ nearestGood (Q .lines) s ∷ []) (sym held);
         looks = subst (λ (Q : Plain). TwoLooks (Q .lines) s) (sym held) (looks s e);
+        least = subst (λ (Q : Plain). LeastSoundLine (Q .lines) s) (sym held) (least s e);
       }
     where
       held : plain (recordOf P) ≡ P

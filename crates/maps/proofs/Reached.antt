@@ -8,22 +8,22 @@ use mathlib.Core.Bool.{Bool, true, false, cond}
 use mathlib.Core.List.{List, [], _∷_, _++_, append-assoc, append-nil, List·Memᴰ, List·Memᴰ·cases-cons, List·Memᴰ·not-nil}
 use borrow.Author.Tests.{eqb-true}
 use lib.Dec.{ltb, eqb}
-use lib.ListN.{length, replicate, take}
-use Rattle.axis.specs.Range.{only}
+use lib.ListN.{length, replicate}
 use Rattle.mesh.specs.declared.Split.{Split}
 use Rattle.mesh.specs.Lines.{allowedSide}
 use Rattle.maps.specs.Plain.{Plain, freshPlain, blends}
 use Rattle.maps.specs.Values.{placeOf, drawn}
-use Rattle.mesh.specs.Splits.{given, exactNumber, containing, candidate, chosen}
+use Rattle.mesh.specs.Splits.{given, exactNumber, chosen}
 use Rattle.maps.specs.Record.{good}
 use Rattle.maps.specs.Calls.{setPlain}
 use Rattle.maps.specs.Histories.{Call, set, exact, lengthened, place, reads, weighs, alongRow, alongColumn, sameAs, Outcome, firstDrawn, byMachine, ending}
 use Rattle.maps.specs.Demand.{Start, fresh, lineBy, linesBy}
 use Rattle.mesh.proofs.Passing.{exact-says}
 use Rattle.maps.proofs.GoodRecords.{Holds, fresh-holds, set-holds, drawn-holds}
-use Rattle.mesh.proofs.Accepted.{replays-sides, replays-sound}
+use Rattle.mesh.proofs.Accepted.{replays-sides, replays-stands, replays-sound}
 use Rattle.maps.proofs.Readings.{Valued, set-valued, drawn-valued}
 use Rattle.mesh.proofs.ChosenLine.{chosen-exact}
+use Rattle.mesh.proofs.LeastLine.{least-sound-line}
 
 -- The splits are accepted in order from the fresh map, the map is sound, and each live blend has a 16-bit value.
 pub record Reached (P : Plain) : Type 0 where
@@ -90,10 +90,11 @@ module _ (P : Plain) (at : Reached P) where
         more = refl;
       }
 
-  -- the first of a list of lines is the only one that is drawn
-  first-leads : (s : Split) → given (P .lines) s ≡ 0 → (ls : List Split) → chosen (P .lines) s ≡ take 1 ls → Leads P (take 1 ls) (firstDrawn P (take 1 ls) .next)
-  first-leads s e [] q = leads-nowhere
-  first-leads s e (l ∷ ls) q = drawn-leads l (chosen-exact (P .lines) (at .valued .wide .0) (at .valued .tall .0) s l [] e q)
+  -- a lengthened split takes one line, and draws it
+  one-leads : (s : Split) → given (P .lines) s ≡ 0 → Leads P (chosen (P .lines) s) (firstDrawn P (chosen (P .lines) s) .next)
+  one-leads s e =
+      let only-one = least-sound-line (P .lines) (replays-stands (at .holds .taken) .built) s e .taken in
+      rw only-one (drawn-leads _ (chosen-exact (P .lines) (at .valued .wide .0) (at .valued .tall .0) s _ [] e only-one))
 
   by-test : (lines : List Split) (b : Bool) (x y : Outcome Plain) → (b ≡ true → Leads P lines (x .next)) → (b ≡ false → Leads P lines (y .next)) →
       Leads P lines (cond b x y .next)
@@ -101,13 +102,12 @@ module _ (P : Plain) (at : Reached P) where
   by-test lines false x y f g = g refl
 
   pub step-leads : (c : Call) → Leads P (lineBy P c) (byMachine P c .next)
-  unfolding chosen
   step-leads (set i j v) =
       by-test [] (ltb (placeOf (blends P) (i + 1) (j + 1)) (length (blends P))) _ _ (λ e. set-leads i j (v % 65536) (mod-lt v (omega arith)))
       (λ e. leads-nowhere)
   step-leads (exact s) = by-test _ (eqb (exactNumber (P .lines) s) 0) _ _ (λ e. rw e (drawn-leads s (eqb-true _ _ e))) (λ e. rw e leads-nowhere)
   step-leads (lengthened s) =
-      by-test _ (eqb (given (P .lines) s) 0) _ _ (λ e. rw e (first-leads s (eqb-true _ _ e) (only (candidate (P .lines)) (containing (P .lines) s)) refl)) (λ e. rw e leads-nowhere)
+      by-test _ (eqb (given (P .lines) s) 0) _ _ (λ e. rw e (one-leads s (eqb-true _ _ e))) (λ e. rw e leads-nowhere)
   step-leads (place i) = leads-nowhere
   step-leads (reads u v) = leads-nowhere
   step-leads (weighs u v) = leads-nowhere

@@ -17,7 +17,7 @@ use Rattle.maps.specs.declared.Map.{Map}
 use Rattle.maps.specs.Plain.{Plain, freshPlain}
 use Rattle.mesh.specs.Splits.{given, exactNumber, chosen}
 use Rattle.mesh.specs.Crossings.{anchors, crossings, Tight}
-use Rattle.mesh.specs.Ends.{goodEnds, nearestGood, TwoLooks}
+use Rattle.mesh.specs.Ends.{goodEnds, nearestGood, TwoLooks, LeastSoundLine}
 use Rattle.maps.specs.Record.{recordOf, plain}
 use Rattle.maps.specs.Calls.{changed, freshMap, shape, tablePlace, reading}
 use Rattle.maps.specs.Histories.{Call, set, exact, lengthened, place, reads, weighs, alongRow, alongColumn, sameAs, number, Outcome, outcome, byLibrary, byMachine, outcomes, ending}
@@ -108,12 +108,14 @@ abbrev pub meshBy : Plain → List Call → Mesh
 meshBy P cs = mesh (P .lines .w) (P .lines .h) (P .lines .splits ++ linesBy P cs)
 
 -- A split on a map, by the present map's two blends over each of its ends: an exact one is refused with 8 exactly where an end is not good; a
--- lengthened one never is, and draws the line between the nearest good ends, which lies in every other line that it could have drawn.
+-- lengthened one never is, and draws the line between the nearest good ends, which lies in every other line that it could have drawn and adds fewer live
+-- blends than each.
 pub record ByEnds (m : Map) (s : Split) : Type 0 where
   pub exact-says : byLibrary m (exact s) .answer ≡ number (cond (goodEnds (plain m .lines) s) 0 8)
   pub lengthened-says : byLibrary m (lengthened s) .answer ≡ number 0
   pub drawn-line : plain (byLibrary m (lengthened s) .next) .lines .splits ≡ plain m .lines .splits ++ nearestGood (plain m .lines) s ∷ []
   pub looks : TwoLooks (plain m .lines) s
+  pub least : LeastSoundLine (plain m .lines) s
 
 -- The demand on a list of calls, of a map that holds P at its start.
 pub record DemandFrom (P : Plain) (cs : List Call) : Type 0 where
