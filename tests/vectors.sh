@@ -7,7 +7,7 @@ trap 'rm -rf "$part"' EXIT
 failed=0
 
 # Lists of calls, without their answers, a whole file at once: document 01's, and those with rows and columns.
-for want in tests/vectors/histories.txt tests/vectors/L2.txt; do
+for want in tests/vectors/histories.txt tests/vectors/L4.txt; do
   sed 's/ =.*//' "$want" | target/bin/calls >"$part/got"
   if ! cmp -s "$part/got" "$want"; then
     echo "vectors: an answer differs from $want:"

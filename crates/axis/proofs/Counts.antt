@@ -1,15 +1,14 @@
 -- How many entries of a list pass a test.
-use Prim.Native.Nat.{ℕ, zero, suc, _+_, _*_, _≤_, _<_}
+use Prim.Native.Nat.{ℕ, _+_, _*_, _≤_}
 use native.Mathlib.Omega.{arith}
-use mathlib.Core.Path.{_≡_, refl, sym, subst, _∙_}
+use mathlib.Core.Path.{_≡_, refl, sym, _∙_}
 use mathlib.Core.Logic.{⊎-elim}
-use mathlib.Core.Bool.{Bool, true, false, cond, _&&_}
+use mathlib.Core.Bool.{Bool, true, false, cond, _&&_, not}
 use mathlib.Core.List.{List, [], _∷_, List·Memᴰ, List·Memᴰ·not-nil, List·Memᴰ·eq-of-singleton, Memᴰ·cast}
 use mathlib.Core.List.List·Memᴰ.{List·Memᴰ·head, List·Memᴰ·tail}
-use lib.ListN.{length, length-append}
-use Rattle.axis.specs.Range.{each, only, Distinct}
+use lib.ListN.{length}
+use Rattle.axis.specs.Range.{only, Distinct}
 use Rattle.axis.proofs.Tests.{either, mem-only, only-mem}
-use Rattle.axis.proofs.Runs.{if-equal}
 
 -- what a test counts, alone and with another; and the entries of a list that pass it
 abbrev pub ones : Bool → ℕ
@@ -22,6 +21,13 @@ both-ones false b = omega arith
 module _ {ℓ} {A : Type ℓ} (test : A → Bool) where
   pub only-first : (x : A) (xs : List A) → length (only test (x ∷ xs)) ≡ ones (test x) + length (only test xs)
   only-first x xs =
+      ⊎-elim (λ (e : test x ≡ true). rw e (omega arith)) (λ (e : test x ≡ false). rw e (omega arith)) (either (test x))
+
+  -- every entry passes it or does not
+  pub pass-or-not : (xs : List A) → length xs ≡ length (only test xs) + length (only (λ x. not (test x)) xs)
+  pass-or-not [] = refl
+  pass-or-not (x ∷ xs) =
+      let more = pass-or-not xs in
       ⊎-elim (λ (e : test x ≡ true). rw e (omega arith)) (λ (e : test x ≡ false). rw e (omega arith)) (either (test x))
 
   pub some-pass : (x : A) (xs : List A) → List·Memᴰ x xs → test x ≡ true → 1 ≤ length (only test xs)
@@ -55,20 +61,3 @@ module _ {ℓ} {A : Type ℓ} (test : A → Bool) where
       none : (ys : List A) → ((y : A) → List·Memᴰ y ys → ⊥) → length (x ∷ ys) ≤ 1
       none [] f = omega arith
       none (y ∷ ys) f = absurd (f y (List·Memᴰ·head refl))
-
--- Lists by number, none longer than another of that number, join to one that is no longer; and to a shorter one, where one is shorter.
-module _ {ℓ κ} {A : Type ℓ} {B : Type κ} where
-  pub each-no-longer : (from n : ℕ) (f : ℕ → List A) (g : ℕ → List B) → ((k : ℕ) → length (f k) ≤ length (g k)) → length (each from n f) ≤ length (each from n g)
-  each-no-longer from zero f g le = omega arith
-  each-no-longer from (suc n) f g le =
-      rw (length-append (f from) (each (from + 1) n f), length-append (g from) (each (from + 1) n g))
-      (omega (arith, le from, each-no-longer (from + 1) n f g le))
-
-  pub each-shorter : (from n : ℕ) (f : ℕ → List A) (g : ℕ → List B) → ((k : ℕ) → length (f k) ≤ length (g k)) →
-      (k : ℕ) → from ≤ k → k < from + n → length (f k) < length (g k) → length (each from n f) < length (each from n g)
-  each-shorter from zero f g le k lo hi lt = absurd (omega arith)
-  each-shorter from (suc n) f g le k lo hi lt =
-      rw (length-append (f from) (each (from + 1) n f), length-append (g from) (each (from + 1) n g))
-      (if-equal k from
-      (λ e. omega (arith, subst (λ (i : ℕ). length (f i) < length (g i)) e lt, each-no-longer (from + 1) n f g le))
-      (λ ne. omega (arith, le from, each-shorter (from + 1) n f g le k (omega arith) (omega arith) lt)))

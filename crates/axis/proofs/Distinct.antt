@@ -6,10 +6,10 @@ use mathlib.Core.Logic.{_⊎_, inl, inr, ⊎-elim}
 use mathlib.Core.Bool.{Bool}
 use mathlib.Core.List.{List, [], _∷_, _++_, map, List·Memᴰ, List·Memᴰ·cases-cons, List·Memᴰ·append-cases, List·Memᴰ·not-nil}
 use mathlib.Core.List.List·Memᴰ.{List·Memᴰ·head, List·Memᴰ·tail}
-use lib.ListN.{length}
+use lib.ListN.{length, length-map}
 use Rattle.axis.specs.Range.{each, only, Distinct, Ordered}
 use Rattle.axis.proofs.Tests.{either, only-mem, each-mem}
-use Rattle.axis.proofs.Members.{map-mem}
+use Rattle.axis.proofs.Members.{map-mem, mem-map}
 
 module _ {ℓ} {A : Type ℓ} where
   -- a list without one of its members
@@ -46,6 +46,16 @@ module _ {ℓ κ} {A : Type ℓ} {B : Type κ} where
         d .0 (subst (λ (u : A). List·Memᴰ u xs) (sym (inj x (r .0) (List·Memᴰ·head refl) (List·Memᴰ·tail (r .1)) (r .2))) (r .1)),
     map-distinct f xs (d .1) (λ u v mu mv. inj u v (List·Memᴰ·tail mu) (List·Memᴰ·tail mv)),
   )
+
+  -- a list without repeats, whose entries have keys of their own, is no longer than one that has all these keys
+  pub keyed-length : (key : A → B) (xs ys : List A) → Distinct xs → ((x y : A) → List·Memᴰ x xs → List·Memᴰ y xs → key x ≡ key y → x ≡ y) →
+      ((x : A) → List·Memᴰ x xs → (y : A) × List·Memᴰ y ys × (key y ≡ key x)) → length xs ≤ length ys
+  keyed-length key xs ys d own f =
+      rw (← length-map xs key, ← length-map ys key)
+      (distinct-length (map key xs) (map key ys) (map-distinct key xs d own)
+      (λ k m. let r = map-mem key xs k m in
+      let y = f (r .0) (r .1) in
+      subst (λ (u : B). List·Memᴰ u (map key ys)) (y .2 ∙ sym (r .2)) (mem-map key ys (y .0) (y .1))))
 
 module _ {ℓ} {A : Type ℓ} where
   pub only-distinct : (test : A → Bool) (xs : List A) → Distinct xs → Distinct (only test xs)

@@ -18,13 +18,14 @@ use Rattle.mesh.specs.Blends.{anchored}
 use Rattle.mesh.specs.Sound.{none, proper, sound}
 use Rattle.axis.proofs.Tests.{either, and-both, cond-true, cond-false}
 use Rattle.mesh.proofs.OneLineMore.{more-finer}
-use Rattle.mesh.proofs.Order.{finer-back, keeps-anchor}
-use Rattle.mesh.proofs.Cuts.{proper-facts, proper-rises}
+use Rattle.mesh.proofs.Order.{finer-back}
+use Rattle.mesh.proofs.Cuts.{proper-facts}
 use Rattle.mesh.proofs.Live.{AllProper}
 use Rattle.axis.proofs.Members.{map-mem, entry, placed, entry-map, set-mem}
 use Rattle.axis.proofs.Scale.{sum, sum-same}
 use Rattle.mesh.proofs.Weights.{Covered}
 use Rattle.mesh.proofs.SoundMaps.{live-left, live-proper, live-distinct}
+use Rattle.mesh.proofs.NewAnchors.{anchor-kept}
 use Rattle.maps.specs.Plain.{Plain, blends}
 use Rattle.maps.specs.Values.{readingAt, placeOf, carried, drawn}
 use Rattle.mesh.specs.Splits.{withLine, liveOf}
@@ -179,8 +180,9 @@ module _ (P : Plain) (valued : Valued P) (s : Split) (still : sound (P .lines .w
       readingAt (blends P) (P .values) (B .across .m - 1) (B .up .m - 1)
   unfolding drawn
   drawn-anchor B m =
-      let k = keeps-anchor (meshOf (withLine (P .lines) s)) B (proper-rises (P .lines .w) (P .lines .h) B (blends-proper P valued B m)) in
-      let r = placed (liveOf (withLine (P .lines) s)) (k .0) none (old-covered B m .1 (k .0) (k .1)) in
+      let k = anchor-kept (P .lines .w) (P .lines .h) (valued .wide .0) (valued .tall .0) (meshOf (P .lines)) (meshOf (withLine (P .lines) s))
+      (more-finer (P .lines) s) B m in
+      let r = placed (liveOf (withLine (P .lines) s)) (k .0) none (k .1) in
       let x : getD (liveOf (withLine (P .lines) s)) (r .0) none .across .m ≡ B .across .m = ap (λ (C : Blend). C .across .m) (r .2) ∙ k .2 in
       let y : getD (liveOf (withLine (P .lines) s)) (r .0) none .up .m ≡ B .up .m = ap (λ (C : Blend). C .up .m) (r .2) ∙ k .3 in
       rw (x, y) at (reading-value (drawn P s) drawn-valued (r .0) (r .1) ∙ drawn-value (r .0) (r .1))

@@ -17,10 +17,9 @@ use Rattle.mesh.specs.Blends.{anchored, place, once, leavesOf, refine, firstFou
 use Rattle.mesh.specs.Order.{Coarser}
 use Rattle.mesh.specs.Sound.{sound}
 use Rattle.mesh.proofs.TableOrder.{anchored-at, once-mem, once-distinct}
-use Rattle.mesh.proofs.Cuts.{proper-rises}
-use Rattle.mesh.proofs.Order.{keeps-anchor, finer-back}
 use Rattle.mesh.proofs.Ascending.{order-ascending}
-use Rattle.mesh.proofs.SoundMaps.{live-left, live-leaves, live-proper, own-anchors}
+use Rattle.mesh.proofs.SoundMaps.{live-leaves, own-anchors}
+use Rattle.mesh.proofs.NewAnchors.{anchor-kept}
 use Rattle.mesh.proofs.Places.{at-inj}
 use Rattle.maps.specs.Values.{placeOf, readingAt, carried}
 use Rattle.maps.specs.Inner.{Grown}
@@ -156,8 +155,5 @@ module _ (w h : ℕ) (hw : 1 ≤ w) (hh : 1 ≤ h) (high : h ≤ 128) where
       record {
         rising = live-rising M sM;
         rising-new = live-rising N sN;
-        among = λ B m.
-            let from = live-left w h hw hh M B .0 m in
-            let k = keeps-anchor N B (proper-rises w h B (live-proper w h hw hh M B m)) in
-            (k .0, live-left w h hw hh N (k .0) .1 (from .0, from .1, finer-back coarser (from .2) (k .1)), rw (k .2, k .3));
+        among = λ B m. let k = anchor-kept w h hw hh M N coarser B m in (k .0, k .1, rw (k .2, k .3));
       }

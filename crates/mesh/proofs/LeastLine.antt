@@ -10,7 +10,7 @@ use lib.ListN.{length}
 use Rattle.axis.specs.Triple.{Side, lower, upper}
 use Rattle.axis.proofs.Runs.{if-equal}
 use Rattle.mesh.specs.Lines.{direction, Layout, meshOf}
-use Rattle.mesh.specs.Splits.{liveOf, withLine, given, spanning, Contains, adds, stepsOf, chosen, Candidate}
+use Rattle.mesh.specs.Splits.{liveOf, withLine, given, spanning, Contains, adds, newAnchors, stepsOf, chosen, Candidate}
 use Rattle.mesh.specs.Ends.{nearestGood, LeastSoundLine}
 use Rattle.mesh.specs.declared.Split.{Split}
 use Rattle.mesh.proofs.Containing.{contains-spanning, chosen-least}
@@ -19,37 +19,33 @@ use Rattle.mesh.proofs.OneLineMore.{more-finer, ranged, endOf}
 use Rattle.mesh.proofs.ChosenLine.{contains-fits, contains-finer}
 use Rattle.mesh.proofs.TightMaps.{Built}
 use Rattle.mesh.proofs.TwoLooks.{free, both-good, candidate-good, candidate-built, nearest-candidate, nearest-in}
-use Rattle.mesh.proofs.MoreBlends.{as-many, more-crossings, Past, longer-crosses}
+use Rattle.mesh.proofs.MoreBlends.{more-blends, Past, longer-adds}
 
 -- A split that passes 3 to 7:
 module _ (P : Layout) (built : Built P) (s : Split) (passes : given P s ≡ 0) where
   g : Given P s
   g = given-says P s passes
 
-  -- A candidate takes no live blend away,
-  pub more-blends : (c : Split) → Candidate P s c → length (liveOf P) ≤ length (liveOf (withLine P c))
-  more-blends c i =
-      rw (as-many P built, as-many (withLine P c) (candidate-built P built s passes c i))
-      (more-crossings (meshOf P) (meshOf (withLine P c)) (more-finer P c) (P .w) (P .h))
+  -- A candidate adds as many live blends as it makes new anchors,
+  pub adds-new-anchors : (c : Split) → Candidate P s c → length (liveOf (withLine P c)) ≡ length (liveOf P) + length (newAnchors P c)
+  adds-new-anchors c i = more-blends (P .w) (P .h) (P .splits) (withLine P c .splits) built (candidate-built P built s passes c i) (more-finer P c)
 
-  -- and adds more than one that lies in it and ends before it at some end,
+  -- and more than one that lies in it and ends before it at some end,
   past-adds : (b : Split) (from to : ℕ) → Candidate P s b → Candidate P s (spanning b from to) → Contains P b (spanning b from to) →
       (e : Side) → Past b from to e → adds P b < adds P (spanning b from to)
   past-adds b from to i j o e p =
       let c = spanning b from to in
       let fits = contains-fits P s b (g .fits) (i .0) in
       let fit = contains-fits P s c (g .fits) (j .0) in
-      let more = longer-crosses P built b (direction (b .direction)) from to (ranged (P .w) (P .h) b fits) (ranged (P .w) (P .h) c fit) (o .begins) (o .ends)
-      (free P built c fit (candidate-says P c (j .1) .apart)) (contains-finer P b c fits o) e p
-      (both-good P built b fits (candidate-says P b (i .1) .apart) (candidate-good P built s passes b i) e) in
-      let few = as-many (withLine P b) (candidate-built P built s passes b i) in
-      let many = as-many (withLine P c) (candidate-built P built s passes c j) in
-      let kept = more-blends b i in
+      let more = longer-adds P built b (direction (b .direction)) from to (ranged (P .w) (P .h) b fits) (ranged (P .w) (P .h) c fit) (o .begins) (o .ends)
+      (free P built c fit (candidate-says P c (j .1) .apart)) e p (both-good P built b fits (candidate-says P b (i .1) .apart) (candidate-good P built s passes b i) e)
+      (candidate-built P built s passes b i) (candidate-built P built s passes c j) (contains-finer P b c fits o) in
+      let kept = adds-new-anchors b i in
       omega arith
 
   -- so more than every other one that lies in it.
-  longer-adds : (b c : Split) → Candidate P s b → Candidate P s c → Contains P b c → (b ≡ c) ⊎ (adds P b < adds P c)
-  longer-adds b c i j o =
+  more-adds : (b c : Split) → Candidate P s b → Candidate P s c → Contains P b c → (b ≡ c) ⊎ (adds P b < adds P c)
+  more-adds b c i j o =
       subst (λ (x : Split). (b ≡ x) ⊎ (adds P b < adds P x)) (sym is) (by (c .from) (c .to) (subst (Candidate P s) is j) (subst (Contains P b) is o))
     where
       is : c ≡ spanning b (c .from) (c .to)
@@ -63,7 +59,7 @@ module _ (P : Layout) (built : Built P) (s : Split) (passes : given P s ≡ 0) w
 
   -- The line between the nearest good ends lies in every candidate; so it alone adds the fewest,
   fewest-alone : (c : Split) → Candidate P s c → (nearestGood P s ≡ c) ⊎ (adds P (nearestGood P s) < adds P c)
-  fewest-alone c i = longer-adds (nearestGood P s) c (nearest-candidate P built s passes) i (nearest-in P built s passes c i)
+  fewest-alone c i = more-adds (nearestGood P s) c (nearest-candidate P built s passes) i (nearest-in P built s passes c i)
 
   -- it alone is the shortest,
   shortest-alone : (c : Split) → Candidate P s c → (nearestGood P s ≡ c) ⊎ (stepsOf (nearestGood P s) < stepsOf c)
@@ -94,7 +90,8 @@ module _ (P : Layout) (built : Built P) (s : Split) (passes : given P s ≡ 0) w
       record {
         is-candidate = nearest-candidate P built s passes;
         in-all = nearest-in P built s passes;
-        longer-adds = longer-adds;
+        new-anchors = adds-new-anchors;
+        longer-adds = more-adds;
         taken = is-taken;
         fewest-alone = fewest-alone;
         shortest-alone = shortest-alone;

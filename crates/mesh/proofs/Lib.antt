@@ -12,6 +12,7 @@ pub mod Weights
 pub mod Straight
 pub mod SoundMaps
 pub mod AtMost
+pub mod NewAnchors
 pub mod Quadrants
 pub mod Containing
 pub mod View

@@ -5,13 +5,14 @@ use mathlib.Core.Logic.{_↔_, _⊎_}
 use mathlib.Core.Bool.{Bool, true, cond, _&&_, _||_}
 use mathlib.Core.List.{[], _∷_}
 use lib.Dec.{eqb}
+use lib.ListN.{length}
 use Rattle.axis.specs.Range.{any}
 use Rattle.axis.specs.Triple.{Side, lower, upper, knotIn}
 use Rattle.axis.specs.Nearest.{below, above}
 use Rattle.axis.specs.declared.Triple.{Triple}
 use Rattle.mesh.specs.Lines.{Direction, direction, other, side, Layout, meshOf}
 use Rattle.mesh.specs.Blends.{crossed, along}
-use Rattle.mesh.specs.Splits.{liveOf, soundWith, exactNumber, run, spanning, Contains, candidate, adds, stepsOf, chosen, Candidate}
+use Rattle.mesh.specs.Splits.{liveOf, withLine, soundWith, exactNumber, run, spanning, Contains, candidate, adds, newAnchors, stepsOf, chosen, Candidate}
 use Rattle.mesh.specs.declared.Split.{Split}
 use Rattle.mesh.specs.declared.Blend.{Blend}
 
@@ -67,7 +68,8 @@ pub record LeastSoundLine (P : Layout) (s : Split) : Type 0 where
   -- The line between the nearest good ends is a candidate that lies in all the others.
   pub is-candidate : Candidate P s (nearestGood P s)
   pub in-all : (c : Split) → Candidate P s c → Contains P (nearestGood P s) c
-  -- A candidate that lies in another one adds fewer live blends;
+  -- A candidate adds as many live blends as it makes new anchors, and fewer than every other one that it lies in;
+  pub new-anchors : (c : Split) → Candidate P s c → length (liveOf (withLine P c)) ≡ length (liveOf P) + length (newAnchors P c)
   pub longer-adds : (b c : Split) → Candidate P s b → Candidate P s c → Contains P b c → (b ≡ c) ⊎ (adds P b < adds P c)
   -- so "the fewest" names that line alone, as "the shortest" does: a lengthened split always takes it.
   pub taken : chosen P s ≡ nearestGood P s ∷ []

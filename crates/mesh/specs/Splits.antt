@@ -9,7 +9,7 @@ use lib.ListN.{length}
 use Rattle.axis.specs.Limits.{mostSplits}
 use Rattle.axis.specs.Range.{each, any, only, least}
 use Rattle.mesh.specs.Lines.{Layout, meshOf, side, other, direction, inRange, shares, ended}
-use Rattle.mesh.specs.Blends.{isCut, live}
+use Rattle.mesh.specs.Blends.{isCut, known, live}
 use Rattle.mesh.specs.Sound.{sound}
 use Rattle.mesh.specs.declared.Split.{Split}
 use Rattle.mesh.specs.declared.Blend.{Blend}
@@ -71,9 +71,13 @@ pub record Contains (P : Layout) (s c : Split) : Type 0 where
 unfoldable pub candidate : Layout → Split → Bool
 candidate P c = ended (meshOf P) c && not (shares (meshOf P) c) && soundWith P c
 
--- how many live blends a line adds; no candidate takes one away (`more-blends`), so nothing is cut off
+-- how many live blends a line adds; no candidate takes one away (`adds-new-anchors`), so nothing is cut off
 abbrev pub adds : Layout → Split → ℕ
 adds P c = length (liveOf (withLine P c)) - length (liveOf P)
+
+-- "a point somebody has to go and measure": the live blends with the line whose anchor is none of the present map
+abbrev pub newAnchors : Layout → Split → List Blend
+newAnchors P c = only (λ B. not (known (liveOf P) B)) (liveOf (withLine P c))
 
 -- how many unit steps a line has; its ends rise, so nothing is cut off
 abbrev pub stepsOf : Split → ℕ

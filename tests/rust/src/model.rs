@@ -394,28 +394,29 @@ impl Map {
         Ok(split)
     }
 
-    /// A lengthened split: the least length, then the lowest start ("Values, readings, splits").
+    /// All lines that a lengthened split may take: they contain the given one, have both ends on crossing lines, overlap
+    /// nothing at their position by more than a point and leave a sound map ("Values, readings, splits").
+    pub fn candidates(&self, given: Split) -> Vec<Split> {
+        let lines = self.lines();
+        let side = lines.along(given.direction);
+        let on_a_line = |end| lines.crossed_at(given.direction, given.position, end);
+        let containing = (0..=given.from).flat_map(|from| (given.to..=side).map(move |to| Split { from, to, ..given }));
+        containing
+            .filter(|tried| on_a_line(tried.from) && on_a_line(tried.to))
+            .filter(|tried| !lines.shares(*tried) && self.leaves_sound(*tried))
+            .collect()
+    }
+
+    /// A lengthened split: of all candidates the one that adds the fewest live blends, then the shortest, then the one that
+    /// starts lowest (document 02, L4).
     pub fn lengthened_split(&mut self, direction: usize, position: usize, from: usize, to: usize) -> Result<Split, No> {
         let given = self.look(direction, position, from, to)?;
         let lines = self.lines();
-        let side = lines.along(direction);
-        for length in 1..=side {
-            for start in 0..=side - length {
-                let tried = Split { from: start, to: start + length, ..given };
-                let on_a_line = |end| lines.crossed_at(direction, given.position, end);
-                if tried.from <= given.from
-                    && given.to <= tried.to
-                    && on_a_line(tried.from)
-                    && on_a_line(tried.to)
-                    && !lines.shares(tried)
-                    && self.leaves_sound(tried)
-                {
-                    self.take(tried);
-                    return Ok(tried);
-                }
-            }
-        }
-        Err(8)
+        let adds = |line: &Split| live(&lines.with(*line)).len() as i64 - live(&lines).len() as i64;
+        let candidates = self.candidates(given);
+        let taken = *candidates.iter().min_by_key(|line| (adds(line), line.to - line.from, line.from)).ok_or(8usize)?;
+        self.take(taken);
+        Ok(taken)
     }
 
     /// Two maps are the same when sides, live blends and values agree ("Values, readings, splits").

@@ -168,12 +168,13 @@ fn same_blends_same_lines() {
 
 // ---------------------------------------------------------------------------------------------------------- Good ends
 
-/// What was tried: gaps, sound lines and their ends inside a gap, lines that are not sound, and the bad ends of these, by
-/// the number of sides on which an anchor lies beside the end.
+/// What was tried: gaps, sound lines, pairs of them of which one lies in the other, their ends inside a gap, lines that
+/// are not sound, and the bad ends of these, by the number of sides on which an anchor lies beside the end.
 #[derive(Default)]
 struct Seen {
     gaps: usize,
     sound: usize,
+    pairs: usize,
     inside: usize,
     unsound: usize,
     bad: [usize; 3],
@@ -228,8 +229,9 @@ impl Place<'_> {
         self.gap_ends(at) || left.iter().any(|one| right.iter().any(|other| one[0] == other[0]))
     }
 
-    /// Splits a copy of the map: the line as it then stands in the record, or the refusal.
-    fn split(&self, exact: bool, (from, to): (i64, i64)) -> Result<(i64, i64), usize> {
+    /// Splits a copy of the map: the line as it then stands in the record and how many live blends it added, or the
+    /// refusal.
+    fn split(&self, exact: bool, (from, to): (i64, i64)) -> Result<((i64, i64), usize), usize> {
         let mut map = self.map.clone();
         let [position, from, to] = [self.position, from, to].map(|number| number as usize);
         match exact {
@@ -237,7 +239,7 @@ impl Place<'_> {
             false => map.lengthened_split(self.direction, position, from, to)?,
         };
         let last = map.splits.last().unwrap();
-        Ok((last.from, last.to))
+        Ok(((last.from, last.to), map.table().len() - self.table.len()))
     }
 
     /// Tries every line at the position, exact and lengthened.
@@ -245,9 +247,11 @@ impl Place<'_> {
         let tell = || format!("{:?}, direction {}, position {}", self.map, self.direction, self.position);
 
         // A line that passes 3 to 7 is sound exactly when both its ends are good.
-        let (mut passed, mut sound) = (vec![], vec![]);
+        let (mut passed, mut sound, mut adds) = (vec![], vec![], BTreeMap::new());
         for (from, to) in (0..self.along).flat_map(|from| (from + 1..=self.along).map(move |to| (from, to))) {
-            let outcome = self.split(true, (from, to));
+            let split = self.split(true, (from, to));
+            adds.extend(split);
+            let outcome = split.map(|(line, _)| line);
             if matches!(outcome, Err(3..=7)) {
                 continue;
             }
@@ -284,14 +288,23 @@ impl Place<'_> {
             let around: Vec<_> = sound.iter().copied().filter(|line| line.0 <= from && to <= line.1).collect();
             assert_eq!(around, pairs, "{}: the sound lines that contain {from} to {to}", tell());
             let nearest = (froms[froms.len() - 1], tos[0]);
-            assert_eq!(self.split(false, (from, to)), Ok(nearest), "{}: {from} to {to} lengthened", tell());
+            let taken = self.split(false, (from, to));
+            assert_eq!(taken, Ok((nearest, adds[&nearest])), "{}: {from} to {to} lengthened", tell());
             assert!(around.iter().all(|line| line.0 <= nearest.0 && nearest.1 <= line.1));
+        }
+
+        // A sound line that lies in another adds fewer blends. So the nearest good ends are also the fewest new anchors.
+        for (short, few) in &adds {
+            for (long, many) in adds.iter().filter(|(long, _)| long.0 <= short.0 && short.1 <= long.1 && *long != short) {
+                assert!(few < many, "{}: {short:?} adds {few}, {long:?} {many}", tell());
+                seen.pairs += 1;
+            }
         }
     }
 }
 
 /// An exact split that passes 3 to 7 says 8 exactly where one of its ends is not good. A lengthened one goes to the
-/// nearest good ends and never says 8, since the ends of its gap are good.
+/// nearest good ends, which add the fewest blends, and never says 8, since the ends of its gap are good.
 #[test]
 fn sound_lines_have_good_ends() {
     let lists = draw::count() / 4;
@@ -306,9 +319,10 @@ fn sound_lines_have_good_ends() {
             }
         }
     }
-    let Seen { gaps, sound, inside, unsound, bad: [none, one, both] } = seen;
+    let Seen { gaps, sound, pairs, inside, unsound, bad: [none, one, both] } = seen;
     enough("gaps", gaps, 10.0, lists);
     enough("sound lines", sound, 25.0, lists);
+    enough("pairs of them, one in the other", pairs, 5.0, lists);
     enough("of their ends inside a gap", inside, 15.0, lists);
     enough("lines that are not sound", unsound, 3.0, lists);
     enough("bad ends with an anchor on one side", one, 2.0, lists);

@@ -159,7 +159,7 @@ fn tables(text: impl Fn(&[u8]) -> Result<String, No>) {
 
 #[test]
 fn model_answers_the_lists_of_calls() {
-    for (file, calls) in [("histories.txt", 9_710), ("L2.txt", 2_355)] {
+    for (file, calls) in [("histories.txt", 9_710), ("L4.txt", 2_991)] {
         assert_eq!(lists_of_calls(file, 1, |w, h| Map::fresh(w, h).unwrap(), answer), calls);
     }
 }
@@ -178,7 +178,7 @@ fn subjects_answer_the_lists_of_calls() {
             file
         };
         // Not all of the first file's, to be quick.
-        for (file, nth, calls) in [("histories.txt", 4, 2_000), ("L2.txt", 1, 2_355)] {
+        for (file, nth, calls) in [("histories.txt", 4, 2_000), ("L4.txt", 1, 2_991)] {
             assert!(lists_of_calls(file, nth, fresh, |file, words| answer_over_bytes(pump, file, words)) >= calls);
         }
     }
