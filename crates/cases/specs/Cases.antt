@@ -19,6 +19,7 @@ use Rattle.mesh.specs.Splits.{liveOf, withLine, given, exactNumber, containing,
 use Rattle.maps.specs.Calls.{freshMap, setPlain}
 use Rattle.maps.specs.Straight.{flow}
 use Rattle.maps.specs.Histories.{Call, set, exact, lengthened, reads, alongRow, alongColumn, Answer, number, placed, read, weighed, walked, told, numberOf, byMachine}
+use Rattle.cases.specs.Drawn.{upright, level}
 
 -- a row, on the map that the rows before it left
 data Row : Type 0 where
@@ -38,12 +39,6 @@ shownBy (read r) P = r .litres
 shownBy (weighed w) P = length (blends P)
 shownBy (walked p) P = p .count
 shownBy (told s) P = length (blends P)
-
-upright : ℕ → ℕ → ℕ → Split
-upright p f t = record { direction = 0; position = p; from = f; to = t }
-
-level : ℕ → ℕ → ℕ → Split
-level p f t = record { direction = 1; position = p; from = f; to = t }
 
 last : List Split → Split
 last [] = upright 0 0 0
@@ -118,11 +113,11 @@ beside =
     []
 
 all-starred : AllRight starred
-unfolding AllRight starred beside Right last upright level shownBy freshMap setPlain drawn given exactNumber containing candidate chosen readingAt carried freshPlain Triple.half Triple.hat Lines.inRange Lines.draws Lines.freshMesh Lines.mesh Lines.onLine Lines.shares Lines.ended Blends.halve Nearest.below Nearest.above Nearest.nearest Blends.isCut Blends.leaves Blends.leavesOf Blends.once Blends.inTableOrder Blends.refine Blends.live Sound.fourEverywhere Sound.noneNested Sound.sound
+unfolding AllRight starred beside Right last shownBy freshMap setPlain drawn given exactNumber containing candidate chosen readingAt carried freshPlain Triple.half Triple.hat Lines.inRange Lines.draws Lines.freshMesh Lines.mesh Lines.onLine Lines.shares Lines.ended Blends.halve Nearest.below Nearest.above Nearest.nearest Blends.isCut Blends.leaves Blends.leavesOf Blends.once Blends.inTableOrder Blends.refine Blends.live Sound.fourEverywhere Sound.noneNested Sound.sound
 all-starred = (refl, (refl, (refl, (refl, (refl, (refl, (refl, (refl, refl, (refl, refl, (refl, refl, (refl, refl, (refl, (refl, refl, (refl, refl, (refl, refl, tt)))))))), (refl, (refl, refl, (refl, refl, (refl, refl, (refl, refl, tt)))), (refl, (refl, refl, (refl, refl, (refl, refl, (refl, refl, (refl, refl, tt))))), (refl, (refl, refl, (refl, refl, (refl, refl, (refl, refl, tt)))), (refl, (refl, refl, (refl, refl, (refl, refl, (refl, refl, (refl, refl, tt))))), tt)))))))))))
 
 all-beside : AllRight beside
-unfolding AllRight starred beside Right last upright level shownBy freshMap setPlain drawn given exactNumber containing candidate chosen readingAt carried freshPlain Triple.half Triple.hat Lines.inRange Lines.draws Lines.freshMesh Lines.mesh Lines.onLine Lines.shares Lines.ended Blends.halve Nearest.below Nearest.above Nearest.nearest Blends.isCut Blends.leaves Blends.leavesOf Blends.once Blends.inTableOrder Blends.refine Blends.live Sound.fourEverywhere Sound.noneNested Sound.sound
+unfolding AllRight starred beside Right last shownBy freshMap setPlain drawn given exactNumber containing candidate chosen readingAt carried freshPlain Triple.half Triple.hat Lines.inRange Lines.draws Lines.freshMesh Lines.mesh Lines.onLine Lines.shares Lines.ended Blends.halve Nearest.below Nearest.above Nearest.nearest Blends.isCut Blends.leaves Blends.leavesOf Blends.once Blends.inTableOrder Blends.refine Blends.live Sound.fourEverywhere Sound.noneNested Sound.sound
 all-beside = (refl, (refl, refl, (refl, refl, (refl, refl, (refl, refl, tt)))), (refl, (refl, refl, (refl, refl, (refl, refl, (refl, refl, (refl, refl, tt))))), (refl, (refl, refl, (refl, refl, (refl, refl, (refl, refl, (refl, refl, (refl, refl, tt)))))), (refl, (refl, refl, (refl, refl, tt)), (refl, (refl, refl, (refl, refl, (refl, refl, (refl, refl, (refl, refl, (refl, refl, (refl, refl, (refl, refl, (refl, refl, tt))))))))), (refl, (refl, refl, (refl, refl, (refl, (refl, (refl, (refl, (refl, refl, (refl, refl, (refl, refl, (refl, refl, (refl, refl, tt))))))))))), (refl, (refl, refl, (refl, refl, (refl, (refl, (refl, (refl, refl, tt)))))), tt)))))))
 
 -- that pump's flow at the last of these points

@@ -1,5 +1,4 @@
 -- Crossings and good ends, computed on the lines of document 01's "Pits on paper".
-use Prim.Native.Nat.{ℕ}
 use mathlib.Core.Path.{_≡_, refl}
 use mathlib.Core.Bool.{Bool, true, false}
 use mathlib.Core.List.{List, [], _∷_}
@@ -12,12 +11,7 @@ use Rattle.mesh.specs.Lines as Lines
 use Rattle.mesh.specs.Blends as Blends
 use Rattle.mesh.specs.Crossings.{crosses, crossings}
 use Rattle.mesh.specs.Ends.{goodEnd, goodEnds, gap, nearestGood}
-
-upright : ℕ → ℕ → ℕ → Split
-upright p f t = record { direction = 0; position = p; from = f; to = t }
-
-level : ℕ → ℕ → ℕ → Split
-level p f t = record { direction = 1; position = p; from = f; to = t }
+use Rattle.cases.specs.Drawn.{upright, level}
 
 -- lines of a map of 8 by 8, and a split on it: whether both its ends are good, the whole gap, and the line between the nearest good ends
 record Row : Type 0 where
@@ -54,7 +48,7 @@ rows =
     []
 
 ends : Right rows
-unfolding Right rows row computed cross upright level goodEnds goodEnd gap nearestGood Blends.live Blends.refine Blends.leavesOf Blends.leaves Blends.once Blends.inTableOrder Nearest.nearest Nearest.below Nearest.above Blends.halve Triple.half Lines.mesh Lines.freshMesh Lines.draws
+unfolding Right rows row computed cross goodEnds goodEnd gap nearestGood Blends.live Blends.refine Blends.leavesOf Blends.leaves Blends.once Blends.inTableOrder Nearest.nearest Nearest.below Nearest.above Blends.halve Triple.half Lines.mesh Lines.freshMesh Lines.draws
 ends = (refl, (refl, (refl, (refl, (refl, (refl, tt))))))
 
 -- A line that ends on another makes no crossing there: the upright at 2 runs from the bottom to level 4 and ends on it.
@@ -62,10 +56,10 @@ lines : List Split
 lines = upright 2 0 4 ∷ cross
 
 ends-there : crosses (meshOf (layout 8 8 lines)) 3 5 ≡ false
-unfolding lines cross upright level Lines.mesh Lines.freshMesh Lines.draws
+unfolding lines cross Lines.mesh Lines.freshMesh Lines.draws
 ends-there = refl
 
 -- ten crossings, as many as document 01 counts blends: nine of the cross, and the upright's with the bottom
 ten : length (crossings 8 8 (meshOf (layout 8 8 lines))) ≡ 10
-unfolding lines cross upright level crossings Lines.mesh Lines.freshMesh Lines.draws
+unfolding lines cross crossings Lines.mesh Lines.freshMesh Lines.draws
 ten = refl

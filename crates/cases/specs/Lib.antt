@@ -1,2 +1,4 @@
+pub mod Drawn
 pub mod Cases
 pub mod Ends
+pub mod Fewest

@@ -1,9 +1,9 @@
--- Document 01, "Values, readings, splits": the line that a lengthened split takes is an exact split that is accepted.
+-- Document 01, "Values, readings, splits": the lines that a lengthened split may take are those that an exact split would be accepted with.
 use Prim.Native.Nat.{ℕ, _≤_}
 use native.Mathlib.Omega.{arith}
-use mathlib.Core.Path.{_≡_, refl, sym, subst}
-use mathlib.Core.Logic.{inl, inr, ⊎-elim}
-use mathlib.Core.Bool.{true, false}
+use mathlib.Core.Path.{_≡_, refl, sym, ap, subst}
+use mathlib.Core.Logic.{_↔_, inl, inr, ⊎-elim}
+use mathlib.Core.Bool.{true, false, not}
 use mathlib.Core.List.{List, _∷_, List·Memᴰ}
 use borrow.Author.Tests.{lt-leb}
 use lib.Dec.{leb}
@@ -14,14 +14,14 @@ use Rattle.axis.specs.Range.{any}
 use Rattle.mesh.specs.Lines.{Layout, Mesh, Direction, direction, inRange, meshOf}
 use Rattle.mesh.specs.Blends.{isCut}
 use Rattle.mesh.specs.Order.{Coarser}
-use Rattle.axis.proofs.Tests.{any-at, any-of}
+use Rattle.axis.proofs.Tests.{and-of, any-at, any-of}
 use Rattle.mesh.proofs.Cuts.{RiseB, cut-exactly, proper-rises}
 use Rattle.mesh.proofs.Order.{finer-cuts}
 use Rattle.mesh.proofs.SoundMaps.{live-proper}
 use Rattle.mesh.proofs.Containing.{contains-spanning, chosen-least}
-use Rattle.mesh.specs.Splits.{liveOf, withLine, given, exactNumber, run, Contains, chosen}
+use Rattle.mesh.specs.Splits.{liveOf, withLine, candidate, given, exactNumber, run, Contains, chosen}
 use Rattle.mesh.proofs.OneLineMore.{Ranged, Row, ranged, more-finer, step-drawn, step-either}
-use Rattle.mesh.proofs.Passing.{given-says, candidate-says, spanning-fits, ends-in}
+use Rattle.mesh.proofs.Passing.{given-says, exact-says, candidate-says, spanning-fits, ends-in}
 
 -- A finer mesh cuts what a coarser one cuts.
 finer-cut : (M N : Mesh) → Coarser M N → (B : Blend) → RiseB B → isCut M B ≡ true → isCut N B ≡ true
@@ -62,14 +62,22 @@ contains-cuts P hw hh s c fits i e =
     any-of (isCut (meshOf (withLine P c))) (liveOf P) (cut .0) (cut .1)
     (finer-cut (meshOf (withLine P s)) (meshOf (withLine P c)) (contains-finer P s c fits i) (cut .0) rises (cut .2))
 
--- So the line that a lengthened split takes passes every check of an exact one.
+-- So a candidate passes every check of an exact split, and a line that does is a candidate;
+pub candidate-exact : (P : Layout) → 1 ≤ P .w → 1 ≤ P .h → (s c : Split) → given P s ≡ 0 → Contains P s c → candidate P c ≡ true ↔ (exactNumber P c ≡ 0)
+unfolding candidate exactNumber given
+candidate-exact P hw hh s c e i = (
+  λ t.
+      let g = given-says P s e in
+      let a = candidate-says P c t in
+      let room : leb 60 (length (P .splits)) ≡ false = lt-leb _ _ (g .room) in
+      rw (contains-fits P s c (g .fits) i, room, a .apart, a .ends, contains-cuts P hw hh s c (g .fits) i (g .cut), a .is-sound),
+  λ q. let f = exact-says P c q in and-of _ _ (and-of _ _ (f .0 .ends) (ap not (f .0 .apart))) (f .1),
+)
+
+-- and so does the line that a lengthened split takes.
 pub chosen-exact : (P : Layout) → 1 ≤ P .w → 1 ≤ P .h → (s c : Split) (cs : List Split) → given P s ≡ 0 → chosen P s ≡ c ∷ cs →
     exactNumber P c ≡ 0
-unfolding chosen exactNumber given
 chosen-exact P hw hh s c cs e first =
-    let g = given-says P s e in
-    let ends = ends-in P s (g .fits) in
+    let ends = ends-in P s (given-says P s e .fits) in
     let f = chosen-least P s (omega arith) .taken c (rw first (List·Memᴰ.List·Memᴰ·head refl)) in
-    let a = candidate-says P c (f .1) in
-    let room : leb 60 (length (P .splits)) ≡ false = lt-leb _ _ (g .room) in
-    rw (contains-fits P s c (g .fits) (f .0), room, a .apart, a .ends, contains-cuts P hw hh s c (g .fits) (f .0) (g .cut), a .is-sound)
+    candidate-exact P hw hh s c e (f .0) .0 (f .1)

@@ -1,21 +1,20 @@
 -- The least sound line: of the candidates one lies in all the others and adds the fewest live blends, and a lengthened split takes it.
-use Prim.Native.Nat.{ℕ, _+_, _≤_, _<_}
+use Prim.Native.Nat.{ℕ, _+_, _<_}
 use native.Mathlib.Omega.{arith}
 use mathlib.Core.Path.{_≡_, refl, sym, ap, subst, _∙_}
 use mathlib.Core.Logic.{_⊎_, inl, inr, ⊎-elim}
-use mathlib.Core.Bool.{true}
 use mathlib.Core.List.{[], _∷_, List·Memᴰ}
 use mathlib.Core.List.List·Memᴰ.{List·Memᴰ·head}
 use lib.ListN.{length}
 use Rattle.axis.specs.Triple.{Side, lower, upper}
 use Rattle.axis.proofs.Runs.{if-equal}
-use Rattle.mesh.specs.Lines.{direction, Layout, meshOf}
+use Rattle.mesh.specs.Lines.{direction, Layout}
 use Rattle.mesh.specs.Splits.{liveOf, withLine, given, spanning, Contains, adds, newAnchors, stepsOf, chosen, Candidate}
 use Rattle.mesh.specs.Ends.{nearestGood, LeastSoundLine}
 use Rattle.mesh.specs.declared.Split.{Split}
 use Rattle.mesh.proofs.Containing.{contains-spanning, chosen-least}
 use Rattle.mesh.proofs.Passing.{Given, given-says, candidate-says, ends-in}
-use Rattle.mesh.proofs.OneLineMore.{more-finer, ranged, endOf}
+use Rattle.mesh.proofs.OneLineMore.{more-finer, ranged}
 use Rattle.mesh.proofs.ChosenLine.{contains-fits, contains-finer}
 use Rattle.mesh.proofs.TightMaps.{Built}
 use Rattle.mesh.proofs.TwoLooks.{free, both-good, candidate-good, candidate-built, nearest-candidate, nearest-in}

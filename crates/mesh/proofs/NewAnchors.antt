@@ -6,7 +6,7 @@ use mathlib.Core.Bool.{true, not}
 use mathlib.Core.List.{List, List·Memᴰ}
 use borrow.Author.Tests.{eq-eqb}
 use lib.ListN.{length}
-use Rattle.axis.specs.Range.{any, only}
+use Rattle.axis.specs.Range.{only}
 use Rattle.axis.proofs.Tests.{and-of, any-at, any-of, only-mem, mem-only}
 use Rattle.axis.proofs.Counts.{pass-or-not}
 use Rattle.axis.proofs.Distinct.{only-distinct, keyed-length}

@@ -16,7 +16,7 @@ use Rattle.mesh.specs.Splits.{liveOf, withLine, soundWith, given, exactN
 use Rattle.mesh.specs.Ends.{gapEnds, goodEnd, goodEnds, between, gap, nearestGood, TwoLooks}
 use Rattle.mesh.specs.declared.Split.{Split}
 use Rattle.mesh.proofs.Passing.{Given, given-says, candidate-says, ends-in}
-use Rattle.mesh.proofs.ChosenLine.{contains-fits, contains-cuts}
+use Rattle.mesh.proofs.ChosenLine.{contains-fits, contains-cuts, candidate-exact}
 use Rattle.mesh.proofs.OneLineMore.{Ranged, ranged, endOf}
 use Rattle.mesh.proofs.TightMaps.{Built}
 use Rattle.mesh.proofs.GoodEnds.{gap-either, gap-edge, gap-line, gap-good, good-sound, good-on-line, sound-good, built-on}
@@ -211,6 +211,7 @@ module _ (P : Layout) (b : Built P) (s : Split) (e : given P s ≡ 0) where
       record {
         exact = exact-is;
         refused = refused-is;
+        accepted = λ c i. candidate-exact P (b .wide) (b .high) s c e i;
         whole-gap = gap-sound P b s (g .fits) (g .apart);
         candidates = λ c i. (λ t. (in-whole-gap c (i, t), candidate-good c (i, t)), λ f. gap-candidate c i (f .0) (f .1));
       }

@@ -59,7 +59,8 @@ pub record TwoLooks (P : Layout) (s : Split) : Type 0 where
   -- "The exact split leaves a map that is not sound": exactly where an end is not good.
   pub exact : soundWith P s ≡ goodEnds P s
   pub refused : exactNumber P s ≡ cond (goodEnds P s) 0 8
-  -- The candidates are the lines through it within the gap whose ends are both good. The whole gap is one.
+  -- The candidates are the lines through it that would be accepted as exact splits: those within the gap whose ends are both good. The whole gap is one.
+  pub accepted : (c : Split) → Contains P s c → candidate P c ≡ true ↔ (exactNumber P c ≡ 0)
   pub candidates : (c : Split) → Contains P s c → candidate P c ≡ true ↔ (Contains P c (gap P s) × (goodEnds P c ≡ true))
   pub whole-gap : Candidate P s (gap P s)
 
