@@ -131,9 +131,10 @@ size_t pump_set(uint8_t *buffer, size_t size, size_t *used, size_t m, size_t n, 
 size_t pump_exact_split(uint8_t *buffer, size_t size, size_t *used, size_t direction, size_t position, size_t from,
                         size_t to);
 
-/* Draws, of all lines that contain the given one and would be accepted as exact splits, the shortest: the one between
-   the nearest good ends, which lies in all the others. It is the last split of the file. Refusals 3 to 7 look at the
-   line as given; 8 does not come, since there always is such a line.
+/* Draws, of all lines that contain the given one and would be accepted as exact splits, the one that adds the fewest
+   anchors: the one between the nearest good ends. It lies in all the others, and each of those adds more, so it is
+   also the shortest and there is never a tie. It is the last split of the file. Refusals 3 to 7 look at the line as
+   given; 8 does not come, since there always is such a line.
    Refused with 11, 3 to 7, or 12. */
 size_t pump_lengthened_split(uint8_t *buffer, size_t size, size_t *used, size_t direction, size_t position, size_t from,
                              size_t to);

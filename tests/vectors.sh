@@ -6,7 +6,7 @@ part=$(mktemp -d)
 trap 'rm -rf "$part"' EXIT
 failed=0
 
-# Lists of calls, without their answers, a whole file at once: document 01's, and those with rows and columns.
+# Lists of calls, without their answers, a whole file at once: document 01's, and those by document 02 as far as L4.
 for want in tests/vectors/histories.txt tests/vectors/L4.txt; do
   sed 's/ =.*//' "$want" | target/bin/calls >"$part/got"
   if ! cmp -s "$part/got" "$want"; then

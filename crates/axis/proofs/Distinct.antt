@@ -147,11 +147,6 @@ module _ {ℓ} {A : Type ℓ} (before : A → A → Type 0) where
   lone (x ∷ []) d e = (λ y m. absurd (List·Memᴰ·not-nil m), tt)
   lone (x ∷ y ∷ ys) d e = absurd (d .0 (List·Memᴰ·head (e x y (List·Memᴰ·head refl) (List·Memᴰ·tail (List·Memᴰ·head refl)))))
 
-  -- the entries that pass a test, and the first of a list
-  pub only-ordered : (test : A → Bool) (xs : List A) → Ordered before xs → Ordered before (only test xs)
-  only-ordered test [] o = tt
-  only-ordered test (x ∷ xs) o =
-      ⊎-elim (λ t. rw t (λ y m. o .0 y (only-mem test xs y m .0), only-ordered test xs (o .1))) (λ t. rw t (only-ordered test xs (o .1))) (either (test x))
-
+  -- the first of a list
   pub first-before : (x : A) (xs : List A) → Ordered before (x ∷ xs) → (y : A) → List·Memᴰ y (x ∷ xs) → (y ≡ x) ⊎ before x y
   first-before x xs o y m = ⊎-elim inl (λ n. inr (o .0 y n)) (List·Memᴰ·cases-cons m)

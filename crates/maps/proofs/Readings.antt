@@ -187,13 +187,8 @@ module _ (P : Plain) (valued : Valued P) (s : Split) (still : sound (P .lines .w
       let y : getD (liveOf (withLine (P .lines) s)) (r .0) none .up .m ≡ B .up .m = ap (λ (C : Blend). C .up .m) (r .2) ∙ k .3 in
       rw (x, y) at (reading-value (drawn P s) drawn-valued (r .0) (r .1) ∙ drawn-value (r .0) (r .1))
 
--- Setting the value at an anchor leaves the live blends as they are,
-pub set-blends : (P : Plain) (m n v : ℕ) → blends (setPlain P m n v) ≡ blends P
-unfolding setPlain
-set-blends P m n v = refl
-
+-- Setting the value at an anchor leaves a map with a 16-bit value for each live blend;
 module _ (P : Plain) (valued : Valued P) (m n v : ℕ) where
-  -- and a map with a 16-bit value for each;
   pub set-valued : v < 65536 → Valued (setPlain P m n v)
   unfolding setPlain
   set-valued lt = record {

@@ -157,7 +157,7 @@ impl Map {
         without_table(opened.split(s, false))
     }
 
-    // Draws the shortest sound line that contains the given one: refused with 2 to 8.
+    // Draws the sound line through the given one that adds the fewest live blends: refused with 2 to 8.
     pub fn lengthened_split(self, s: Split) -> Changed
         ensures { λ r. ⌜ r ≡ lengthenedSplit self s ⌝ }
     {

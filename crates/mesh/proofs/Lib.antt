@@ -29,6 +29,8 @@ pub mod GoodEnds
 pub mod Passing
 pub mod ChosenLine
 pub mod TwoLooks
+pub mod MoreBlends
+pub mod LeastLine
 pub mod Accepted
 pub mod Holding
 pub mod Reaching
@@ -37,8 +39,6 @@ pub mod Looking
 pub mod Stepping
 pub mod Replaying
 pub mod CrossingList
-pub mod MoreBlends
-pub mod LeastLine
 pub mod Cutting
 pub mod Drawing
 pub mod Reading

@@ -27,7 +27,8 @@ fn refused(number: usize, s: Split, table: Table) -> Step
     }
 }
 
-// The line that a lengthened split takes: nested loops over length and start, left with the first line between good ends.
+// The line that a lengthened split takes: nested loops over length and start, left with the first line between good ends. Every other one contains it and
+// so adds more live blends.
 fn longer_line(
     uprights: &[u8],
     levels: &[u8],

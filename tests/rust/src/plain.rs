@@ -292,6 +292,8 @@ impl Map {
         Ok(next)
     }
 
+    /// The shortest sound line through the given one lies in all the others and adds the fewest blends (README.md, "Where a
+    /// line may end"), so the first that is found by length is the one to take.
     fn lengthened_split(&self, split: [usize; 4]) -> Result<Map, No> {
         let given = self.look(split)?;
         let Split { direction, position, from, to } = given;

@@ -1,4 +1,5 @@
-//! Replays the outside vectors: the lists of calls, with and without rows and columns, and the files of the table program.
+//! Replays the outside vectors: the lists of calls, by document 01 and by document 02 as far as L4, and the files of the
+//! table program.
 
 use pump_tests::model::{Blend, Map, No, Split};
 use pump_tests::{subjects, Pump};
