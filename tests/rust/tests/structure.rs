@@ -295,7 +295,8 @@ impl Place<'_> {
 
         // A sound line that lies in another adds fewer blends. So the nearest good ends are also the fewest new anchors.
         for (short, few) in &adds {
-            for (long, many) in adds.iter().filter(|(long, _)| long.0 <= short.0 && short.1 <= long.1 && *long != short) {
+            for (long, many) in adds.iter().filter(|(long, _)| long.0 <= short.0 && short.1 <= long.1 && *long != short)
+            {
                 assert!(few < many, "{}: {short:?} adds {few}, {long:?} {many}", tell());
                 seen.pairs += 1;
             }
