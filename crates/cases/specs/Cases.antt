@@ -15,7 +15,8 @@ use Rattle.mesh.specs.Sound.{overSquare}
 use Rattle.mesh.specs.Sound as Sound
 use Rattle.maps.specs.Plain.{Plain, freshPlain, blends}
 use Rattle.maps.specs.Values.{readingAt, carried, drawn}
-use Rattle.mesh.specs.Splits.{liveOf, withLine, given, exactNumber, containing, candidate, chosen}
+use Rattle.mesh.specs.Splits.{liveOf, withLine, given, exactNumber}
+use Rattle.mesh.specs.Lengthening.{containing, candidate, chosen}
 use Rattle.maps.specs.Calls.{freshMap, setPlain}
 use Rattle.maps.specs.Straight.{flow}
 use Rattle.maps.specs.Histories.{Call, set, exact, lengthened, reads, alongRow, alongColumn, Answer, number, placed, read, weighed, walked, told, numberOf, byMachine}

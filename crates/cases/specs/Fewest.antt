@@ -11,7 +11,8 @@ use Rattle.mesh.specs.Lines.{layout}
 use Rattle.mesh.specs.Lines as Lines
 use Rattle.mesh.specs.Blends as Blends
 use Rattle.mesh.specs.Sound as Sound
-use Rattle.mesh.specs.Splits.{exactNumber, given, containing, candidate, adds, newAnchors, chosen}
+use Rattle.mesh.specs.Splits.{exactNumber, given}
+use Rattle.mesh.specs.Lengthening.{containing, candidate, adds, newAnchors, chosen}
 use Rattle.cases.specs.Drawn.{upright, level}
 
 -- a candidate, with the live blends that it adds and the new anchors that it makes

@@ -6,7 +6,8 @@ use mathlib.Core.List.{List, [], _∷_}
 use lib.Dec.{eqb}
 use Rattle.mesh.specs.declared.Split.{Split}
 use Rattle.mesh.specs.Lines.{Layout}
-use Rattle.mesh.specs.Splits.{given, exactNumber, chosen}
+use Rattle.mesh.specs.Splits.{given, exactNumber}
+use Rattle.mesh.specs.Lengthening.{chosen}
 use Rattle.maps.specs.declared.Map.{Map}
 use Rattle.maps.specs.declared.Changed.{Changed}
 use Rattle.maps.specs.Values.{drawn}

@@ -20,7 +20,8 @@ use Rattle.mesh.specs.declared.Split.{Split}
 use Rattle.mesh.specs.declared.Table.{Table}
 use Rattle.mesh.specs.Lines.{meshOf}
 use Rattle.mesh.specs.Sound.{none, proper, table, blendsOf}
-use Rattle.mesh.specs.Splits.{liveOf, withLine, given, exactNumber, chosen}
+use Rattle.mesh.specs.Splits.{liveOf, withLine, given, exactNumber}
+use Rattle.mesh.specs.Lengthening.{chosen}
 use Rattle.mesh.proofs.SoundMaps.{live-proper}
 use Rattle.mesh.proofs.Cuts.{proper-facts}
 use Rattle.mesh.proofs.AtMost.{at-most}

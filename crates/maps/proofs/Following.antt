@@ -12,7 +12,8 @@ use Rattle.maps.specs.declared.Map.{Map}
 use Rattle.maps.specs.declared.Changed.{Changed}
 use Rattle.maps.specs.Plain.{Plain, blends}
 use Rattle.maps.specs.Values.{placeOf}
-use Rattle.mesh.specs.Splits.{given, exactNumber, chosen}
+use Rattle.mesh.specs.Splits.{given, exactNumber}
+use Rattle.mesh.specs.Lengthening.{chosen}
 use Rattle.maps.specs.Record.{recordOf, plain, good}
 use Rattle.maps.specs.Calls.{setValue, tablePlace, reading, weights, exactSplit, drawnFirst, lengthenedSplit}
 use Rattle.maps.specs.Pairs.{rowPairs, columnPairs}

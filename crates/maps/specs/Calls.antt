@@ -10,7 +10,8 @@ use Rattle.mesh.specs.declared.Split.{Split}
 use Rattle.mesh.specs.declared.Blend.{Blend}
 use Rattle.mesh.specs.Lines.{allowedSide}
 use Rattle.mesh.specs.Sound.{none}
-use Rattle.mesh.specs.Splits.{exactNumber, given, chosen}
+use Rattle.mesh.specs.Splits.{exactNumber, given}
+use Rattle.mesh.specs.Lengthening.{chosen}
 use Rattle.maps.specs.declared.Map.{Map}
 use Rattle.maps.specs.declared.Shape.{Shape}
 use Rattle.maps.specs.declared.Changed.{Changed}

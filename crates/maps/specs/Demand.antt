@@ -15,7 +15,8 @@ use Rattle.mesh.specs.Sound.{none}
 use Rattle.mesh.specs.Weight.{weight}
 use Rattle.maps.specs.declared.Map.{Map}
 use Rattle.maps.specs.Plain.{Plain, freshPlain}
-use Rattle.mesh.specs.Splits.{given, exactNumber, chosen}
+use Rattle.mesh.specs.Splits.{given, exactNumber}
+use Rattle.mesh.specs.Lengthening.{chosen}
 use Rattle.mesh.specs.Crossings.{anchors, crossings, Tight}
 use Rattle.mesh.specs.Ends.{goodEnds, nearestGood, TwoLooks, LeastSoundLine}
 use Rattle.maps.specs.Record.{recordOf, plain}

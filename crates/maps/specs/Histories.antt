@@ -5,7 +5,8 @@ use mathlib.Core.List.{List, [], _∷_}
 use lib.Dec.{ltb, eqb}
 use lib.ListN.{length}
 use Rattle.mesh.specs.declared.Split.{Split}
-use Rattle.mesh.specs.Splits.{given, exactNumber, chosen}
+use Rattle.mesh.specs.Splits.{given, exactNumber}
+use Rattle.mesh.specs.Lengthening.{chosen}
 use Rattle.maps.specs.declared.Map.{Map}
 use Rattle.maps.specs.declared.Placed.{Placed}
 use Rattle.maps.specs.declared.Reading.{Reading}

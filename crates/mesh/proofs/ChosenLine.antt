@@ -19,7 +19,8 @@ use Rattle.mesh.proofs.Cuts.{RiseB, cut-exactly, proper-rises}
 use Rattle.mesh.proofs.Order.{finer-cuts}
 use Rattle.mesh.proofs.SoundMaps.{live-proper}
 use Rattle.mesh.proofs.Containing.{contains-spanning, chosen-least}
-use Rattle.mesh.specs.Splits.{liveOf, withLine, candidate, given, exactNumber, run, Contains, chosen}
+use Rattle.mesh.specs.Splits.{liveOf, withLine, given, exactNumber}
+use Rattle.mesh.specs.Lengthening.{candidate, run, Contains, chosen}
 use Rattle.mesh.proofs.OneLineMore.{Ranged, Row, ranged, more-finer, step-drawn, step-either}
 use Rattle.mesh.proofs.Passing.{given-says, exact-says, candidate-says, spanning-fits, ends-in}
 

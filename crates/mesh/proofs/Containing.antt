@@ -10,7 +10,7 @@ use Rattle.axis.proofs.Distinct.{only-distinct, each-distinct, singleton, nothi
 use Rattle.axis.proofs.Least.{least-says, least-of, some-least}
 use Rattle.mesh.specs.declared.Split.{Split}
 use Rattle.mesh.specs.Lines.{Layout}
-use Rattle.mesh.specs.Splits.{spanning, run, containing, Contains, adds, stepsOf, candidate, chosen, Candidate, Least}
+use Rattle.mesh.specs.Lengthening.{spanning, run, containing, Contains, adds, stepsOf, candidate, chosen, Candidate, Least}
 
 module _ (P : Layout) (s : Split) where
   -- the lines from a start on
@@ -35,7 +35,8 @@ module _ (P : Layout) (s : Split) where
         rw (List·Memᴰ·eq-of-singleton (t .3)) (record { same-way = refl; same-place = refl; begins = omega arith; ends = t .1; within = omega arith }),
     λ i.
         mem-each 0 (s .from + 1) starts c (c .from) (omega arith) (omega (arith, i .begins))
-        (mem-each (s .to) (run P s + 1 - s .to) (ends (c .from)) c (c .to) (i .ends) (omega (arith, i .ends, i .within)) (List·Memᴰ·head (contains-spanning c i))),
+        (mem-each (s .to) (run P s + 1 - s .to) (ends (c .from)) c (c .to) (i .ends) (omega (arith, i .ends, i .within))
+        (List·Memᴰ·head (contains-spanning c i))),
   )
 
   -- once.

@@ -9,7 +9,8 @@ use lib.ListN.{length}
 use Rattle.axis.specs.Triple.{Side, lower, upper}
 use Rattle.axis.proofs.Runs.{if-equal}
 use Rattle.mesh.specs.Lines.{direction, Layout}
-use Rattle.mesh.specs.Splits.{liveOf, withLine, given, spanning, Contains, adds, newAnchors, stepsOf, chosen, Candidate}
+use Rattle.mesh.specs.Splits.{liveOf, withLine, given}
+use Rattle.mesh.specs.Lengthening.{spanning, Contains, adds, newAnchors, stepsOf, chosen, Candidate}
 use Rattle.mesh.specs.Ends.{nearestGood, LeastSoundLine}
 use Rattle.mesh.specs.declared.Split.{Split}
 use Rattle.mesh.proofs.Containing.{contains-spanning, chosen-least}
@@ -36,8 +37,9 @@ module _ (P : Layout) (built : Built P) (s : Split) (passes : given P s ≡ 0) w
       let c = spanning b from to in
       let fits = contains-fits P s b (g .fits) (i .0) in
       let fit = contains-fits P s c (g .fits) (j .0) in
+      let good = both-good P built b fits (candidate-says P b (i .1) .apart) (candidate-good P built s passes b i) e in
       let more = longer-adds P built b (direction (b .direction)) from to (ranged (P .w) (P .h) b fits) (ranged (P .w) (P .h) c fit) (o .begins) (o .ends)
-      (free P built c fit (candidate-says P c (j .1) .apart)) e p (both-good P built b fits (candidate-says P b (i .1) .apart) (candidate-good P built s passes b i) e)
+      (free P built c fit (candidate-says P c (j .1) .apart)) e p good
       (candidate-built P built s passes b i) (candidate-built P built s passes c j) (contains-finer P b c fits o) in
       let kept = adds-new-anchors b i in
       omega arith
@@ -50,7 +52,8 @@ module _ (P : Layout) (built : Built P) (s : Split) (passes : given P s ≡ 0) w
       is : c ≡ spanning b (c .from) (c .to)
       is = contains-spanning P b c o
 
-      by : (from to : ℕ) → Candidate P s (spanning b from to) → Contains P b (spanning b from to) → (b ≡ spanning b from to) ⊎ (adds P b < adds P (spanning b from to))
+      by : (from to : ℕ) → Candidate P s (spanning b from to) → Contains P b (spanning b from to) →
+          (b ≡ spanning b from to) ⊎ (adds P b < adds P (spanning b from to))
       by from to j o =
           if-equal (b .from) from
           (λ p. if-equal (b .to) to (λ q. inl (λ k. spanning b (p k) (q k))) (λ ne. inr (past-adds b from to i j o upper (omega (arith, o .ends)))))

@@ -12,7 +12,7 @@ use Rattle.axis.proofs.Tests.{true-not-false, and-both, and-of}
 use Rattle.axis.proofs.Runs.{if-at-most, if-equal}
 use Rattle.mesh.specs.Lines.{Direction, upright, level, direction, other, side, mesh, Layout, layout}
 use Rattle.mesh.specs.Blends.{live}
-use Rattle.mesh.specs.Splits.{spanning, stepsOf}
+use Rattle.mesh.specs.Lengthening.{spanning, stepsOf}
 use Rattle.mesh.specs.Ends.{gapEnds, abreast, goodEnd, goodEnds, nearestGood}
 use Rattle.mesh.specs.Replay.{Replays}
 use Rattle.mesh.specs.Bytes.{Rows, bytesMesh}

@@ -13,7 +13,8 @@ use Rattle.axis.proofs.Counts.{some-pass}
 use Rattle.mesh.specs.Lines.{Direction, upright, level, other, side, mesh, Layout, layout, meshOf}
 use Rattle.mesh.specs.Blends.{crossed, along, anchored, known, live}
 use Rattle.mesh.specs.Order.{Coarser}
-use Rattle.mesh.specs.Splits.{liveOf, withLine, spanning}
+use Rattle.mesh.specs.Splits.{liveOf, withLine}
+use Rattle.mesh.specs.Lengthening.{spanning}
 use Rattle.mesh.specs.Ends.{goodEnd}
 use Rattle.mesh.specs.declared.Split.{Split}
 use Rattle.mesh.specs.declared.Blend.{Blend}
@@ -41,7 +42,8 @@ more-blends w h ss ts b c finer =
     kept-and-new w h (b .wide) (b .high) (mesh w h ss) (mesh w h ts) finer (four-sound w h (b .wide) (b .high) ss (b .four))
     (four-sound w h (b .wide) (b .high) ts (c .four))
 
-crossed-same : (d : Direction) (A B : Blend) → A .across .m ≡ B .across .m → A .up .m ≡ B .up .m → (crossed d A .m ≡ crossed d B .m) × (along d A .m ≡ along d B .m)
+crossed-same : (d : Direction) (A B : Blend) → A .across .m ≡ B .across .m → A .up .m ≡ B .up .m →
+    (crossed d A .m ≡ crossed d B .m) × (along d A .m ≡ along d B .m)
 crossed-same upright A B p q = (p, q)
 crossed-same level A B p q = (q, p)
 

@@ -10,7 +10,8 @@ use borrow.Author.Tests.{leb-false, le-leb, lt-ltb, ne-eqb, not-true, not-false}
 use Rattle.axis.specs.Range.{any}
 use Rattle.mesh.specs.Lines.{Layout, meshOf, fits, inRange, shares, ended}
 use Rattle.mesh.specs.Blends.{isCut}
-use Rattle.mesh.specs.Splits.{liveOf, withLine, soundWith, candidate, given, exactNumber, run, spanning}
+use Rattle.mesh.specs.Splits.{liveOf, withLine, soundWith, given, exactNumber}
+use Rattle.mesh.specs.Lengthening.{candidate, run, spanning}
 use Rattle.mesh.specs.declared.Split.{Split}
 use Rattle.axis.proofs.Tests.{either, and-both, and-of, cond-true, cond-false}
 use Rattle.mesh.proofs.OneLineMore.{ranged}

@@ -13,7 +13,8 @@ use Rattle.axis.proofs.Tests.{and-first, and-last, cond-false}
 use Rattle.axis.proofs.Entries.{left-turn, left-none}
 use Rattle.mesh.specs.Lines.{direction, other, side, allowedSide, layout, splitsOf, layoutOf}
 use Rattle.mesh.specs.Sound.{table}
-use Rattle.mesh.specs.Splits.{given, exactNumber, accepted, chosen}
+use Rattle.mesh.specs.Splits.{given, exactNumber, accepted}
+use Rattle.mesh.specs.Lengthening.{chosen}
 use Rattle.mesh.specs.Ends.{nearestGood}
 use Rattle.mesh.specs.Replay.{replays, replayed, notReplayed, HasTable, refusedStep, drawnStep, exactStep, lengthenedStep}
 use Rattle.mesh.specs.Bytes.{Tall, Zeros, walk}

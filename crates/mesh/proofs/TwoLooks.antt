@@ -12,7 +12,8 @@ use Rattle.axis.proofs.Runs.{if-at-most}
 use Rattle.axis.proofs.Nearest.{below-last, above-first}
 use Rattle.mesh.specs.Lines.{Direction, other, direction, Layout, meshOf, inRange, shares, ended, onLine}
 use Rattle.mesh.specs.Blends.{isCut}
-use Rattle.mesh.specs.Splits.{liveOf, withLine, soundWith, given, exactNumber, run, Contains, candidate, Candidate}
+use Rattle.mesh.specs.Splits.{liveOf, withLine, soundWith, given, exactNumber}
+use Rattle.mesh.specs.Lengthening.{run, Contains, candidate, Candidate}
 use Rattle.mesh.specs.Ends.{gapEnds, goodEnd, goodEnds, between, gap, nearestGood, TwoLooks}
 use Rattle.mesh.specs.declared.Split.{Split}
 use Rattle.mesh.proofs.Passing.{Given, given-says, candidate-says, ends-in}

@@ -12,7 +12,8 @@ use Rattle.axis.specs.Nearest.{below, above}
 use Rattle.axis.specs.declared.Triple.{Triple}
 use Rattle.mesh.specs.Lines.{Direction, direction, other, side, Layout, meshOf}
 use Rattle.mesh.specs.Blends.{crossed, along}
-use Rattle.mesh.specs.Splits.{liveOf, withLine, soundWith, exactNumber, run, spanning, Contains, candidate, adds, newAnchors, stepsOf, chosen, Candidate}
+use Rattle.mesh.specs.Splits.{liveOf, withLine, soundWith, exactNumber}
+use Rattle.mesh.specs.Lengthening.{run, spanning, Contains, candidate, adds, newAnchors, stepsOf, chosen, Candidate}
 use Rattle.mesh.specs.declared.Split.{Split}
 use Rattle.mesh.specs.declared.Blend.{Blend}
 

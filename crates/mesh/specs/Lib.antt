@@ -4,6 +4,7 @@ pub mod Order
 pub mod Sound
 pub mod Weight
 pub mod Splits
+pub mod Lengthening
 pub mod Crossings
 pub mod Ends
 pub mod Replay

@@ -9,7 +9,8 @@ use lib.ListN.{length}
 use Rattle.axis.specs.Limits.{mostSplits}
 use Rattle.mesh.specs.Lines.{allowedSide, Layout, layout, splitsOf, layoutOf}
 use Rattle.mesh.specs.Sound.{table}
-use Rattle.mesh.specs.Splits.{accepted, liveOf, withLine, given, exactNumber, chosen}
+use Rattle.mesh.specs.Splits.{accepted, liveOf, withLine, given, exactNumber}
+use Rattle.mesh.specs.Lengthening.{chosen}
 use Rattle.mesh.specs.declared.Split.{Split}
 use Rattle.mesh.specs.declared.Lines.{Lines}
 use Rattle.mesh.specs.declared.Table.{Table}

@@ -1,15 +1,13 @@
--- Document 01, "Values, readings, splits" and "When a call says no", on lines alone: which splits are refused, and which line a lengthened one takes.
-use Prim.Native.Nat.{ℕ, _+_, _-_, _≤_}
-use mathlib.Core.Path.{_≡_}
-use mathlib.Core.Logic.{_↔_}
+-- Document 01, "When a call says no", on lines alone: which splits are refused.
+use Prim.Native.Nat.{ℕ}
 use mathlib.Core.Bool.{Bool, true, cond, _&&_, not}
-use mathlib.Core.List.{List, [], _∷_, _++_, List·Memᴰ}
+use mathlib.Core.List.{List, [], _∷_, _++_}
 use lib.Dec.{leb, eqb}
 use lib.ListN.{length}
 use Rattle.axis.specs.Limits.{mostSplits}
-use Rattle.axis.specs.Range.{each, any, only, least}
-use Rattle.mesh.specs.Lines.{Layout, meshOf, side, other, direction, inRange, shares, ended}
-use Rattle.mesh.specs.Blends.{isCut, known, live}
+use Rattle.axis.specs.Range.{any}
+use Rattle.mesh.specs.Lines.{Layout, meshOf, inRange, shares, ended}
+use Rattle.mesh.specs.Blends.{isCut, live}
 use Rattle.mesh.specs.Sound.{sound}
 use Rattle.mesh.specs.declared.Split.{Split}
 use Rattle.mesh.specs.declared.Blend.{Blend}
@@ -46,58 +44,3 @@ exactNumber P s =
 unfoldable pub accepted : Layout → List Split → Bool
 accepted P [] = true
 accepted P (s ∷ rest) = let more = accepted (withLine P s) rest in eqb (exactNumber P s) 0 && more
-
--- the side that the split runs along
-abbrev pub run : Layout → Split → ℕ
-run P s = side (other (direction (s .direction))) (P .w) (P .h)
-
--- the line at the split's position between two other ends
-abbrev pub spanning : Split → ℕ → ℕ → Split
-spanning s from to = record { direction = s .direction; position = s .position; from = from; to = to }
-
--- "all lines that contain the given one", "between 0 and the side": they begin at its start or lower, and reach its end and not past the side
-unfoldable pub containing : Layout → Split → List Split
-containing P s = each 0 (s .from + 1) (λ from. each (s .to) (run P s + 1 - s .to) (λ to. spanning s from to ∷ []))
-
--- The same as a statement; `containing-complete`: the list has exactly these lines.
-pub record Contains (P : Layout) (s c : Split) : Type 0 where
-  pub same-way : c .direction ≡ s .direction
-  pub same-place : c .position ≡ s .position
-  pub begins : c .from ≤ s .from
-  pub ends : s .to ≤ c .to
-  pub within : c .to ≤ run P s
-
--- those that "have both ends on crossing lines, overlap nothing at their position by more than a point and leave a sound map"
-unfoldable pub candidate : Layout → Split → Bool
-candidate P c = ended (meshOf P) c && not (shares (meshOf P) c) && soundWith P c
-
--- how many live blends a line adds; no candidate takes one away (`adds-new-anchors`), so nothing is cut off
-abbrev pub adds : Layout → Split → ℕ
-adds P c = length (liveOf (withLine P c)) - length (liveOf P)
-
--- "a point somebody has to go and measure": the live blends with the line whose anchor is none of the present map
-abbrev pub newAnchors : Layout → Split → List Blend
-newAnchors P c = only (λ B. not (known (liveOf P) B)) (liveOf (withLine P c))
-
--- how many unit steps a line has; its ends rise, so nothing is cut off
-abbrev pub stepsOf : Split → ℕ
-stepsOf c = c .to - c .from
-
--- The line that a lengthened split takes, if there is one (document 02, L4): "Of the sound candidates that document 01 lists … the one that adds the
--- fewest live blends, then the shortest, then the one that starts lowest".
-unfoldable pub chosen : Layout → Split → List Split
-chosen P s = least (λ c. c .from) (least stepsOf (least (adds P) (only (candidate P) (containing P s))))
-
--- a line that contains the given one and is a candidate
-abbrev pub Candidate : Layout → Split → Split → Type 0
-Candidate P s c = Contains P s c × (candidate P c ≡ true)
-
--- What `chosen-least` shows of it: the line taken is a candidate; every candidate adds at least as many; of those that add as few none is shorter; of
--- those as short none starts lower. It is one line, and there is none exactly where there is no candidate.
-pub record Least (P : Layout) (s : Split) : Type 0 where
-  pub taken : (c : Split) → List·Memᴰ c (chosen P s) → Candidate P s c
-  pub fewest : (b c : Split) → List·Memᴰ c (chosen P s) → Candidate P s b → adds P c ≤ adds P b
-  pub shortest : (b c : Split) → List·Memᴰ c (chosen P s) → Candidate P s b → adds P b ≡ adds P c → stepsOf c ≤ stepsOf b
-  pub lowest : (b c : Split) → List·Memᴰ c (chosen P s) → Candidate P s b → adds P b ≡ adds P c → stepsOf b ≡ stepsOf c → c .from ≤ b .from
-  pub one : (b : Split) → Candidate P s b → (c : Split) × (chosen P s ≡ c ∷ [])
-  pub none : chosen P s ≡ [] ↔ ((b : Split) → Candidate P s b → ⊥)

@@ -5,7 +5,7 @@ use Prim.Native.Nat.{_+_, _-_, _≤_}
 use mathlib.Core.Path.{_≡_, sym, _∙_}
 use mathlib.Core.Logic.{⊎-elim}
 use Rattle.axis.proofs.Tests.{true-not-false}
-use Rattle.mesh.specs.Splits.{stepsOf}
+use Rattle.mesh.specs.Lengthening.{stepsOf}
 use Rattle.mesh.specs.Carried.{Searches}
 use Rattle.mesh.proofs.Looking.{nearest, Ahead, noted-long, search-sizes, search-rows, search-starts, search-enters, search-passes, search-leaves}
 use Rattle.mesh.proofs.Looking.{search-finds, search-ends}
