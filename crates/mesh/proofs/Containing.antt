@@ -49,27 +49,27 @@ module _ (P : Layout) (s : Split) where
       (λ from c m. rw (List·Memᴰ·eq-of-singleton (each-mem (s .to) (run P s + 1 - s .to) (ends from) c m .3)))
 
   -- the candidates, and those of them that add the fewest and the shortest of these
-  abbrev all-of-them : List Split
-  all-of-them = only (candidate P) (containing P s)
+  abbrev candidates : List Split
+  candidates = only (candidate P) (containing P s)
 
   abbrev few : List Split
-  few = least (adds P) all-of-them
+  few = least (adds P) candidates
 
   abbrev short : List Split
   short = least stepsOf few
 
-  listed : (c : Split) → Candidate P s c → List·Memᴰ c all-of-them
+  listed : (c : Split) → Candidate P s c → List·Memᴰ c candidates
   listed c i = mem-only (candidate P) (containing P s) c (containing-complete c .1 (i .0)) (i .1)
 
-  is-candidate : (c : Split) → List·Memᴰ c all-of-them → Candidate P s c
+  is-candidate : (c : Split) → List·Memᴰ c candidates → Candidate P s c
   is-candidate c m = let o = only-mem (candidate P) (containing P s) c m in (containing-complete c .0 (o .0), o .1)
 
   -- what the line taken is least of
   record Taken (c : Split) : Type 0 where
-    there : List·Memᴰ c all-of-them
+    there : List·Memᴰ c candidates
     among-few : List·Memᴰ c few
     among-short : List·Memᴰ c short
-    fewest : (b : Split) → List·Memᴰ b all-of-them → adds P c ≤ adds P b
+    fewest : (b : Split) → List·Memᴰ b candidates → adds P c ≤ adds P b
     shortest : (b : Split) → List·Memᴰ b few → stepsOf c ≤ stepsOf b
     lowest : (b : Split) → List·Memᴰ b short → c .from ≤ b .from
 
@@ -78,11 +78,11 @@ module _ (P : Layout) (s : Split) where
   taken-says c m =
       let low = least-says (λ (b : Split). b .from) short c m in
       let brief = least-says stepsOf few c (low .0) in
-      let scant = least-says (adds P) all-of-them c (brief .0) in
+      let scant = least-says (adds P) candidates c (brief .0) in
       record { there = scant .0; among-few = brief .0; among-short = low .0; fewest = scant .1; shortest = brief .1; lowest = low .1 }
 
   as-few : (b c : Split) → Taken c → Candidate P s b → adds P b ≡ adds P c → List·Memᴰ b few
-  as-few b c t i e = least-of (adds P) all-of-them b (listed b i) (λ x m. omega (arith, t .fewest x m))
+  as-few b c t i e = least-of (adds P) candidates b (listed b i) (λ x m. omega (arith, t .fewest x m))
 
   as-short : (b c : Split) → Taken c → Candidate P s b → adds P b ≡ adds P c → stepsOf b ≡ stepsOf c → List·Memᴰ b short
   as-short b c t i e f = least-of stepsOf few b (as-few b c t i e) (λ x m. omega (arith, t .shortest x m))
@@ -101,7 +101,7 @@ module _ (P : Layout) (s : Split) where
   chosen-distinct : Distinct (chosen P s)
   unfolding chosen
   chosen-distinct =
-      only-distinct _ short (only-distinct _ few (only-distinct _ all-of-them (only-distinct (candidate P) (containing P s) containing-distinct)))
+      only-distinct _ short (only-distinct _ few (only-distinct _ candidates (only-distinct (candidate P) (containing P s) containing-distinct)))
 
   pub chosen-least : s .from ≤ s .to → Least P s
   unfolding chosen
@@ -120,6 +120,6 @@ module _ (P : Layout) (s : Split) where
     where
       some : (b : Split) → Candidate P s b → (c : Split) × List·Memᴰ c (chosen P s)
       some b i =
-          let x = some-least (adds P) all-of-them b (listed b i) in
+          let x = some-least (adds P) candidates b (listed b i) in
           let y = some-least stepsOf few (x .0) (x .1) in
           some-least (λ (c : Split). c .from) short (y .0) (y .1)

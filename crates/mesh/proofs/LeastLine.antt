@@ -3,14 +3,17 @@ use Prim.Native.Nat.{ℕ, _+_, _<_}
 use native.Mathlib.Omega.{arith}
 use mathlib.Core.Path.{_≡_, refl, sym, ap, subst, _∙_}
 use mathlib.Core.Logic.{_⊎_, inl, inr, ⊎-elim}
+use mathlib.Core.Bool.{not}
 use mathlib.Core.List.{[], _∷_, List·Memᴰ}
 use mathlib.Core.List.List·Memᴰ.{List·Memᴰ·head}
-use lib.ListN.{length}
+use lib.ListN.{length, length-map}
+use Rattle.axis.specs.Range.{only}
 use Rattle.axis.specs.Triple.{Side, lower, upper}
 use Rattle.axis.proofs.Runs.{if-equal}
 use Rattle.mesh.specs.Lines.{direction, Layout}
 use Rattle.mesh.specs.Splits.{liveOf, withLine, given}
-use Rattle.mesh.specs.Lengthening.{spanning, Contains, adds, newAnchors, stepsOf, chosen, Candidate}
+use Rattle.mesh.specs.Lengthening.{spanning, Contains, adds, known, newAnchors, stepsOf, chosen, Candidate}
+use Rattle.mesh.specs.Crossings.{anchor}
 use Rattle.mesh.specs.Ends.{nearestGood, LeastSoundLine}
 use Rattle.mesh.specs.declared.Split.{Split}
 use Rattle.mesh.proofs.Containing.{contains-spanning, chosen-least}
@@ -28,7 +31,9 @@ module _ (P : Layout) (built : Built P) (s : Split) (passes : given P s ≡ 0) w
 
   -- A candidate adds as many live blends as it makes new anchors,
   pub adds-new-anchors : (c : Split) → Candidate P s c → length (liveOf (withLine P c)) ≡ length (liveOf P) + length (newAnchors P c)
-  adds-new-anchors c i = more-blends (P .w) (P .h) (P .splits) (withLine P c .splits) built (candidate-built P built s passes c i) (more-finer P c)
+  adds-new-anchors c i =
+      rw (length-map (only (λ B. not (known (liveOf P) B)) (liveOf (withLine P c))) anchor)
+      (more-blends (P .w) (P .h) (P .splits) (withLine P c .splits) built (candidate-built P built s passes c i) (more-finer P c))
 
   -- and more than one that lies in it and ends before it at some end,
   past-adds : (b : Split) (from to : ℕ) → Candidate P s b → Candidate P s (spanning b from to) → Contains P b (spanning b from to) →

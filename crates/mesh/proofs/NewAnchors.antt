@@ -11,19 +11,16 @@ use Rattle.axis.proofs.Tests.{and-of, any-at, any-of, only-mem, mem-only}
 use Rattle.axis.proofs.Counts.{pass-or-not}
 use Rattle.axis.proofs.Distinct.{only-distinct, keyed-length}
 use Rattle.mesh.specs.Lines.{Mesh}
-use Rattle.mesh.specs.Blends.{anchored, known, live}
+use Rattle.mesh.specs.Blends.{anchored, live}
 use Rattle.mesh.specs.Order.{Coarser}
 use Rattle.mesh.specs.Sound.{sound}
-use Rattle.mesh.specs.Crossings.{Point, point}
+use Rattle.mesh.specs.Crossings.{Point, point, anchor}
+use Rattle.mesh.specs.Lengthening.{known}
 use Rattle.mesh.specs.declared.Blend.{Blend}
 use Rattle.mesh.proofs.Cuts.{proper-rises}
 use Rattle.mesh.proofs.Order.{keeps-anchor, finer-back}
 use Rattle.mesh.proofs.TableOrder.{anchored-at}
 use Rattle.mesh.proofs.SoundMaps.{live-left, live-proper, live-distinct, own-anchors}
-
--- the point that a blend's anchor is
-abbrev anchor : Blend → Point
-anchor B = point (B .across .m) (B .up .m)
 
 module _ (w h : ℕ) (hw : 1 ≤ w) (hh : 1 ≤ h) (M N : Mesh) (finer : Coarser M N) where
   pub anchor-kept : (B : Blend) → List·Memᴰ B (live w h M) →

@@ -74,10 +74,6 @@ once (B ∷ bs) = let rest = once bs in cond (any (same B) bs) rest (B ∷ rest)
 abbrev pub anchored : ℕ → ℕ → Blend → Bool
 anchored m n B = eqb (B .across .m) m && eqb (B .up .m) n
 
--- some of the blends has its anchor where this one has it
-abbrev pub known : List Blend → Blend → Bool
-known bs B = any (anchored (B .across .m) (B .up .m)) bs
-
 -- Knots are 0 to 130, so a square table of 131 by 131 has a place for each pair of them; and the place of a blend is its anchor's.
 abbrev pub at : ℕ → ℕ → ℕ
 at i j = i * 131 + j

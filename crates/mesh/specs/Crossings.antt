@@ -26,12 +26,16 @@ passes M d z k = M d z (k - 1) && M d z k
 abbrev pub crosses : Mesh → ℕ → ℕ → Bool
 crosses M m n = passes M upright m n && passes M level n m
 
--- the crossings of the domain, by m, then n; and the anchors of some blends
+-- the crossings of the domain, by m, then n
 unfoldable pub crossings : ℕ → ℕ → Mesh → List Point
 crossings w h M = each 1 (w + 1) (λ m. each 1 (h + 1) (λ n. cond (crosses M m n) (point m n ∷ []) []))
 
+-- "Its anchor is (m, n)": of a blend, and of each of some blends
+abbrev pub anchor : Blend → Point
+anchor B = point (B .across .m) (B .up .m)
+
 abbrev pub anchors : List Blend → List Point
-anchors bs = map (λ (B : Blend). point (B .across .m) (B .up .m)) bs
+anchors bs = map anchor bs
 
 -- The grid of a blend: its uprights at l, m and r from b to t, and its levels at b, n and t from l to r. Whether the unit step from knot k, of a
 -- line of the direction at knot z, lies on it.

@@ -5,10 +5,11 @@ use mathlib.Core.Logic.{_↔_}
 use mathlib.Core.Bool.{Bool, true, _&&_, not}
 use mathlib.Core.List.{List, [], _∷_, List·Memᴰ}
 use lib.ListN.{length}
-use Rattle.axis.specs.Range.{each, only, least}
+use Rattle.axis.specs.Range.{each, any, only, least}
 use Rattle.mesh.specs.Lines.{Layout, meshOf, side, other, direction, shares, ended}
-use Rattle.mesh.specs.Blends.{known}
+use Rattle.mesh.specs.Blends.{anchored}
 use Rattle.mesh.specs.Splits.{liveOf, withLine, soundWith}
+use Rattle.mesh.specs.Crossings.{Point, anchors}
 use Rattle.mesh.specs.declared.Split.{Split}
 use Rattle.mesh.specs.declared.Blend.{Blend}
 
@@ -40,9 +41,13 @@ candidate P c = ended (meshOf P) c && not (shares (meshOf P) c) && soundWith P c
 abbrev pub adds : Layout → Split → ℕ
 adds P c = length (liveOf (withLine P c)) - length (liveOf P)
 
--- "a point somebody has to go and measure": the live blends with the line whose anchor is none of the present map
-abbrev pub newAnchors : Layout → Split → List Blend
-newAnchors P c = only (λ B. not (known (liveOf P) B)) (liveOf (withLine P c))
+-- some of the blends has its anchor where this one has it
+abbrev pub known : List Blend → Blend → Bool
+known bs B = any (anchored (B .across .m) (B .up .m)) bs
+
+-- "A new anchor is a point somebody has to go and measure": the anchors of the map with the line that are none of the present map
+abbrev pub newAnchors : Layout → Split → List Point
+newAnchors P c = anchors (only (λ B. not (known (liveOf P) B)) (liveOf (withLine P c)))
 
 -- how many unit steps a line has; its ends rise, so nothing is cut off
 abbrev pub stepsOf : Split → ℕ

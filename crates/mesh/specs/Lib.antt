@@ -4,8 +4,8 @@ pub mod Order
 pub mod Sound
 pub mod Weight
 pub mod Splits
-pub mod Lengthening
 pub mod Crossings
+pub mod Lengthening
 pub mod Ends
 pub mod Replay
 pub mod Bytes
