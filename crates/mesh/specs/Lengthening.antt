@@ -37,7 +37,7 @@ pub record Contains (P : Layout) (s c : Split) : Type 0 where
 unfoldable pub candidate : Layout → Split → Bool
 candidate P c = ended (meshOf P) c && not (shares (meshOf P) c) && soundWith P c
 
--- how many live blends a line adds; no candidate takes one away (`adds-new-anchors`), so nothing is cut off
+-- how many live blends a line adds; on a map that accepted splits build, a candidate takes none away (`adds-new-anchors`), so nothing is cut off
 abbrev pub adds : Layout → Split → ℕ
 adds P c = length (liveOf (withLine P c)) - length (liveOf P)
 
