@@ -1,4 +1,4 @@
--- The splits of lines, one exact step after the other; and one split more, as given or lengthened.
+-- The splits of lines, one step after the other; and one split more, as given or lengthened.
 use Prim.Native.Nat.{ℕ, _+_, _*_, _≤_, _<_}
 use native.Mathlib.Omega.{arith}
 use native.Mathlib.Numerals.{add-one}
@@ -11,22 +11,23 @@ use lib.ListN.{length, getD, take, drop, replicate, length-replicate}
 use lib.Seq.{take-suc, length-take-le}
 use Rattle.axis.proofs.Tests.{and-first, and-last, cond-false}
 use Rattle.axis.proofs.Entries.{left-turn, left-none}
-use Rattle.mesh.specs.Lines.{direction, other, side, allowedSide, layout, splitsOf, layoutOf}
+use Rattle.mesh.specs.Lines.{direction, other, side, allowedSide, Layout, layout, splitsOf, layoutOf}
 use Rattle.mesh.specs.Sound.{table}
 use Rattle.mesh.specs.Splits.{given, exactNumber, accepted}
 use Rattle.mesh.specs.Lengthening.{chosen}
 use Rattle.mesh.specs.Ends.{nearestGood}
-use Rattle.mesh.specs.Replay.{replays, replayed, notReplayed, HasTable, refusedStep, drawnStep, exactStep, lengthenedStep}
+use Rattle.mesh.specs.Replay.{replays, Replays, replayed, notReplayed, refusedStep, drawnStep, exactStep, lengthenedStep}
 use Rattle.mesh.specs.Bytes.{Tall, Zeros, walk}
-use Rattle.mesh.specs.Carried.{Carried, Cleared, unlinked, Noted, Searches}
+use Rattle.mesh.specs.Carried.{Carried, Cleared, unlinked, Noted, Searches, verdict}
 use Rattle.mesh.specs.declared.Split.{Split}
 use Rattle.mesh.specs.declared.Lines.{Lines}
 use Rattle.mesh.specs.declared.Table.{Table}
 use Rattle.mesh.specs.declared.Step.{Step}
+use Rattle.mesh.specs.declared.splits.Verdict.{Verdict}
 use Rattle.mesh.proofs.Drawing.{blank}
 use Rattle.mesh.proofs.ChosenLine.{chosen-exact}
 use Rattle.mesh.proofs.LeastLine.{least-sound-line}
-use Rattle.mesh.proofs.Accepted.{lines-replay, replays-stands, replays-sides}
+use Rattle.mesh.proofs.Accepted.{replays-stands, replays-sides}
 use Rattle.mesh.proofs.Stepping.{carried-walk}
 
 -- tables of n zeros are cleared, where n entries are the rows of both sides
@@ -87,20 +88,24 @@ module _ {L : Lines} {i : ℕ} {ups lvs cols rows places : List ℕ} (r : Replay
         r .decides ∙ rw (left-turn (L .splits) (L .count) i (omega arith) blank lt)
 
     -- a split is refused, or one more is taken
-    pub replay-stop : {n : ℕ} → n ≡ exactNumber (layout (L .w) (L .h) (take i (L .splits))) this → (n ≡ 0 → ⊥) → notReplayed ≡ replayed L
-    replay-stop e ne =
-        fails L (and-last (allowedSide (L .w) && allowedSide (L .h) && leb (L .count) 60) _ (turn ∙ and-first _ _ (ne-eqb _ 0 (λ z. ne (e ∙ z)))))
+    module _ {v : Verdict} (is : v ≡ verdict false (layout (L .w) (L .h) (take i (L .splits))) this) where
+      by-number : v .number ≡ exactNumber (layout (L .w) (L .h) (take i (L .splits))) this
+      by-number = ap (λ (u : Verdict). u .number) is
 
-    pub replay-more : {n : ℕ} → n ≡ exactNumber (layout (L .w) (L .h) (take i (L .splits))) this → n ≡ 0 → {ups' lvs' cols' rows' places' : List ℕ} →
-        Carried (L .w) (L .h) (take i (L .splits) ++ this ∷ []) ups' lvs' cols' rows' places' → Replaying L (i + 1) ups' lvs' cols' rows' places'
-    replay-more e z next =
-        record {
-          within = omega arith;
-          few = r .few;
-          room = r .room;
-          carried = rw longer at next;
-          decides = turn ∙ rw (eq-eqb _ 0 (sym e ∙ z), longer);
-        }
+      pub replay-stop : (v .number ≡ 0 → ⊥) → notReplayed ≡ replayed L
+      replay-stop ne =
+          fails L (and-last (allowedSide (L .w) && allowedSide (L .h) && leb (L .count) 60) _ (turn ∙ and-first _ _ (ne-eqb _ 0 (λ z. ne (by-number ∙ z)))))
+
+      pub replay-more : v .number ≡ 0 → {ups' lvs' cols' rows' places' : List ℕ} →
+          Carried (L .w) (L .h) (take i (L .splits) ++ v .line ∷ []) ups' lvs' cols' rows' places' → Replaying L (i + 1) ups' lvs' cols' rows' places'
+      replay-more z next =
+          record {
+            within = omega arith;
+            few = r .few;
+            room = r .room;
+            carried = rw (is, longer) at next;
+            decides = turn ∙ rw (eq-eqb _ 0 (sym by-number ∙ z), longer);
+          }
 
   pub replay-done : L .count ≤ i → record { ok = true; table = table (walk (L .w) (L .h) places) } ≡ replayed L
   unfolding replayed replays accepted
@@ -119,50 +124,60 @@ abbrev pub searches : {w h : ℕ} {ss : List Split} {ups lvs cols rows places lo
 searches {w} {h} {ss} {ups} {lvs} {cols} {rows} {places} now n e along =
     record { w = w; h = h; splits = ss; columns = cols; rows = rows; places = places; carried = now; noted = n; passes = e; along = along }
 
--- One split more, on lines that were replayed:
+-- What a split comes to: refused with 3 to 7; lengthened; or as given.
+module _ (P : Layout) (s : Split) where
+  pub verdict-refused : (lengthen : Bool) {n : ℕ} → n ≡ given P s → (n ≡ 0 → ⊥) → _≡_ {A = Verdict} (record { number = n; line = s }) (verdict lengthen P s)
+  unfolding exactNumber
+  verdict-refused true e ne = rw (← e, ne-eqb _ 0 ne)
+  verdict-refused false e ne = rw (← e, ne-eqb _ 0 ne)
+
+  pub verdict-longer : given P s ≡ 0 → {line : Split} → line ≡ nearestGood P s → _≡_ {A = Verdict} (record { number = 0; line = line }) (verdict true P s)
+  verdict-longer e is = rw (e, is)
+
+  pub verdict-exact : {n : ℕ} → exactNumber P s ≡ n → _≡_ {A = Verdict} (record { number = n; line = s }) (verdict false P s)
+  verdict-exact e = rw e
+
+  module _ (taken : Replays P) where
+    -- a lengthened split that passes takes the line between the nearest good ends, which is accepted as an exact split
+    is-chosen : given P s ≡ 0 → chosen P s ≡ nearestGood P s ∷ []
+    is-chosen e = least-sound-line P (replays-stands taken .built) s e .taken
+
+    accepted-line : (lengthen : Bool) → verdict lengthen P s .number ≡ 0 → exactNumber P (verdict lengthen P s .line) ≡ 0
+    accepted-line true e = let a = replays-sides taken in rw e (chosen-exact P (a .0) (a .2) s (nearestGood P s) [] e (is-chosen e))
+    accepted-line false e = e
+
+    pub verdict-accepted : (lengthen : Bool) {v : Verdict} → v ≡ verdict lengthen P s → v .number ≡ 0 → exactNumber P (v .line) ≡ 0
+    verdict-accepted lengthen is none = rw is (accepted-line lengthen (rw is at none))
+
+-- the notes for the split are those for its line, and for the one between the nearest good ends
+module _ {w h : ℕ} {ss : List Split} {s : Split} {lows highs : List ℕ} (n : Noted w h ss s lows highs) {line : Split} where
+  pub noted-line : line ≡ s → Noted w h ss line lows highs
+  noted-line is = rw is n
+
+  pub noted-nearest : line ≡ nearestGood (layout w h ss) s → Noted w h ss line lows highs
+  unfolding nearestGood
+  noted-nearest is = rw is (record { is-low = n .is-low; is-high = n .is-high })
+
+-- One split more, on lines that were replayed: what a refusal and a drawn line come to.
 module _ (L : Lines) (t : Table) (s : Split) where
-  -- a refusal
-  pub refused-exact : {n : ℕ} → n ≡ exactNumber (layoutOf L) s → (n ≡ 0 → ⊥) → refusedStep t n s ≡ exactStep L t s
-  unfolding exactStep
-  refused-exact e ne = rw (← e, ne-eqb _ 0 ne)
+  pub verdict-told : (lengthen : Bool) {v : Verdict} → v ≡ verdict lengthen (layoutOf L) s → (v .number ≡ 0 → ⊥) →
+      refusedStep t (v .number) s ≡ cond lengthen (lengthenedStep L t s) (exactStep L t s)
+  unfolding exactStep lengthenedStep
+  verdict-told true {v} is ne = let e : v .number ≡ given (layoutOf L) s = ap (λ (u : Verdict). u .number) is in rw (← e, ne-eqb _ 0 ne)
+  verdict-told false {v} is ne = let e : v .number ≡ exactNumber (layoutOf L) s = ap (λ (u : Verdict). u .number) is in rw (← e, ne-eqb _ 0 ne)
 
-  pub refused-given : {n : ℕ} → n ≡ given (layoutOf L) s → (n ≡ 0 → ⊥) → refusedStep t n s ≡ lengthenedStep L t s
-  unfolding lengthenedStep
-  refused-given e ne = rw (← e, ne-eqb _ 0 ne)
-
-  -- a line drawn
-  pub drawn-exact : exactNumber (layoutOf L) s ≡ 0 → drawnStep L s ≡ exactStep L t s
-  unfolding exactStep
-  drawn-exact e = rw e
-
-  pub drawn-line : {ups lvs cols rows places : List ℕ} {new : Table} → Carried (L .w) (L .h) (splitsOf L ++ s ∷ []) ups lvs cols rows places →
-      new ≡ table (walk (L .w) (L .h) places) → _≡_ {A = Step} (record { number = 0; split = s; table = new }) (drawnStep L s)
-  drawn-line now e = ap (λ (x : Table). record { number = 0; split = s; table = x }) (e ∙ ap table (carried-walk now))
-
-  module _ (places : length (L .splits) ≡ 60) (hand : HasTable L t) (e : given (layoutOf L) s ≡ 0) where
-    is-chosen : chosen (layoutOf L) s ≡ nearestGood (layoutOf L) s ∷ []
-    is-chosen = least-sound-line (layoutOf L) (replays-stands (lines-replay L places (hand .accepted?)) .built) s e .taken
-
-    pub nearest-accepted : exactNumber (layoutOf L) (nearestGood (layoutOf L) s) ≡ 0
-    nearest-accepted =
-        let a = replays-sides (lines-replay L places (hand .accepted?)) in
-        chosen-exact (layoutOf L) (a .0) (a .2) s (nearestGood (layoutOf L) s) [] e is-chosen
-
-    pub drawn-nearest : drawnStep L (nearestGood (layoutOf L) s) ≡ lengthenedStep L t s
-    unfolding lengthenedStep
-    drawn-nearest = rw (e, is-chosen)
-
--- the line that is drawn: as given, or the one between the nearest good ends
-pub data Line (L : Lines) (s : Split) (lengthen : Bool) (line : Split) : Type 0 where
-  found : lengthen ≡ true → given (layoutOf L) s ≡ 0 → line ≡ nearestGood (layoutOf L) s → Line L s lengthen line
-  as-given : lengthen ≡ false → line ≡ s → Line L s lengthen line
-
-module _ (L : Lines) (t : Table) (s : Split) (places : length (L .splits) ≡ 60) (hand : HasTable L t) {lengthen : Bool} {line : Split} where
-  pub line-refused : Line L s lengthen line → {n : ℕ} → n ≡ exactNumber (layoutOf L) line → (n ≡ 0 → ⊥) →
-      refusedStep t n s ≡ cond lengthen (lengthenedStep L t s) (exactStep L t s)
-  line-refused (found on e is) told ne = absurd (ne (told ∙ ap (exactNumber (layoutOf L)) is ∙ nearest-accepted L t s places hand e))
-  line-refused (as-given off is) told ne = rw off (refused-exact L t s (told ∙ ap (exactNumber (layoutOf L)) is) ne)
-
-  pub line-drawn : Line L s lengthen line → exactNumber (layoutOf L) line ≡ 0 → drawnStep L line ≡ cond lengthen (lengthenedStep L t s) (exactStep L t s)
-  line-drawn (found on e is) z = rw on (ap (drawnStep L) is ∙ drawn-nearest L t s places hand e)
-  line-drawn (as-given off is) z = rw off (ap (drawnStep L) is ∙ drawn-exact L t s (sym (ap (exactNumber (layoutOf L)) is) ∙ z))
+  pub verdict-drawn : Replays (layoutOf L) → (lengthen : Bool) {v : Verdict} → v ≡ verdict lengthen (layoutOf L) s → v .number ≡ 0 →
+      {ups lvs cols rows places : List ℕ} {new : Table} → Carried (L .w) (L .h) (splitsOf L ++ v .line ∷ []) ups lvs cols rows places →
+      new ≡ table (walk (L .w) (L .h) places) →
+      _≡_ {A = Step} (record { number = 0; split = v .line; table = new }) (cond lengthen (lengthenedStep L t s) (exactStep L t s))
+  unfolding exactStep lengthenedStep
+  verdict-drawn taken lengthen {v} is none now e =
+      ap (λ (x : Table). record { number = 0; split = v .line; table = x }) (e ∙ ap table (carried-walk now)) ∙ by lengthen is
+    where
+      by : (lengthen : Bool) → v ≡ verdict lengthen (layoutOf L) s → drawnStep L (v .line) ≡ cond lengthen (lengthenedStep L t s) (exactStep L t s)
+      by true is =
+          let passes : given (layoutOf L) s ≡ 0 = sym (ap (λ (u : Verdict). u .number) is) ∙ none in
+          rw (is, passes, is-chosen (layoutOf L) s taken passes)
+      by false is =
+          let ok : exactNumber (layoutOf L) s ≡ 0 = sym (ap (λ (u : Verdict). u .number) is) ∙ none in
+          rw (is, ok)

@@ -33,11 +33,6 @@ use Rattle.mesh.proofs.TwoLooks.{two-looks}
 use Rattle.mesh.proofs.Looking.{looks-sound}
 use Rattle.mesh.proofs.Reaching.{reach-uncut, reach-some}
 
--- a refusal of 3 to 7 is that of the exact split
-pub refused-first : (P : Layout) (s : Split) {n : ℕ} → n ≡ given P s → (n ≡ 0 → ⊥) → n ≡ exactNumber P s
-unfolding exactNumber
-refused-first P s e ne = rw (← e, ne-eqb _ 0 ne)
-
 module _ {w h : ℕ} {ss : List Split} {ups lvs cols rows places : List ℕ} (now : Carried w h ss ups lvs cols rows places) where
   abbrev lives : List Blend
   lives = live w h (mesh w h ss)

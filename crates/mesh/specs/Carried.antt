@@ -2,21 +2,22 @@
 -- to itself cite this file.
 use Prim.Native.Nat.{ℕ, zero, suc, _+_, _-_, _*_, _/_, _%_, _<_, _≤_}
 use mathlib.Core.Path.{_≡_}
-use mathlib.Core.Bool.{Bool, false, cond, _&&_, _||_, not}
+use mathlib.Core.Bool.{Bool, true, false, cond, _&&_, _||_, not}
 use mathlib.Core.List.{List, [], _∷_, _++_}
 use lib.Dec.{ltb, leb, eqb}
 use lib.ListN.{length, getD, set, replicate}
 use Rattle.axis.specs.Limits.{largestSide}
 use Rattle.axis.specs.Range.{each, only}
 use Rattle.axis.specs.Triple.{Side, lower, upper, knotIn}
-use Rattle.mesh.specs.Lines.{Direction, upright, level, direction, other, side, Mesh, mesh, layout}
+use Rattle.mesh.specs.Lines.{Direction, upright, level, direction, other, side, Mesh, mesh, Layout, layout}
 use Rattle.mesh.specs.Blends.{crossed, along, anchored, at, live}
-use Rattle.mesh.specs.Splits.{given}
+use Rattle.mesh.specs.Splits.{given, exactNumber}
 use Rattle.mesh.specs.Replay.{Replays}
-use Rattle.mesh.specs.Ends.{back}
+use Rattle.mesh.specs.Ends.{back, nearestGood}
 use Rattle.mesh.specs.Bytes.{Rows, Tall, Zeros, bytesMesh, packed, unpacked, kept}
 use Rattle.mesh.specs.declared.Split.{Split}
 use Rattle.mesh.specs.declared.Blend.{Blend}
+use Rattle.mesh.specs.declared.splits.Verdict.{Verdict}
 
 -- Links over knots: from each to a later one, past knots that are free.
 pub record Leads (free : ℕ → Type 0) (links : List ℕ) : Type 0 where
@@ -151,3 +152,8 @@ pub record Searches (uprights levels lows highs : List ℕ) (run : ℕ) (s : Spl
   pub noted : Noted w h splits s lows highs
   pub passes : given (layout w h splits) s ≡ 0
   pub along : run ≡ side (other (direction (s .direction))) w h
+
+-- What a split comes to: its number, and the line that is drawn, as given or between the nearest good ends; on a refusal the split as it came.
+abbrev pub verdict : Bool → Layout → Split → Verdict
+verdict false P s = record { number = exactNumber P s; line = s }
+verdict true P s = record { number = given P s; line = cond (eqb (given P s) 0) (nearestGood P s) s }

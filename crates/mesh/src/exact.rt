@@ -1,4 +1,4 @@
-// One exact split on what is carried. Nothing is drawn to be tried: 7 and 8 are told by the blends over the line's position.
+// What a split meets on what is carried, and the drawing of its line. Nothing is drawn to be tried: 7 and 8 are told by the blends over the line's position.
 use crate::Lines;
 use crate::Split;
 use crate::carried::add_line;
@@ -228,7 +228,7 @@ pub(crate) fn good_ends(
 }
 
 // Draws a split that is accepted, and cuts with it.
-fn draw(
+pub(crate) fn draw(
     w: usize,
     h: usize,
     s: Split,
@@ -252,61 +252,4 @@ fn draw(
     let to = runs_to(uprights, levels, run_of(w, h, number), s);
     add_line(s, w, h, uprights, levels, columns, rows);
     cut_reached(uprights, levels, lows, highs, number, from, to, places);
-}
-
-// Takes an exact split: its number, 3 to 8 in their order. Accepted, it is drawn and cut with; refused, it leaves all as it was.
-pub(crate) fn step(
-    w: usize,
-    h: usize,
-    count: usize,
-    s: Split,
-    uprights: &mut [u8],
-    levels: &mut [u8],
-    columns: &mut [u8],
-    rows: &mut [u8],
-    places: &mut [u32],
-) -> usize
-    requires { ⌜ Carries w h count (now uprights) (now levels) (now columns) (now rows) (now places) ⌝ }
-    ensures { λ r. ⌜ ((ss : List Split) → count ≡ length ss →
-        Carried w h ss (now (uprights .entry)) (now (levels .entry)) (now (columns .entry)) (now (rows .entry)) (now (places .entry)) →
-        (r ≡ exactNumber (layout w h ss) s) ×
-        (r ≡ 0 → Carried w h (ss ++ s ∷ []) (now (uprights .exit)) (now (levels .exit)) (now (columns .exit)) (now (rows .exit)) (now (places .exit)))) ×
-        ((r ≡ 0 → ⊥) → (now (uprights .exit) ≡ now (uprights .entry)) × (now (levels .exit) ≡ now (levels .entry)) ×
-        (now (columns .exit) ≡ now (columns .entry)) × (now (rows .exit) ≡ now (rows .entry)) × (now (places .exit) ≡ now (places .entry))) ⌝ }
-{
-    let mut lows = [0usize; 131];
-    let mut highs = [0usize; 131];
-    let number = look(
-        w,
-        h,
-        count,
-        s,
-        uprights,
-        levels,
-        columns,
-        rows,
-        places,
-        &mut lows,
-        &mut highs,
-    );
-    if number != 0 {
-        return number;
-    }
-    let run = run_of(w, h, s.direction);
-    if !good_ends(uprights, levels, &lows, &highs, run, s) {
-        return 8;
-    }
-    draw(
-        w,
-        h,
-        s,
-        uprights,
-        levels,
-        columns,
-        rows,
-        places,
-        &lows,
-        &highs,
-    );
-    0
 }

@@ -2,8 +2,8 @@
 use crate::Found;
 use crate::Lines;
 use crate::carried::load_fresh;
-use crate::exact::step;
 use crate::read::read_out;
+use crate::splits::step;
 use crate::steps::allowed_side;
 use crate::tables::refusal;
 ghost use mathlib.Core.Path.{_≡_};
@@ -34,7 +34,8 @@ fn replay_in(
     let mut i = 0;
     while i < count {
         let s = lines.splits[i];
-        let number = step(w, h, i, s, uprights, levels, columns, rows, places);
+        let found = step(w, h, i, s, false, uprights, levels, columns, rows, places);
+        let number = found.number;
         if number != 0 {
             return refusal();
         }

@@ -1,20 +1,22 @@
-// A split on lines that were replayed, whose table is in hand.
+// A split, as given or lengthened: one step on what is carried; and on lines that were replayed, whose table is in hand.
 use crate::Lines;
 use crate::Split;
 use crate::Step;
 use crate::Table;
 use crate::carried::load;
+use crate::exact::draw;
 use crate::exact::good_ends;
 use crate::exact::look;
 use crate::exact::run_of;
-use crate::exact::step;
 use crate::read::read_out;
 ghost use mathlib.Core.Path.{_≡_};
 ghost use mathlib.Core.Bool.{cond};
+ghost use mathlib.Core.List.{List, [], _∷_, _++_};
+ghost use lib.ListN.{length};
 ghost use Rattle.mesh.specs.Lines.{layout};
 ghost use Rattle.mesh.specs.Ends.{nearestGood};
 ghost use Rattle.mesh.specs.Replay.{HasTable, exactStep, lengthenedStep};
-ghost use Rattle.mesh.specs.Carried.{Searches, Cleared};
+ghost use Rattle.mesh.specs.Carried.{Carried, Carries, Cleared, Noted, Searches, blank, verdict};
 
 // What a refused split gives: the split and the table as they came.
 fn refused(number: usize, s: Split, table: Table) -> Step
@@ -69,7 +71,125 @@ fn longer_line(
     found
 }
 
-// Takes a split as given, or lengthened, in cleared tables: one step, with the line found.
+// What a split comes to: its number, and the line that it draws; on a refusal the split as it came.
+pub(crate) struct Verdict {
+    pub number: usize,
+    pub line: Split,
+}
+
+fn told(number: usize, line: Split) -> Verdict
+    ensures { λ r. ⌜ r ≡ record { number = number; line = line } ⌝ }
+{
+    Verdict {
+        number: number,
+        line: line,
+    }
+}
+
+// The number of a split, 3 to 8 in their order, and the line that it draws, as given or lengthened, with the notes for its position.
+fn find(
+    w: usize,
+    h: usize,
+    count: usize,
+    s: Split,
+    lengthen: bool,
+    uprights: &[u8],
+    levels: &[u8],
+    columns: &[u8],
+    rows: &[u8],
+    places: &[u32],
+    lows: &mut [usize],
+    highs: &mut [usize],
+) -> Verdict
+    requires { ⌜ Carries w h count (now uprights) (now levels) (now columns) (now rows) (now places) × (now lows ≡ blank) × (now highs ≡ blank) ⌝ }
+    ensures { λ r. ⌜ ((ss : List Split) → count ≡ length ss →
+        Carried w h ss (now (uprights .entry)) (now (levels .entry)) (now (columns .entry)) (now (rows .entry)) (now (places .entry)) →
+        (r ≡ verdict lengthen (layout w h ss) s) × (r .number ≡ 0 → Noted w h ss (r .line) (now (lows .exit)) (now (highs .exit)))) ⌝ }
+{
+    let number = look(
+        w,
+        h,
+        count,
+        s,
+        uprights,
+        levels,
+        columns,
+        rows,
+        places,
+        lows,
+        highs,
+    );
+    if number != 0 {
+        return told(number, s);
+    }
+    let run = run_of(w, h, s.direction);
+    if lengthen {
+        return told(0, longer_line(uprights, levels, lows, highs, run, s));
+    }
+    if !good_ends(uprights, levels, lows, highs, run, s) {
+        return told(8, s);
+    }
+    told(0, s)
+}
+
+// Takes a split. Accepted, its line is drawn and cut with; refused, it leaves all as it was.
+pub(crate) fn step(
+    w: usize,
+    h: usize,
+    count: usize,
+    s: Split,
+    lengthen: bool,
+    uprights: &mut [u8],
+    levels: &mut [u8],
+    columns: &mut [u8],
+    rows: &mut [u8],
+    places: &mut [u32],
+) -> Verdict
+    requires { ⌜ Carries w h count (now uprights) (now levels) (now columns) (now rows) (now places) ⌝ }
+    ensures { λ r. ⌜ ((ss : List Split) → count ≡ length ss →
+        Carried w h ss (now (uprights .entry)) (now (levels .entry)) (now (columns .entry)) (now (rows .entry)) (now (places .entry)) →
+        (r ≡ verdict lengthen (layout w h ss) s) ×
+        (r .number ≡ 0 → Carried w h (ss ++ r .line ∷ []) (now (uprights .exit)) (now (levels .exit)) (now (columns .exit)) (now (rows .exit))
+        (now (places .exit)))) × ((r .number ≡ 0 → ⊥) → (now (uprights .exit) ≡ now (uprights .entry)) × (now (levels .exit) ≡ now (levels .entry)) ×
+        (now (columns .exit) ≡ now (columns .entry)) × (now (rows .exit) ≡ now (rows .entry)) × (now (places .exit) ≡ now (places .entry))) ⌝ }
+{
+    let mut lows = [0usize; 131];
+    let mut highs = [0usize; 131];
+    let found = find(
+        w,
+        h,
+        count,
+        s,
+        lengthen,
+        uprights,
+        levels,
+        columns,
+        rows,
+        places,
+        &mut lows,
+        &mut highs,
+    );
+    let why = found.number;
+    if why != 0 {
+        return found;
+    }
+    let line = found.line;
+    draw(
+        w,
+        h,
+        line,
+        uprights,
+        levels,
+        columns,
+        rows,
+        places,
+        &lows,
+        &highs,
+    );
+    found
+}
+
+// In cleared tables: one step.
 fn split_in(
     lines: Lines,
     table: Table,
@@ -88,33 +208,23 @@ fn split_in(
     let h = lines.h;
     let count = lines.count;
     load(lines, table, uprights, levels, columns, rows, places);
-    let mut line = s;
-    if lengthen {
-        let mut lows = [0usize; 131];
-        let mut highs = [0usize; 131];
-        let number = look(
-            w,
-            h,
-            count,
-            s,
-            uprights,
-            levels,
-            columns,
-            rows,
-            places,
-            &mut lows,
-            &mut highs,
-        );
-        if number != 0 {
-            return refused(number, s, table);
-        }
-        let run = run_of(w, h, s.direction);
-        line = longer_line(uprights, levels, &lows, &highs, run, s);
-    }
-    let number = step(w, h, count, line, uprights, levels, columns, rows, places);
+    let found = step(
+        w,
+        h,
+        count,
+        s,
+        lengthen,
+        uprights,
+        levels,
+        columns,
+        rows,
+        places,
+    );
+    let number = found.number;
     if number != 0 {
         return refused(number, s, table);
     }
+    let line = found.line;
     let after = read_out(places, columns, rows, w, h);
     Step {
         number: 0,

@@ -34,9 +34,16 @@ step-requires c κs = let r = c .before .before .before .before .before .before 
 abbrev turn : tie.After-step Inv-loop μ-loop → tie.In-loop Inv-loop μ-loop
 turn c = c .before .before .before .before .before .before .before
 
+-- and from a refusal to its step
+abbrev refused-by : tie.After-refusal Inv-loop μ-loop → tie.After-step Inv-loop μ-loop
+refused-by c = c .before .before .before .before .before .before .before .before .before .before .before .before
+
+abbrev loaded : tie.At-loop Inv-loop μ-loop → tie.After-load-fresh Inv-loop μ-loop
+loaded c = c .before .before .before .before .before .before .before .before .before .before .before
+
 returns : tie.Need-returns Inv-loop μ-loop
 returns c =
-    let k = c .before .before .before .before .before .before .before .before .before .before .before .before in
+    let k = refused-by c in
     let r = turn k .before .loop .inv .0 in
     c .refusal .ensures ∙ replay-stop r (turn k .loop-test .taken) (k .step .ensures .0 _ (replay-long r) (r .carried) .0) (c .before .if1 .taken)
 
@@ -50,7 +57,7 @@ loop-again c =
     let k = c .before .before .before .before .before .before .before .before .before .before .before in
     let inv = turn k .before .loop .inv in
     let told = k .step .ensures .0 _ (replay-long (inv .0)) (inv .0 .carried) in
-    let long = k .step .kept .1 .1 .1 .1 in (
+    let long = k .step .kept .1 .1 .1 .1 .1 in (
       replay-more (inv .0) (turn k .loop-test .taken) (told .0) (c .if1 .left) (told .1 (c .if1 .left)),
       long .0 ∙ inv .1,
       long .1 .0 ∙ inv .2,
@@ -78,9 +85,9 @@ replay-in-spec =
     (λ c. let r = c .before .loop .inv .0 in omega (arith, c .loop-test .taken, r .few, r .room))
     step-requires
     (λ c κs. search needs)
-    (λ c. search needs)
-    (λ c. search needs)
-    (λ c. search needs)
+    (λ c. let k = refused-by c in let at = turn k .before in k .step .kept .1 .1 .1 .1 .1 .0 ∙ at .loop .inv .1 ∙ loaded at .load-fresh .kept .1 .1 .0)
+    (λ c. let k = refused-by c in let at = turn k .before in k .step .kept .1 .1 .1 .1 .1 .1 .0 ∙ at .loop .inv .2 ∙ loaded at .load-fresh .kept .1 .1 .1 .0)
+    (λ c. let k = refused-by c in let at = turn k .before in k .step .kept .1 .1 .1 .1 .1 .1 .1 .0 ∙ at .loop .inv .3 ∙ loaded at .load-fresh .kept .1 .1 .1 .1 .0)
     (λ c. search needs)
     (λ c. search needs)
     returns
