@@ -5,12 +5,12 @@ use mathlib.Core.Path.{_≡_, refl, sym, ap, _∙_}
 use mathlib.Core.Logic.{_⊎_, inl, inr, ⊎-elim}
 use mathlib.Core.Bool.{Bool, true, cond, _&&_, _||_}
 use mathlib.Core.List.{List, [], _∷_, _++_, List·Memᴰ}
-use borrow.Author.Tests.{leb-true, ne-eqb}
+use borrow.Author.Tests.{leb-true}
 use lib.Dec.{leb}
 use lib.ListN.{length, getD}
 use Rattle.axis.specs.Range.{any, some}
 use Rattle.axis.specs.Triple.{lower, upper, inside}
-use Rattle.mesh.specs.Lines.{Direction, upright, level, direction, other, side, Mesh, start, end, draws, inRange, mesh, Layout, layout}
+use Rattle.mesh.specs.Lines.{Direction, upright, level, direction, other, side, Mesh, start, end, draws, inRange, mesh, layout}
 use Rattle.mesh.specs.Blends.{along, crossed, isCut, live, leavesOf}
 use Rattle.mesh.specs.Order.{Uncut}
 use Rattle.mesh.specs.Sound.{sound, AllProper}

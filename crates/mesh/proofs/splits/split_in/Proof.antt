@@ -2,8 +2,7 @@
 use borrow.Author.Needs.{needs}
 use mathlib.Core.Path.{_≡_, sym, _∙_}
 use lib.ListN.{length}
-use Rattle.mesh.specs.Lines.{splitsOf, layoutOf}
-use Rattle.mesh.specs.Replay.{Replays}
+use Rattle.mesh.specs.Lines.{splitsOf}
 use Rattle.mesh.proofs.BlendTables.{lines-full}
 use Rattle.mesh.proofs.Accepted.{counted-lines, lines-replay}
 use Rattle.mesh.proofs.Stepping.{carried-walks, carried-short}
