@@ -131,11 +131,13 @@ module _ (P : Layout) (s : Split) where
   verdict-refused true e ne = rw (← e, ne-eqb _ 0 ne)
   verdict-refused false e ne = rw (← e, ne-eqb _ 0 ne)
 
-  pub verdict-longer : given P s ≡ 0 → {line : Split} → line ≡ nearestGood P s → _≡_ {A = Verdict} (record { number = 0; line = line }) (verdict true P s)
-  verdict-longer e is = rw (e, is)
+  pub verdict-longer : {lengthen : Bool} → lengthen ≡ true → given P s ≡ 0 → {line : Split} → line ≡ nearestGood P s →
+      _≡_ {A = Verdict} (record { number = 0; line = line }) (verdict lengthen P s)
+  verdict-longer on e is = rw (on, e, is)
 
-  pub verdict-exact : {n : ℕ} → exactNumber P s ≡ n → _≡_ {A = Verdict} (record { number = n; line = s }) (verdict false P s)
-  verdict-exact e = rw e
+  pub verdict-exact : {lengthen : Bool} → lengthen ≡ false → {n : ℕ} → exactNumber P s ≡ n →
+      _≡_ {A = Verdict} (record { number = n; line = s }) (verdict lengthen P s)
+  verdict-exact off e = rw (off, e)
 
   module _ (taken : Replays P) where
     -- a lengthened split that passes takes the line between the nearest good ends, which is accepted as an exact split

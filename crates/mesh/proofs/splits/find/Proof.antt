@@ -1,4 +1,5 @@
 -- `mesh::splits::find` meets its contract: 3 to 7; then the search for a longer line, or 8 by the ends.
+use Prim.Native.Nat.{ℕ}
 use native.Mathlib.Omega.{arith}
 use borrow.Author.Needs.{needs}
 use borrow.Author.Tests.{not-true, not-false}
@@ -7,8 +8,7 @@ use mathlib.Core.Bool.{cond}
 use mathlib.Core.List.{List}
 use lib.ListN.{length}
 use Rattle.mesh.specs.Lines.{Layout, layout}
-use Rattle.mesh.specs.Splits.{exactNumber}
-use Rattle.mesh.specs.Carried.{Carried}
+use Rattle.mesh.specs.Carried.{Carried, verdict}
 use Rattle.mesh.specs.declared.Split.{Split}
 use Rattle.mesh.specs.declared.splits.Verdict.{Verdict}
 use Rattle.mesh.proofs.Ranges.{in-range-small}
@@ -67,7 +67,7 @@ returns-2 c =
     let told = k .look .ensures ss e now in
     let passes = sym (told .0) ∙ none in
     let is = f .longer-line .ensures (searches now (told .1 none) passes (r .run-of .ensures)) in (
-      rw (t .if2 .taken) (c .told2 .ensures ∙ verdict-longer (On (start k) ss) (start k .args .s) passes is),
+      c .told2 .ensures ∙ verdict-longer (On (start k) ss) (start k .args .s) (t .if2 .taken) passes is,
       λ z. noted-nearest (told .1 none) (ap (λ (v : Verdict). v .line) (c .told2 .ensures) ∙ is),
     )
 
@@ -85,34 +85,32 @@ good-ends-requires c κs =
     let rows = carried-rows (pre .2) (s .args .s) (g .fits) in
     (rows .0, rows .1, lows-long (pre .2) (s .args .s) n, highs-long (pre .2) (s .args .s) n, r .position, omega (arith, r .rises, r .to), r .to)
 
--- behind the first five, the ends decide
-decided : (c : tie.After-good-ends) (ss : List Split) → let s = start (looked (behind c)) in s .args .count ≡ length ss → Now s ss →
-    exactNumber (On s ss) (s .args .s) ≡ cond (c .good-ends .result) 0 8
-decided c ss e now =
+-- behind the first five, a split that is not lengthened is decided by its ends
+as-given : (c : tie.After-good-ends) {n : ℕ} → cond (c .good-ends .result) 0 8 ≡ n → (ss : List Split) → let s = start (looked (behind c)) in
+    let a = s .args in
+    a .count ≡ length ss → Now s ss → _≡_ {A = Verdict} (record { number = n; line = a .s }) (verdict (a .lengthen) (On s ss) (a .s))
+as-given c q ss e now =
     let b = behind c in
+    let s = start (looked b) in
     let told = looked b .look .ensures ss e now in
+    let none = b .if1 .left in
     let run = c .before .before .before .before .run-of .ensures in
-    judged now (start (looked b) .args .s) (told .1 (b .if1 .left)) (sym (told .0) ∙ b .if1 .left) run (c .good-ends .ensures)
+    verdict-exact (On s ss) (s .args .s) (c .before .before .before .if2 .left)
+    (judged now (s .args .s) (told .1 none) (sym (told .0) ∙ none) run (c .good-ends .ensures) ∙ q)
 
 returns-3 : tie.Need-returns-3
 returns-3 c =
-    let t = c .before in
-    let g = t .before in
-    let s = start (looked (behind g)) in
+    let g = c .before .before in
     λ ss e now. (
-      rw (g .before .before .before .if2 .left)
-          (c .told3 .ensures ∙ verdict-exact (On s ss) (s .args .s) (decided g ss e now ∙ rw (not-true (g .good-ends .result) (t .if3 .taken)))),
+      c .told3 .ensures ∙ as-given g (rw (not-true (g .good-ends .result) (c .before .if3 .taken))) ss e now,
       λ z. absurd (omega (arith, ap (λ (v : Verdict). v .number) (c .told3 .ensures))),
     )
 
 returns-4 : tie.Need-returns-4
 returns-4 c =
-    let t = c .before in
-    let g = t .before in
-    let s = start (looked (behind g)) in
+    let g = c .before .before in
     λ ss e now. (
-      rw (g .before .before .before .if2 .left)
-          (c .told4 .ensures ∙ verdict-exact (On s ss) (s .args .s) (decided g ss e now ∙ rw (not-false (g .good-ends .result) (t .if3 .left)))),
+      c .told4 .ensures ∙ as-given g (rw (not-false (g .good-ends .result) (c .before .if3 .left))) ss e now,
       λ z. noted-line (looked (behind g) .look .ensures ss e now .1 (behind g .if1 .left)) (ap (λ (v : Verdict). v .line) (c .told4 .ensures)),
     )
 
