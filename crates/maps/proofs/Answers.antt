@@ -32,13 +32,13 @@ module _ (P : Plain) (holds : Holds P) where
   -- a table place: that of a blend, and one past them
   module _ (i : ℕ) where
     place-answers : tablePlace (recordOf P) i ≡ cond (ltb i (length (blends P)))
-        (record { number = 0; blend = shape (getD (blends P) i none); value = getD (P .values) i 0 })
-        (record { number = 9; blend = noShape; value = 0 })
+        (record { number = 0; blend = shape (getD (blends P) i none); value = getD (P .values) i 0; mark = getD (P .marks) i 0 })
+        (record { number = 9; blend = noShape; value = 0; mark = 0 })
     unfolding tablePlace
     place-answers = rw (record-good holds .0, record-good holds .1)
 
     pub place-listed : i < length (blends P) →
-        tablePlace (recordOf P) i ≡ record { number = 0; blend = shape (getD (blends P) i none); value = getD (P .values) i 0 }
+        tablePlace (recordOf P) i ≡ record { number = 0; blend = shape (getD (blends P) i none); value = getD (P .values) i 0; mark = getD (P .marks) i 0 }
     place-listed lt = place-answers ∙ cond-true _ _ _ (lt-ltb _ _ lt)
 
     pub place-none : length (blends P) ≤ i → tablePlace (recordOf P) i .number ≡ 9

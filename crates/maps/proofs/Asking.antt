@@ -22,7 +22,7 @@ use Rattle.maps.specs.Pairs.{noPairs, countedPairs, pairsAlong, rowPairs
 use Rattle.maps.specs.Inner.{AtPoint, alongPairs}
 use Rattle.maps.proofs.OldTable.{old-point}
 use Rattle.maps.proofs.Walking.{in-walk}
-use Rattle.maps.proofs.Changing.{GoodMap, in-table, passed, live-blends, live-count, live-values, live-blend, live-value}
+use Rattle.maps.proofs.Changing.{GoodMap, in-table, passed, live-blends, live-count, live-values, live-blend, live-value, live-mark}
 
 module _ {m : Map} {t : Table} (g : GoodMap m t) where
   -- a table place,
@@ -35,9 +35,9 @@ module _ {m : Map} {t : Table} (g : GoodMap m t) where
       within : i < length (blends (plain m))
       within = omega (arith, live-count g)
 
-      pub place-some : record { number = 0; blend = shape (getD (t .blends) i none); value = getD (m .values) i 0 } ≡ tablePlace m i
+      pub place-some : record { number = 0; blend = shape (getD (t .blends) i none); value = getD (m .values) i 0; mark = getD (m .marks) i 0 } ≡ tablePlace m i
       unfolding tablePlace
-      place-some = rw (live-blend g i lt, live-value g i lt) (sym (cond-false _ _ _ (passed g) ∙ cond-true _ _ _ (lt-ltb i _ within)))
+      place-some = rw (live-blend g i lt, live-value g i lt, live-mark g i lt) (sym (cond-false _ _ _ (passed g) ∙ cond-true _ _ _ (lt-ltb i _ within)))
 
   -- a point,
   module _ (u v : ℕ) where

@@ -24,7 +24,7 @@ use Rattle.maps.specs.declared.Weight.{Weight}
 use Rattle.maps.specs.declared.values.Entry.{Entry}
 use Rattle.maps.specs.Plain.{Plain, blends}
 use Rattle.maps.specs.Values.{rounded, readingAt, weightAt}
-use Rattle.maps.specs.Record.{recordOf, plain, good}
+use Rattle.maps.specs.Record.{recordOf, Full, plain, good}
 use Rattle.maps.specs.Calls.{shape, tablePlace, weights, weightOver}
 use Rattle.maps.specs.ByWeights.{products, ByWeights}
 use Rattle.maps.specs.Inner.{entriesOver}
@@ -44,9 +44,9 @@ entry-blend test all (B ∷ bs) i same a m =
     ⊎-elim (λ t. ⊎-elim (λ q. rw q here) later (List·Memᴰ·cases-cons (rw t at m))) (λ t. later (rw t at m)) (either (test B))
 
 -- entries whose blends and values the table call gives: the blends and the products of the weights answer are theirs
-module _ (m : Map) (w h u v : ℕ) (values : List ℕ) where
+module _ (m : Map) (w h u v : ℕ) (values marks : List ℕ) where
   abbrev Told : Entry → Type 0
-  Told a = tablePlace m (a .place) ≡ record { number = 0; blend = shape (a .blend); value = getD values (a .place) 0 }
+  Told a = tablePlace m (a .place) ≡ record { number = 0; blend = shape (a .blend); value = getD values (a .place) 0; mark = getD marks (a .place) 0 }
 
   told-blends : (es : List Entry) → ((a : Entry) → List·Memᴰ a es → Told a) →
       map (λ i. tablePlace m i .blend) (map (λ (a : Entry). a .place) es) ≡
@@ -79,11 +79,11 @@ module _ {P : Plain} (holds : Holds P) (u v : ℕ) (uw : u ≤ P .lines .w) (vh 
   abbrev found : List Entry
   found = entriesOver test (blends P) 0
 
-  told : (a : Entry) → List·Memᴰ a found → Told (recordOf P) w h u v (P .values) a
+  told : (a : Entry) → List·Memᴰ a found → Told (recordOf P) w h u v (P .values) (P .marks) a
   told a m =
       let r = entry-in test (blends P) 0 a m in
       place-listed P holds (a .place) (omega (arith, r .0)) ∙
-      ap (λ (B : Blend). record { number = 0; blend = shape B; value = getD (P .values) (a .place) 0 })
+      ap (λ (B : Blend). record { number = 0; blend = shape B; value = getD (P .values) (a .place) 0; mark = getD (P .marks) (a .place) 0 })
       (entry-blend test (blends P) (blends P) 0 (λ k lt. ap (λ (j : ℕ). getD (blends P) j none) (omega arith)) a m)
 
   in-domain : leb u w && leb v h ≡ true
@@ -109,20 +109,19 @@ module _ {P : Plain} (holds : Holds P) (u v : ℕ) (uw : u ≤ P .lines .w) (vh 
         taken = λ i m.
             let r = map-mem (λ (a : Entry). a .place) found i m in
             rw (r .2) (ap (λ (p : Placed). p .number) (told (r .0) (r .1)));
-        same-blends = told-blends (recordOf P) w h u v (P .values) found told ∙ sym (ap (map (λ (e : Weight). e .blend)) the-weights);
+        same-blends = told-blends (recordOf P) w h u v (P .values) (P .marks) found told ∙ sym (ap (map (λ (e : Weight). e .blend)) the-weights);
         is-sum =
             point-answers P holds u v uw vh ∙
             ap (λ (n : ℕ). record { number = 0; litres = n })
             (summed ∙
             ap (λ (fs : List Fraction). rounded (total fs))
             (sym (ap (products (map (λ i. tablePlace (recordOf P) i .value) (map (λ (a : Entry). a .place) found))) the-weights ∙
-            told-products (recordOf P) w h u v (P .values) found told)));
+            told-products (recordOf P) w h u v (P .values) (P .marks) found told)));
       }
 
 -- of every good record
-pub by-weights : (m : Map) → length (m .lines .splits) ≡ 60 → length (m .values) ≡ 1024 → good m ≡ true →
-    (u v : ℕ) → u ≤ m .lines .w → v ≤ m .lines .h → ByWeights m u v
+pub by-weights : (m : Map) → Full m → good m ≡ true → (u v : ℕ) → u ≤ m .lines .w → v ≤ m .lines .h → ByWeights m u v
 unfolding plain
-by-weights m places room e u v uw vh =
-    let g = good-facts m places room e in
+by-weights m full e u v uw vh =
+    let g = good-facts m full e in
     subst (λ (r : Map). ByWeights r u v) (g .is-record) (record-weights (g .holds) u v uw vh)

@@ -27,15 +27,16 @@ use Rattle.mesh.proofs.Cuts.{proper-facts}
 use Rattle.mesh.proofs.AtMost.{at-most}
 use Rattle.maps.specs.declared.Map.{Map}
 use Rattle.maps.specs.declared.Changed.{Changed}
+use Rattle.maps.specs.declared.carry.Carried.{Carried}
 use Rattle.mesh.specs.declared.Step.{Step}
 use Rattle.mesh.specs.Replay.{HasTable, refusedStep, drawnStep, exactStep, firstStep, lengthenedStep}
 use Rattle.maps.specs.declared.opened.Opened.{Opened}
 use Rattle.maps.specs.Plain.{Plain, blends}
-use Rattle.maps.specs.Values.{placeOf, carried, drawn}
-use Rattle.maps.specs.Record.{noSplit, linesOf, recordOf, plain, good}
+use Rattle.maps.specs.Values.{placeOf, carried, keptMark, drawn}
+use Rattle.maps.specs.Record.{noSplit, linesOf, recordOf, Full, plain, good}
 use Rattle.maps.specs.Calls.{changed, drawnFirst, setPlain, setValue, exactSplit, lengthenedSplit}
 use Rattle.maps.specs.Opened.{withTable, opened, IsTable, Opens}
-use Rattle.maps.specs.Inner.{withSplit, InTable, Grown, carriedArray}
+use Rattle.maps.specs.Inner.{withSplit, inArray, InTable, Grown, carriedArrays}
 use Rattle.maps.proofs.Map.{the-type}
 use Rattle.maps.proofs.opened.Opened as opened
 use Rattle.maps.proofs.Readings.{place-found}
@@ -60,23 +61,31 @@ module _ {A : Type 0} (xs : List A) (n : ℕ) (d x : A) where
 -- the record after a line is drawn, and after a value is set
 module _ (P : Plain) where
   record-drawn : (s : Split) → length (P .lines .splits) < 60 →
-      recordOf (drawn P s) ≡ record { lines = withSplit (recordOf P .lines) s; values = carriedArray (blends P) (P .values) (blends (drawn P s)) }
-  unfolding recordOf linesOf drawn carriedArray
+      let bs = blends (drawn P s) in
+      recordOf (drawn P s) ≡
+      record { lines = withSplit (recordOf P .lines) s; values = inArray (carried (blends P) (P .values)) bs; marks = inArray (keptMark (blends P) (P .marks)) bs }
+  unfolding recordOf linesOf drawn
   record-drawn s room =
       rw (
         padded-more (P .lines .splits) 60 noSplit s room,
         length-append (P .lines .splits) (s ∷ []),
         length-map (liveOf (withLine (P .lines) s)) (carried (blends P) (P .values)),
+        length-map (liveOf (withLine (P .lines) s)) (keptMark (blends P) (P .marks)),
       )
 
-  record-set : (i j v : ℕ) → let k = placeOf (blends P) (i + 1) (j + 1) in k < length (P .values) →
-      recordOf (setPlain P i j v) ≡ record { lines = recordOf P .lines; values = set (recordOf P .values) k v }
+  record-set : (i j v : ℕ) → let k = placeOf (blends P) (i + 1) (j + 1) in k < length (P .values) → k < length (P .marks) →
+      recordOf (setPlain P i j v) ≡ record { lines = recordOf P .lines; values = set (recordOf P .values) k v; marks = set (recordOf P .marks) k 1 }
   unfolding recordOf setPlain
-  record-set i j v lt = rw (padded-set (P .values) 1024 0 v _ lt)
+  record-set i j v lt lt-marks = rw (padded-set (P .values) 1024 0 v _ lt, padded-set (P .marks) 1024 0 1 _ lt-marks)
 
 -- a map that is passed by value has all the places of its arrays
-pub full : (m : Map) (vs : List Val) → shadow (row the-type .own m vs) → (length (m .lines .splits) ≡ 60) × (length (m .values) ≡ 1024)
-full m vs p = (lines-full (m .lines) (p .1 .1 .0), simp length-map at (p .1 .1 .1 .0 .1 .0 .1))
+pub full : (m : Map) (vs : List Val) → shadow (row the-type .own m vs) → Full m
+full m vs p =
+    record {
+      splits = lines-full (m .lines) (p .1 .1 .0);
+      values = simp length-map at (p .1 .1 .1 .0 .1 .0 .1);
+      marks = simp length-map at (p .1 .1 .1 .1 .0 .1 .0 .1);
+    }
 
 -- a good record, and the table of its live blends
 pub record GoodMap (m : Map) (t : Table) : Type 0 where
@@ -84,13 +93,13 @@ pub record GoodMap (m : Map) (t : Table) : Type 0 where
   pub facts : GoodFacts m
   pub has-table : HasTable (m .lines) t
 
-pub opened-map : {m : Map} {t : Table} → IsTable m t → length (m .lines .splits) ≡ 60 → length (m .values) ≡ 1024 → GoodMap m t
-opened-map {m} {t} o places room =
-    let f = good-facts m places room (o .is-good) in
+pub opened-map : {m : Map} {t : Table} → IsTable m t → Full m → GoodMap m t
+opened-map {m} {t} o whole =
+    let f = good-facts m whole (o .is-good) in
     record { is-good = o .is-good; facts = f; has-table = rw (o .is-table ∙ good-table m (o .is-good)) (f .has-table) }
 
 pub good-map : {m : Map} {t : Table} → IsTable m t → (vs : List Val) → shadow (row the-type .own m vs) → GoodMap m t
-good-map {m} o vs p = opened-map o (full m vs p .0) (full m vs p .1)
+good-map {m} o vs p = opened-map o (full m vs p)
 
 pub open-map : (o : Opened) → Opens o → (vs : List Val) → shadow (row opened.the-type .own o vs) → GoodMap (o .map) (o .table)
 open-map o is vs p = good-map is _ (p .1 .1 .1 .0)
@@ -160,6 +169,10 @@ module _ {m : Map} {t : Table} (g : GoodMap m t) where
   unfolding plain
   live-values = ap (λ (n : ℕ). take n (m .values)) live-count
 
+  pub live-marks : take (t .count) (m .marks) ≡ plain m .marks
+  unfolding plain
+  live-marks = ap (λ (n : ℕ). take n (m .marks)) live-count
+
   -- a call may go on with the test that it passed
   pub passed : not (good m) ≡ false
   passed = ap not (g .is-good)
@@ -167,13 +180,16 @@ module _ {m : Map} {t : Table} (g : GoodMap m t) where
   pub few : t .count ≤ 1024
   few = rw live-count (g .facts .is-short)
 
-  -- the blend and the value at a table place
+  -- the blend, the value and the mark at a table place
   module _ (i : ℕ) (lt : i < t .count) where
     pub live-blend : getD (t .blends) i none ≡ getD (blends (plain m)) i none
     live-blend = rw (← live-blends) (sym (getD-take (t .count) (t .blends) i none lt))
 
     pub live-value : getD (m .values) i 0 ≡ getD (plain m .values) i 0
     live-value = rw (← live-values) (sym (getD-take (t .count) (m .values) i 0 lt))
+
+    pub live-mark : getD (m .marks) i 0 ≡ getD (plain m .marks) i 0
+    live-mark = rw (← live-marks) (sym (getD-take (t .count) (m .marks) i 0 lt))
 
   -- A refusal hands back the map and its table as they came.
   pub kept : (n : ℕ) (c : Changed) → changed n m ≡ c → record { number = n; map = m; table = t } ≡ withTable c
@@ -215,15 +231,16 @@ module _ {m : Map} {t : Table} (g : GoodMap m t) (i j v : ℕ) where
           let up = p .up in
           off (omega (arith, here .0, f .across)) (omega (arith, here .1, f .up))
 
-  -- any other has its value set.
+  -- any other has its value set and marked.
   pub set-some : at < length (blends (plain m)) →
-      record { number = 0; map = record { lines = m .lines; values = set (m .values) at v }; table = t } ≡ withTable (setValue m i j v)
+      record { number = 0; map = record { lines = m .lines; values = set (m .values) at v; marks = set (m .marks) at 1 }; table = t } ≡
+      withTable (setValue m i j v)
   unfolding setPlain setValue
   set-some lt =
       let Q = setPlain (plain m) i j v in
-      let counted = g .facts .holds .counted in
-      let is : recordOf Q ≡ record { lines = m .lines; values = set (m .values) at v } =
-      rw (g .facts .is-record) at (record-set (plain m) i j v (rw counted lt)) in
+      let h = g .facts .holds in
+      let is : recordOf Q ≡ record { lines = m .lines; values = set (m .values) at v; marks = set (m .marks) at 1 } =
+      rw (g .facts .is-record) at (record-set (plain m) i j v (rw (h .counted) lt) (rw (h .counted-marks) lt)) in
       ap (λ (n : Map). record { number = 0; map = n; table = t }) (sym is) ∙
       new-table Q (set-holds (g .facts .holds) i j v) t (live-table g) _ (sym (cond-false _ _ _ (passed g) ∙ cond-true _ _ _ (lt-ltb _ _ lt)))
 
@@ -274,13 +291,15 @@ module _ {m : Map} {t : Table} (g : GoodMap m t) {r : Step} {c : Changed} where
     drawn-stays : Holds (drawn (plain m) (r .split))
     drawn-stays = drawn-holds (g .facts .holds) (r .split) (d .accepted)
 
-    pub step-drawn : (values : List ℕ) → values ≡ carriedArray (blendsOf t) (take (t .count) (m .values)) (blendsOf (r .table)) →
-        record { number = 0; map = record { lines = withSplit (m .lines) (r .split); values = values }; table = r .table } ≡ withTable c
-    step-drawn values v =
+    pub step-drawn : (arrays : Carried) → arrays ≡ carriedArrays (blendsOf t) (take (t .count) (m .values)) (take (t .count) (m .marks)) (blendsOf (r .table)) →
+        record { number = 0; map = record { lines = withSplit (m .lines) (r .split); values = arrays .values; marks = arrays .marks }; table = r .table } ≡
+        withTable c
+    unfolding carriedArrays
+    step-drawn arrays v =
         let Q = drawn (plain m) (r .split) in
         let new-blends : blendsOf (r .table) ≡ blends Q = rw (d .is-new) (table-blends (blends Q)) in
-        let is : recordOf Q ≡ record { lines = withSplit (m .lines) (r .split); values = values } =
-        rw (v, live-blends g, live-values g, new-blends)
+        let is : recordOf Q ≡ record { lines = withSplit (m .lines) (r .split); values = arrays .values; marks = arrays .marks } =
+        rw (v, live-blends g, live-values g, live-marks g, new-blends)
         (rw (g .facts .is-record) at (record-drawn (plain m) (r .split) (exact-says (plain m .lines) (r .split) (d .accepted) .0 .room))) in
         ap (λ (n : Map). record { number = 0; map = n; table = r .table }) (sym is) ∙ new-table Q drawn-stays (r .table) (d .is-new) c (d .is-drawn)
 

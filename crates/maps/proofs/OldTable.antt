@@ -1,4 +1,4 @@
--- The old map of a split, as a table and an array of values; and the array of carried values as it is filled.
+-- The old map of a split, as a table and an array of values; and an array of numbers for the new blends as it is filled.
 use Prim.Native.Nat.{ℕ, suc, _+_, _-_, _≤_, _<_}
 use native.Mathlib.Omega.{arith}
 use native.Mathlib.Numerals.{add-one}
@@ -77,15 +77,23 @@ module _ {w h : ℕ} {t : Table} {values : List ℕ} (old : InTable w h t values
       counted : length (old .of .values) ≡ length (blends (old .of))
       counted = ap length (old .are-values) ∙ length-take-le _ values (omega (arith, old .is-short))
 
--- The array of carried values, filled from the front.
+-- An array of numbers, one for each of some things, filled from the front: the numbers of the first i, then zeros.
+abbrev pub filled {ℓ} : {A : Type ℓ} → (A → ℕ) → List A → ℕ → List ℕ
+filled f xs i = map f (take i xs) ++ replicate (1024 - i) 0
+
 module _ {ℓ} {A : Type ℓ} (f : A → ℕ) (xs : List A) (i : ℕ) where
-  pub fill-more : (d : A) → i < length xs → length xs ≤ 1024 → (v : ℕ) → v ≡ f (getD xs i d) →
-      set (map f (take i xs) ++ replicate (1024 - i) 0) i v ≡ map f (take (i + 1) xs) ++ replicate (1024 - (i + 1)) 0
+  pub fill-more : (d : A) → i < length xs → length xs ≤ 1024 → (v : ℕ) → v ≡ f (getD xs i d) → set (filled f xs i) i v ≡ filled f xs (i + 1)
   fill-more d lt le v e =
       let next : 1024 - i ≡ suc (1024 - (i + 1)) = omega arith in
       let long : length (map f (take i xs)) ≡ i = length-map (take i xs) f ∙ length-take-le i xs (omega arith) in
       rw (next, add-one, take-suc xs i d lt, map-append f (take i xs) (getD xs i d ∷ []), append-assoc, ← e)
       (set-at (map f (take i xs)) 0 (replicate (1024 - suc i) 0) v i long)
 
-  pub fill-all : i ≡ length xs → map f (take i xs) ++ replicate (1024 - i) 0 ≡ map f xs ++ replicate (1024 - length xs) 0
+  -- where the next number is 0, it stands there already
+  pub fill-zero : (d : A) → i < length xs → length xs ≤ 1024 → f (getD xs i d) ≡ 0 → filled f xs i ≡ filled f xs (i + 1)
+  fill-zero d lt le e =
+      let next : 1024 - i ≡ suc (1024 - (i + 1)) = omega arith in
+      rw (next, add-one, take-suc xs i d lt, map-append f (take i xs) (getD xs i d ∷ []), append-assoc, e)
+
+  pub fill-all : i ≡ length xs → filled f xs i ≡ map f xs ++ replicate (1024 - length xs) 0
   fill-all e = rw (e, take-length xs)

@@ -11,7 +11,7 @@ use mathlib.Core.List.List·Memᴰ.{List·Memᴰ·head, List·Memᴰ·tail}
 use borrow.Author.Tests.{eqb-true, eq-eqb, lt-ltb}
 use lib.Dec.{eqb}
 use lib.ListN.{length, length-append}
-use lib.Seq.{set-append-seam}
+use lib.Seq.{set-at}
 use Rattle.mesh.specs.declared.Split.{Split}
 use Rattle.mesh.specs.declared.Blend.{Blend}
 use Rattle.mesh.specs.Blends.{anchored}
@@ -105,13 +105,14 @@ own-place (C ∷ done) B bs d own =
     add-one (length done))
     (either (anchored (B .across .m) (B .up .m) C))
 
--- the same lines with other values
-abbrev pub withValues : Plain → List ℕ → Plain
-withValues P vs = record { lines = P .lines; values = vs }
+-- the same lines with other values and marks
+abbrev pub withValues : Plain → List ℕ → List ℕ → Plain
+withValues P vs ms = record { lines = P .lines; values = vs; marks = ms }
 
--- so setting its value puts it there.
+-- so setting its value puts it there, and marks it.
 module _ (P : Plain) (valued : Valued P) (done : List Blend) (B : Blend) (bs : List Blend) (is : blends P ≡ done ++ B ∷ bs)
-    (us : List ℕ) (w : ℕ) (ws : List ℕ) (full : length us ≡ length done) (v : ℕ) (lt : v < 65536) where
+    (us : List ℕ) (w : ℕ) (ws : List ℕ) (full : length us ≡ length done) (v : ℕ) (lt : v < 65536)
+    (ks : List ℕ) (m : ℕ) (ms : List ℕ) (full-marks : length ks ≡ length done) where
   there : placeOf (blends P) (B .across .m - 1 + 1) (B .up .m - 1 + 1) ≡ length done
   there =
       let m : List·Memᴰ B (blends P) = rw is (Memᴰ·append-right done (List·Memᴰ·head refl)) in
@@ -128,9 +129,11 @@ module _ (P : Plain) (valued : Valued P) (done : List Blend) (B : Blend) (bs : L
   within : length done < length (blends P)
   within = rw (is, length-append) (omega arith)
 
-  pub value-set : byMachine (withValues P (us ++ w ∷ ws)) (set (B .across .m - 1) (B .up .m - 1) v) ≡
-      outcome (number 0) (withValues P (us ++ v ∷ ws))
+  pub value-set : byMachine (withValues P (us ++ w ∷ ws) (ks ++ m ∷ ms)) (set (B .across .m - 1) (B .up .m - 1) v) ≡
+      outcome (number 0) (withValues P (us ++ v ∷ ws) (ks ++ 1 ∷ ms))
   unfolding setPlain
   value-set =
       let small : v % 65536 ≡ v = mod-eq-of-lt lt in
-      rw (there, lt-ltb _ _ within, small, ← full, set-append-seam us w ws v)
+      let values = set-at us w ws v (length done) full in
+      let marks = set-at ks m ms 1 (length done) full-marks in
+      rw (there, lt-ltb _ _ within, small, values, marks)

@@ -21,7 +21,7 @@ use Rattle.mesh.proofs.Ascending.{order-ascending}
 use Rattle.mesh.proofs.SoundMaps.{live-leaves, own-anchors}
 use Rattle.mesh.proofs.NewAnchors.{anchor-kept}
 use Rattle.mesh.proofs.Places.{at-inj}
-use Rattle.maps.specs.Values.{placeOf, readingAt, carried}
+use Rattle.maps.specs.Values.{placeOf, keptOr}
 use Rattle.maps.specs.Inner.{Grown}
 
 -- what is left of an ordered list is ordered, and its entries are the list's
@@ -123,19 +123,17 @@ module _ (old new : List Blend) (grown : Grown old new) where
                 (here-or-later (r .0) (r .1));
           }
 
--- What is carried: the old value where the next old blend has the anchor, else the reading there.
-module _ (bs : List Blend) (up : Ascending place bs) (vs : List ℕ) (x : Blend) (hx : x .up .m < 131) where
-  pub carried-same : (j : ℕ) (y : Blend) (rest : List Blend) → j < length bs → drop j bs ≡ y ∷ rest → place y ≡ place x → y .up .m < 131 →
-      carried bs vs x ≡ getD vs j 0
-  unfolding carried
-  carried-same j y rest lt e same hy =
+-- What a split keeps of a list beside the old blends: the entry of the next old blend where that has the anchor, else what is new there.
+module _ (bs : List Blend) (up : Ascending place bs) (xs : List ℕ) (new : ℕ) (x : Blend) (hx : x .up .m < 131) where
+  pub kept-same : (j : ℕ) (y : Blend) (rest : List Blend) → j < length bs → drop j bs ≡ y ∷ rest → place y ≡ place x → y .up .m < 131 →
+      keptOr new bs xs x ≡ getD xs j 0
+  kept-same j y rest lt e same hy =
       let a = at-inj (y .across .m) (y .up .m) (x .across .m) (x .up .m) hy hx same in
       let is = place-at bs j y rest up e (x .across .m) (x .up .m) (and-of _ _ (eq-eqb _ _ (a .0)) (eq-eqb _ _ (a .1))) in
       rw (is, lt-ltb j (length bs) lt)
 
-  pub carried-read : ((B : Blend) → List·Memᴰ B bs → place B ≡ place x → ⊥) → carried bs vs x ≡ readingAt bs vs (x .across .m - 1) (x .up .m - 1)
-  unfolding carried
-  carried-read none =
+  pub kept-none : ((B : Blend) → List·Memᴰ B bs → place B ≡ place x → ⊥) → keptOr new bs xs x ≡ new
+  kept-none none =
       let le = place-none bs (x .across .m) (x .up .m) (λ B m. false-of _ (λ t. let a = anchored-at _ _ B t in none B m (rw (a .0, a .1)))) in
       cond-false _ _ _ (le-ltb _ _ le)
 

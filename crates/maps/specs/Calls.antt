@@ -33,9 +33,10 @@ freshMap w h =
 
 -- A call on a record that is not good is refused with 2; on a good one it goes on with what that holds.
 
--- Setting the value at the anchor (m, n): 9 where no live blend has it.
+-- Setting the value at the anchor (m, n): 9 where no live blend has it. Document 02, L5: "Setting a value marks it 1."
 unfoldable pub setPlain : Plain → ℕ → ℕ → ℕ → Plain
-setPlain P m n v = record { lines = P .lines; values = set (P .values) (placeOf (blends P) (m + 1) (n + 1)) v }
+setPlain P m n v =
+    let i = placeOf (blends P) (m + 1) (n + 1) in record { lines = P .lines; values = set (P .values) i v; marks = set (P .marks) i 1 }
 
 unfoldable pub setValue : Map → ℕ → ℕ → ℕ → Changed
 setValue old m n v =
@@ -59,14 +60,14 @@ shape B =
 abbrev pub noShape : Shape
 noShape = record { l = pos 0; m = pos 0; r = pos 0; b = pos 0; n = pos 0; t = pos 0 }
 
--- The blend and value at a table place, from 0: 9 where there is none. First by what a map holds, then by its record.
+-- The blend, value and mark at a table place, from 0: 9 where there is none. First by what a map holds, then by its record.
 abbrev pub noPlace : ℕ → Placed
-noPlace n = record { number = n; blend = noShape; value = 0 }
+noPlace n = record { number = n; blend = noShape; value = 0; mark = 0 }
 
 abbrev pub placeOn : Plain → ℕ → Placed
 placeOn P i =
     cond (ltb i (length (blends P)))
-    (record { number = 0; blend = shape (getD (blends P) i none); value = getD (P .values) i 0 })
+    (record { number = 0; blend = shape (getD (blends P) i none); value = getD (P .values) i 0; mark = getD (P .marks) i 0 })
     (noPlace 9)
 
 unfoldable pub tablePlace : Map → ℕ → Placed

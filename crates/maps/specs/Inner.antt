@@ -18,11 +18,12 @@ use Rattle.mesh.specs.Blends.{place}
 use Rattle.maps.specs.declared.Map.{Map}
 use Rattle.maps.specs.declared.Pairs.{Pairs}
 use Rattle.maps.specs.declared.Weight.{Weight}
+use Rattle.maps.specs.declared.carry.Carried.{Carried}
 use Rattle.maps.specs.declared.values.Sum.{Sum}
 use Rattle.maps.specs.declared.values.Entry.{Entry}
 use Rattle.maps.specs.declared.values.Four.{Four}
 use Rattle.maps.specs.Plain.{Plain, blends}
-use Rattle.maps.specs.Values.{carried, weightAt}
+use Rattle.maps.specs.Values.{carried, keptMark, weightAt}
 use Rattle.maps.specs.Calls.{shape}
 use Rattle.maps.specs.Pairs.{rowPairs, columnPairs}
 
@@ -30,9 +31,12 @@ use Rattle.maps.specs.Pairs.{rowPairs, columnPairs}
 abbrev pub withSplit : Lines → Split → Lines
 withSplit L s = record { w = L .w; h = L .h; count = L .count + 1; splits = set (L .splits) (L .count) s }
 
--- the values after a split, in an array
-unfoldable pub carriedArray : List Blend → List ℕ → List Blend → List ℕ
-carriedArray old vs new = map (carried old vs) new ++ replicate (mostBlends - length new) 0
+-- the values and marks after a split, in arrays
+abbrev pub inArray : (Blend → ℕ) → List Blend → List ℕ
+inArray number bs = map number bs ++ replicate (mostBlends - length bs) 0
+
+unfoldable pub carriedArrays : List Blend → List ℕ → List ℕ → List Blend → Carried
+carriedArrays old vs ms new = record { values = inArray (carried old vs) new; marks = inArray (keptMark old ms) new }
 
 -- two lists of blends in table order, where the anchors of the first are among those of the second
 pub record Grown (old new : List Blend) : Type 0 where

@@ -1,8 +1,9 @@
 -- Document 01, "Values, readings, splits": the record of a map, and when it is good.
 use Prim.Native.Nat.{ℕ, _-_}
+use mathlib.Core.Path.{_≡_}
 use mathlib.Core.Bool.{Bool, _&&_}
 use mathlib.Core.List.{_++_}
-use lib.Dec.{eqb}
+use lib.Dec.{leb, eqb}
 use lib.ListN.{length, take, drop, replicate}
 use Rattle.axis.specs.Limits.{mostSplits, mostBlends}
 use Rattle.axis.specs.Range.{all}
@@ -23,6 +24,10 @@ isNoSplit s = eqb (s .direction) 0 && eqb (s .position) 0 && eqb (s .from) 0 && 
 abbrev pub isZero : ℕ → Bool
 isZero v = eqb v 0
 
+-- document 02, L5: "1 measured, 0 worked out"
+abbrev pub isMark : ℕ → Bool
+isMark k = leb k 1
+
 -- "its sides, its splits in order and its values in table order; all unused places are zero"
 unfoldable pub linesOf : Layout → Lines
 linesOf P =
@@ -34,15 +39,29 @@ linesOf P =
     }
 
 unfoldable pub recordOf : Plain → Map
-recordOf P = record { lines = linesOf (P .lines); values = P .values ++ replicate (mostBlends - length (P .values)) 0 }
+recordOf P =
+    record {
+      lines = linesOf (P .lines);
+      values = P .values ++ replicate (mostBlends - length (P .values)) 0;
+      marks = P .marks ++ replicate (mostBlends - length (P .marks)) 0;
+    }
 
--- what the record holds: its values are as many as its blends
+-- a record has all the places of its arrays, as the code's struct has
+pub record Full (m : Map) : Type 0 where
+  pub splits : length (m .lines .splits) ≡ mostSplits
+  pub values : length (m .values) ≡ mostBlends
+  pub marks : length (m .marks) ≡ mostBlends
+
+-- what the record holds: its values and marks are as many as its blends
 unfoldable pub plain : Map → Plain
-plain m = record { lines = layoutOf (m .lines); values = take (length (liveOf (layoutOf (m .lines)))) (m .values) }
+plain m =
+    let k = length (liveOf (layoutOf (m .lines))) in
+    record { lines = layoutOf (m .lines); values = take k (m .values); marks = take k (m .marks) }
 
 -- "The record is good if sides, count and unused places are as said and its splits, taken in order as exact splits from a fresh map of those sides, are
--- all accepted."
+-- all accepted." Document 02, L5: "Unused marks are 0, and a record with another mark isn't good."
 unfoldable pub good : Map → Bool
 good m =
-    replays (m .lines) && all isNoSplit (drop (m .lines .count) (m .lines .splits)) &&
-    all isZero (drop (length (liveOf (layoutOf (m .lines)))) (m .values))
+    let k = length (liveOf (layoutOf (m .lines))) in
+    replays (m .lines) && all isNoSplit (drop (m .lines .count) (m .lines .splits)) && all isZero (drop k (m .values)) &&
+    all isMark (m .marks) && all isZero (drop k (m .marks))

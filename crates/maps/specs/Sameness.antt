@@ -1,4 +1,4 @@
--- Document 01: "Two maps are the same when sides, live blends and values agree."
+-- Document 01: "Two maps are the same when sides, live blends and values agree." Document 02, L5: "Sameness doesn't look at marks."
 use mathlib.Core.Bool.{Bool, false, cond, _&&_}
 use lib.Dec.{eqb}
 use Rattle.axis.specs.Range.{agree}

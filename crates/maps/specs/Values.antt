@@ -47,15 +47,24 @@ abbrev pub placeOf : List Blend → ℕ → ℕ → ℕ
 placeOf [] m n = 0
 placeOf (B ∷ bs) m n = let rest = placeOf bs m n + 1 in cond (anchored m n B) 0 rest
 
+-- of a number for each old blend, the one at a blend's anchor; another one where the anchor is new
+abbrev pub keptOr : ℕ → List Blend → List ℕ → Blend → ℕ
+keptOr new bs xs B = let i = placeOf bs (B .across .m) (B .up .m) in cond (ltb i (length bs)) (getD xs i 0) new
+
 -- "Old anchors keep their values; each new one takes the old map's reading there."
 unfoldable pub carried : List Blend → List ℕ → Blend → ℕ
-carried bs vs B =
-    let new = readingAt bs vs (B .across .m - 1) (B .up .m - 1) in
-    let i = placeOf bs (B .across .m) (B .up .m) in
-    cond (ltb i (length bs)) (getD vs i 0) new
+carried bs vs B = keptOr (readingAt bs vs (B .across .m - 1) (B .up .m - 1)) bs vs B
+
+-- document 02, L5: "A split keeps the marks of old anchors and gives new ones 0."
+unfoldable pub keptMark : List Blend → List ℕ → Blend → ℕ
+keptMark bs marks B = keptOr 0 bs marks B
 
 -- the map with a split drawn
 unfoldable pub drawn : Plain → Split → Plain
 drawn P s =
     let lines = withLine (P .lines) s in
-    record { lines = lines; values = map (carried (blends P) (P .values)) (liveOf lines) }
+    record {
+      lines = lines;
+      values = map (carried (blends P) (P .values)) (liveOf lines);
+      marks = map (keptMark (blends P) (P .marks)) (liveOf lines);
+    }

@@ -62,6 +62,7 @@ pub(crate) fn no_place(number: usize) -> Placed
         number: number,
         blend: no_shape(),
         value: 0,
+        mark: 0,
     }
 }
 
@@ -76,7 +77,7 @@ pub(crate) fn no_pairs(number: usize) -> Pairs
 }
 
 impl Map {
-    // The blend and value at a table place, from 0: refused with 2 or 9.
+    // The blend, value and mark at a table place, from 0: refused with 2 or 9.
     pub fn place(self, i: usize) -> Placed
         ensures { λ r. ⌜ r ≡ tablePlace self i ⌝ }
     {
@@ -135,7 +136,7 @@ impl Map {
         opened.column(u, wanted)
     }
 
-    // Sets the value at the anchor (m, n): refused with 2 or 9.
+    // Sets the value at the anchor (m, n) and marks it 1: refused with 2 or 9.
     pub fn set(self, m: usize, n: usize, value: u16) -> Changed
         ensures { λ r. ⌜ r ≡ setValue self m n value ⌝ }
     {

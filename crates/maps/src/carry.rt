@@ -1,4 +1,4 @@
-// Values across a split: old anchors keep theirs, each new one takes the old map's reading there.
+// Values and marks across a split: old anchors keep theirs, each new one takes the old map's reading there and the mark 0.
 use crate::values::reading_of;
 use axis::knots::wide;
 use mesh::Table;
@@ -10,21 +10,29 @@ ghost use lib.ListN.{take};
 ghost use Rattle.axis.specs.Limits.{mostBlends};
 ghost use Rattle.axis.specs.Range.{all};
 ghost use Rattle.mesh.specs.Sound.{proper, blendsOf};
-ghost use Rattle.maps.specs.Inner.{carriedArray, InTable, Grown};
+ghost use Rattle.maps.specs.Inner.{carriedArrays, InTable, Grown};
 
-// The values of the new table's blends, from the old table and its values; unused places are zero. Both tables are in table order, and the old anchors are
-// among the new ones, so the two are walked side by side and no anchor is searched for.
-pub(crate) fn carried_values(
+// The values and marks of a table's blends.
+pub(crate) struct Carried {
+    pub values: [u16; Table::MOST_BLENDS],
+    pub marks: [u8; Table::MOST_BLENDS],
+}
+
+// The values and marks of the new table's blends, from the old table and its own; unused places are zero. Both tables are in table order, and the old
+// anchors are among the new ones, so the two are walked side by side and no anchor is searched for.
+pub(crate) fn carry(
     old: Table,
     values: [u16; Table::MOST_BLENDS],
+    marks: [u8; Table::MOST_BLENDS],
     new: Table,
     w: usize,
     h: usize,
-) -> [u16; Table::MOST_BLENDS]
+) -> Carried
     requires { ⌜ InTable w h old values × (new .count ≤ mostBlends) × (all (proper w h) (blendsOf new) ≡ true) × Grown (blendsOf old) (blendsOf new) ⌝ }
-    ensures { λ r. ⌜ r ≡ carriedArray (blendsOf old) (take (old .count) values) (blendsOf new) ⌝ }
+    ensures { λ r. ⌜ r ≡ carriedArrays (blendsOf old) (take (old .count) values) (take (old .count) marks) (blendsOf new) ⌝ }
 {
     let mut carried = [0u16; Table::MOST_BLENDS];
+    let mut kept = [0u8; Table::MOST_BLENDS];
     let before = old.count;
     let count = new.count;
     let mut j = 0;
@@ -38,6 +46,7 @@ pub(crate) fn carried_values(
         }
         if knots::place(x) == next {
             carried[i] = values[j];
+            kept[i] = marks[j];
             j += 1;
         } else {
             let m = wide(x.across.m);
@@ -46,5 +55,8 @@ pub(crate) fn carried_values(
         }
         i += 1;
     }
-    carried
+    Carried {
+        values: carried,
+        marks: kept,
+    }
 }

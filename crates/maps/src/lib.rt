@@ -15,10 +15,12 @@ ghost use Rattle.maps.specs.Plain.{freshPlain};
 ghost use Rattle.maps.specs.Record.{recordOf};
 ghost use Rattle.maps.specs.Calls.{freshMap};
 
-// The record of a map: its lines, which are its sides and its splits in order, and its values in table order; all unused places are zero.
+// The record of a map: its lines, which are its sides and its splits in order, and in table order its values and their marks, 1 measured and 0 worked out;
+// all unused places are zero.
 pub struct Map {
     pub lines: Lines,
     pub values: [u16; Table::MOST_BLENDS],
+    pub marks: [u8; Table::MOST_BLENDS],
 }
 
 impl Map {
@@ -53,7 +55,7 @@ fn allowed_side(side: usize) -> bool
     side <= Map::LARGEST_SIDE
 }
 
-// A map without splits, all its values zero.
+// A map without splits, all its values and marks zero.
 fn blank(w: usize, h: usize) -> Map
     ensures { λ r. ⌜ r ≡ recordOf (freshPlain w h) ⌝ }
 {
@@ -71,6 +73,7 @@ fn blank(w: usize, h: usize) -> Map
             splits: [none; Map::MOST_SPLITS],
         },
         values: [0u16; Table::MOST_BLENDS],
+        marks: [0u8; Table::MOST_BLENDS],
     }
 }
 
@@ -90,11 +93,12 @@ pub struct Changed {
     pub map: Map,
 }
 
-// A number, and the blend and value at a table place.
+// A number, and the blend, value and mark at a table place.
 pub struct Placed {
     pub number: usize,
     pub blend: Shape,
     pub value: usize,
+    pub mark: usize,
 }
 
 // A number, and a reading in litres a minute.

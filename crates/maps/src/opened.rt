@@ -12,7 +12,7 @@ use crate::calls::in_domain;
 use crate::calls::no_pairs;
 use crate::calls::no_place;
 use crate::calls::no_weights;
-use crate::carry::carried_values;
+use crate::carry::carry;
 use crate::sameness::same_maps;
 use crate::values::place_of;
 use crate::values::reading_of;
@@ -31,7 +31,7 @@ ghost use mathlib.Core.Path.{_≡_};
 ghost use mathlib.Core.List.{[]};
 ghost use mathlib.Core.Bool.{true, cond};
 ghost use Prim.Native.Nat.{_<_};
-ghost use lib.Dec.{eqb};
+ghost use lib.Dec.{leb, eqb};
 ghost use lib.ListN.{drop};
 ghost use Rattle.axis.specs.Range.{all};
 ghost use Rattle.mesh.specs.Sound.{table};
@@ -95,6 +95,21 @@ fn no_values_from(values: [u16; Table::MOST_BLENDS], from: usize) -> bool
     none
 }
 
+// Whether no mark from a place on is above a number; like `no_values_from`, without stopping early.
+fn no_marks_above(most: u8, marks: [u8; Table::MOST_BLENDS], from: usize) -> bool
+    ensures { λ r. ⌜ r ≡ all (λ k. leb k most) (drop from marks) ⌝ }
+{
+    let mut none = true;
+    let mut i = from;
+    while i < Table::MOST_BLENDS {
+        if most < marks[i] {
+            none = false;
+        }
+        i += 1;
+    }
+    none
+}
+
 // What a record that is not good gives, with a table without blends.
 fn not_good(map: Map) -> Opened
     ensures { λ r. ⌜ r ≡ record { number = 2; map = map; table = table [] } ⌝ }
@@ -130,6 +145,13 @@ pub fn open(map: Map) -> Opened
     let table = found.table;
     let values = map.values;
     if !no_values_from(values, table.count) {
+        return not_good(map);
+    }
+    let marks = map.marks;
+    if !no_marks_above(1, marks, 0) {
+        return not_good(map);
+    }
+    if !no_marks_above(0, marks, table.count) {
         return not_good(map);
     }
     Opened {
@@ -189,6 +211,7 @@ impl Opened {
             number: 0,
             blend: shape_of(x),
             value: map.values[i] as usize,
+            mark: map.marks[i] as usize,
         }
     }
 
@@ -286,6 +309,7 @@ impl Opened {
         }
         let mut map = self.map;
         map.values[place] = value;
+        map.marks[place] = 1;
         Opened {
             number: 0,
             map: map,
@@ -308,13 +332,17 @@ impl Opened {
         lines.splits[at] = line;
         lines.count = at + 1;
         let values = self.map.values;
+        let marks = self.map.marks;
         let table = step.table;
-        let carried = carried_values(self.table, values, table, lines.w, lines.h);
+        let carried = carry(self.table, values, marks, table, lines.w, lines.h);
+        let new_values = carried.values;
+        let new_marks = carried.marks;
         Opened {
             number: 0,
             map: Map {
                 lines: lines,
-                values: carried,
+                values: new_values,
+                marks: new_marks,
             },
             table: table,
         }

@@ -61,4 +61,5 @@ set-spec =
     returns-3
     mul-map
     element-write-map
+    element-write-map
     returns-4)

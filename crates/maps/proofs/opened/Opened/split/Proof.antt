@@ -30,16 +30,17 @@ returns c =
     let p = c .before .before .before in
     c .numbered .ensures ∙ step-refused (good-self (p .before)) (step p) (c .before .if1 .taken)
 
-carried-values-requires : tie.Need-carried-values-requires
-carried-values-requires c κs =
-    let e = c .before .before .before .before in
+carry-requires : tie.Need-carry-requires
+carry-requires c κs =
+    let e = c .before .before .before .before .before in
     let g = good-self (e .before .before .before) in
     (in-table g, new-few g (draws e), new-proper g (draws e), step-grown g (draws e))
 
 returns-2 : tie.Need-returns-2
 returns-2 c =
-    let e = c .before .before .before .before .before in
-    step-drawn (good-self (e .before .before .before)) (draws e) _ (c .carried-values .ensures)
+    let k = c .before .before in
+    let e = k .before .before .before .before .before .before in
+    step-drawn (good-self (e .before .before .before)) (draws e) _ (k .carry .ensures)
 
 pub split-spec : {M : Type 1} → statement M
 split-spec =
@@ -51,5 +52,5 @@ split-spec =
     (λ c. omega (arith, room (c .before .before)))
     (λ c. omega (arith, room (c .before .before)))
     (λ c. omega (arith, room (c .before .before)))
-    carried-values-requires
+    carry-requires
     returns-2)

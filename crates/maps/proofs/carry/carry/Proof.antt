@@ -1,12 +1,12 @@
--- `maps::carry::carried_values` meets its contract. The invariant: the values of the blends passed stand in front, and zeros behind them; the old blends
+-- `maps::carry::carry` meets its contract. The invariant: the values and marks of the blends passed stand in front, and zeros behind them; the old blends
 -- passed have no anchor of a new one that is left.
 use Prim.Native.Nat.{ℕ, _+_, _-_, _≤_, _<_}
 use native.Mathlib.Omega.{arith}
 use mathlib.Core.Path.{_≡_, refl, sym, ap, _∙_}
 use mathlib.Core.Logic.{_⊎_, inl, inr, ⊎-elim}
 use mathlib.Core.Bool.{true}
-use mathlib.Core.List.{List, _∷_, _++_, map}
-use lib.ListN.{getD, length, set, take, drop, replicate}
+use mathlib.Core.List.{List, _∷_}
+use lib.ListN.{getD, length, set, take, drop}
 use lib.Seq.{length-take-le, getD-take}
 use mir.Syntax.{w16}
 use borrow.Author.Needs.{needs, elem-fits}
@@ -19,25 +19,26 @@ use Rattle.mesh.proofs.BlendTables.{table-full, blends-turn, blends-end}
 use Rattle.mesh.proofs.Cuts.{proper-facts}
 use Rattle.maps.specs.Plain.{blends}
 use Rattle.maps.specs.Values as Values
-use Rattle.maps.specs.Values.{carried, readingAt}
-use Rattle.maps.specs.Inner.{carriedArray}
+use Rattle.maps.specs.Values.{keptOr, carried, keptMark, readingAt}
+use Rattle.maps.specs.Inner.{carriedArrays}
 use Rattle.maps.proofs.Readings.{Valued, reading-most}
-use Rattle.maps.proofs.OldTable.{old-valued, count-most, blends-of, values-of, old-table, old-point, fill-more, fill-all}
-use Rattle.maps.proofs.SideBySide.{Walking, walking-none, walking-both, walking-new, none-old, carried-same, carried-read}
-use Rattle.maps.proofs.carry.carried_values.Statement.{statement}
-use Rattle.maps.proofs.carry.carried_values.Tie as tie
+use Rattle.maps.proofs.OldTable.{old-valued, count-most, blends-of, values-of, old-table, old-point, filled, fill-more, fill-zero, fill-all}
+use Rattle.maps.proofs.SideBySide.{Walking, walking-none, walking-both, walking-new, none-old, kept-same, kept-none}
+use Rattle.maps.proofs.carry.carry.Statement.{statement}
+use Rattle.maps.proofs.carry.carry.Tie as tie
 
 abbrev Inv-loop : tie.InvT-loop
-Inv-loop w h old values new carried₀ before count j₀ i₀ carried j i =
-    (i ≤ count) × (j ≤ before) × (carried ≡ map (Values.carried (blendsOf old) (take (old .count) values)) (take i (blendsOf new)) ++ replicate (1024 - i) 0) ×
-    Walking (blendsOf old) (blendsOf new) j i
+Inv-loop w h old values marks new carried₀ kept₀ before count j₀ i₀ carried kept j i =
+    (i ≤ count) × (j ≤ before) × (carried ≡ filled (Values.carried (blendsOf old) (take (old .count) values)) (blendsOf new) i) ×
+    (kept ≡ filled (keptMark (blendsOf old) (take (old .count) marks)) (blendsOf new) i) × Walking (blendsOf old) (blendsOf new) j i
 
 abbrev μ-loop : tie.MeasureT-loop
-μ-loop w h old values new carried₀ before count j₀ i₀ carried j i = count - i
+μ-loop w h old values marks new carried₀ kept₀ before count j₀ i₀ carried kept j i = count - i
 
 -- the arrays are full, and the old values fit their type
-full : (s : tie.Start Inv-loop μ-loop) → (length (s .args .t1 .blends) ≡ 1024) × (length (s .args .t2) ≡ 1024) × (length (s .args .t3 .blends) ≡ 1024)
-full s = (table-full (s .args .t1) (s .good .0), s .good .1 .0 .1 .0 .1, table-full (s .args .t3) (s .good .1 .1 .0))
+full : (s : tie.Start Inv-loop μ-loop) →
+    (length (s .args .t1 .blends) ≡ 1024) × (length (s .args .t2) ≡ 1024) × (length (s .args .t4 .blends) ≡ 1024) × (length (s .args .t3) ≡ 1024)
+full s = (table-full (s .args .t1) (s .good .0), s .good .1 .0 .1 .0 .1, table-full (s .args .t4) (s .good .1 .1 .1 .0), s .good .1 .1 .0 .1 .0 .1)
 
 valued : (s : tie.Start Inv-loop μ-loop) → Valued (s .pre .0 .of)
 valued s = old-valued (s .pre .0) (full s .1) (λ i. elem-fits w16 w16 (s .args .t2) _ i (s .good .1 .0 .1 .1) tt .fits)
@@ -46,18 +47,18 @@ few : (s : tie.Start Inv-loop μ-loop) → s .args .t1 .count ≤ 1024
 few s = count-most (s .pre .0)
 
 loop-holds : tie.Need-loop-holds Inv-loop μ-loop
-loop-holds c = (omega arith, omega arith, refl, walking-none _ _ (c .pre .3))
+loop-holds c = (omega arith, omega arith, refl, refl, walking-none _ _ (c .pre .3))
 
 -- in a turn, the next blend of either table
 abbrev next : tie.In-loop Inv-loop μ-loop → Blend
-next c = getD (c .before .before .args .t3 .blends) (c .before .loop .i) none
+next c = getD (c .before .before .args .t4 .blends) (c .before .loop .i) none
 
 abbrev next-old : tie.In-loop Inv-loop μ-loop → Blend
 next-old c = getD (c .before .before .args .t1 .blends) (c .before .loop .j) none
 
-turn : (c : tie.In-loop Inv-loop μ-loop) → let new = c .before .before .args .t3 in drop (c .before .loop .i) (blendsOf new) ≡ next c ∷ drop
+turn : (c : tie.In-loop Inv-loop μ-loop) → let new = c .before .before .args .t4 in drop (c .before .loop .i) (blendsOf new) ≡ next c ∷ drop
     (c .before .loop .i + 1) (blendsOf new)
-turn c = let s = c .before .before in blends-turn (s .args .t3) (c .before .loop .i) (c .loop-test .taken) (omega (arith, s .pre .1, full s .2))
+turn c = let s = c .before .before in blends-turn (s .args .t4) (c .before .loop .i) (c .loop-test .taken) (omega (arith, s .pre .1, full s .2))
 
 old-turn : (c : tie.In-loop Inv-loop μ-loop) → let old = c .before .before .args .t1 in c .before .loop .j < old .count →
     drop (c .before .loop .j) (blendsOf old) ≡ next-old c ∷ drop (c .before .loop .j + 1) (blendsOf old)
@@ -66,8 +67,8 @@ old-turn c lt = let s = c .before .before in blends-turn (s .args .t1) (c .befor
 next-proper : (c : tie.In-loop Inv-loop μ-loop) → let a = c .before .before .args in proper (a .w) (a .h) (next c) ≡ true
 next-proper c =
     let s = c .before .before in
-    all-at (proper (s .args .w) (s .args .h)) (blendsOf (s .args .t3)) (s .pre .2) (next c)
-    (left-mem (s .args .t3 .blends) (s .args .t3 .count) (c .before .loop .i) (omega (arith, s .pre .1, full s .2)) none (c .loop-test .taken))
+    all-at (proper (s .args .w) (s .args .h)) (blendsOf (s .args .t4)) (s .pre .2) (next c)
+    (left-mem (s .args .t4 .blends) (s .args .t4 .count) (c .before .loop .i) (omega (arith, s .pre .1, full s .2)) none (c .loop-test .taken))
 
 old-proper : (c : tie.In-loop Inv-loop μ-loop) → let a = c .before .before .args in c .before .loop .j < a .t1 .count → proper (a .w) (a .h) (next-old c) ≡ true
 old-proper c lt =
@@ -145,70 +146,78 @@ cast-carried c =
     (taken c) in
     omega (arith, is, reading-most (old .of) (valued s) (x .across .m - 1) (x .up .m - 1) u v)
 
--- the value of the next blend joins those in front
-fill : (c : tie.In-loop Inv-loop μ-loop) (v : ℕ) →
-    let a = c .before .before .args in
-    let l = c .before .loop in
-    let f = carried (blendsOf (a .t1)) (take (a .t1 .count) (a .t2)) in
-    v ≡ f (next c) → set (l .carried) (l .i) v ≡ map f (take (l .i + 1) (blendsOf (a .t3))) ++ replicate (1024 - (l .i + 1)) 0
-fill c v e =
+-- the place of the next new blend among the new ones
+next-new : (c : tie.In-loop Inv-loop μ-loop) → let new = c .before .before .args .t4 in
+    (c .before .loop .i < length (blendsOf new)) × (length (blendsOf new) ≤ 1024) × (getD (blendsOf new) (c .before .loop .i) none ≡ next c)
+next-new c =
     let s = c .before .before in
-    let l = c .before .loop in
-    let new = s .args .t3 in
+    let new = s .args .t4 in
     let long = length-take-le (new .count) (new .blends) (omega (arith, s .pre .1, full s .2)) in
-    rw (l .inv .2)
-    (fill-more (carried (blendsOf (s .args .t1)) (take (s .args .t1 .count) (s .args .t2))) (blendsOf new) (l .i) none (omega (
-      arith,
-      long,
-      c .loop-test .taken,
-    )) (omega (arith, long, s .pre .1)) v
-    (e ∙ rw (getD-take (new .count) (new .blends) (l .i) none (c .loop-test .taken))))
+    let lt = c .loop-test .taken in
+    (omega (arith, long, lt), omega (arith, long, s .pre .1), getD-take (new .count) (new .blends) (c .before .loop .i) none lt)
+
+-- the number of the next blend joins those in front
+fill : (c : tie.In-loop Inv-loop μ-loop) (f : Blend → ℕ) (xs : List ℕ) (v : ℕ) → let new = blendsOf (c .before .before .args .t4) in
+    xs ≡ filled f new (c .before .loop .i) → v ≡ f (next c) → set xs (c .before .loop .i) v ≡ filled f new (c .before .loop .i + 1)
+fill c f xs v is e =
+    let n = next-new c in
+    rw is (fill-more f (blendsOf (c .before .before .args .t4)) (c .before .loop .i) none (n .0) (n .1) v (e ∙ rw (n .2)))
 
 loop-again : tie.Need-loop-again Inv-loop μ-loop
+unfolding carried keptMark
 loop-again c =
     let t = c .before .before .before .before in
-    let s = c .before .before .before .before .before .before in
+    let s = t .before .before in
     let a = s .args in
-    let l = c .before .before .before .before .before .loop in
+    let l = t .before .loop in
     let grown = s .pre .3 in
     let lt = t .loop-test .taken in
+    let old = blendsOf (a .t1) in
     let vs = take (a .t1 .count) (a .t2) in
+    let ms = take (a .t1 .count) (a .t3) in
     ⊎-elim
     (λ w.
     let both = met (record { before = c .before; if2 = w .0 }) in
     let long = length-take-le (a .t1 .count) (a .t1 .blends) (omega (arith, few s, full s .0)) in
     let old-up = proper-facts (a .w) (a .h) (next-old t) (old-proper t (both .0)) .up in
     let sides = s .pre .0 .sides in
-    let value = carried-same (blendsOf (a .t1)) (grown .rising) vs (next t) (knots t .4) (l .j) (next-old t) _ (omega (arith, both .0, long)) (old-turn t
-    (both .0)) (both .1) (omega arith) in (
+    let same : (xs : List ℕ) (new : ℕ) → keptOr new old xs (next t) ≡ getD xs (l .j) 0 = λ xs new. kept-same old (grown .rising) xs new (next t) (knots t .4) (l .j) (next-old t) _ (omega (arith, both .0, long))
+    (old-turn t (both .0)) (both .1) (omega arith) in (
       omega arith,
-      omega (arith, w .2, both .0),
-      w .1 ∙ fill t _ (sym (getD-take (a .t1 .count) (a .t2) (l .j) 0 (both .0)) ∙ sym value),
-      rw (w .2) (walking-both _ _ grown (l .inv .3) (turn t) (old-turn t (both .0)) (both .1)),
+      omega (arith, w .3, both .0),
+      w .1 ∙ fill t (carried old vs) _ _ (l .inv .2) (sym (getD-take (a .t1 .count) (a .t2) (l .j) 0 (both .0)) ∙ sym (same vs _)),
+      w .2 ∙ fill t (keptMark old ms) _ _ (l .inv .3) (sym (getD-take (a .t1 .count) (a .t3) (l .j) 0 (both .0)) ∙ sym (same ms 0)),
+      rw (w .3) (walking-both _ _ grown (l .inv .4) (turn t) (old-turn t (both .0)) (both .1)),
     ))
     (λ w.
     let other = apart (record { before = c .before; if2 = w .0 }) in
     let reads = taken
     (record { before = record { before = record { before = record { before = c .before; if2 = w .0 }; wide = w .1 }; wide2 = w .2 }; reading-of = w .3 }) in
-    let value = carried-read (blendsOf (a .t1)) (grown .rising) vs (next t) (knots t .4) (none-old _ _ grown (l .inv .3) (turn t) other) in (
+    let none-there = none-old _ _ grown (l .inv .4) (turn t) other in
+    let new : (xs : List ℕ) (v : ℕ) → keptOr v old xs (next t) ≡ v = λ xs v. kept-none old (grown .rising) xs v (next t) (knots t .4) none-there in
+    let n = next-new t in (
       omega arith,
-      rw (w .5) (l .inv .1),
-      w .4 ∙ fill t _ (reads ∙ sym value),
-      rw (w .5) (walking-new _ _ grown (l .inv .3) (turn t) other),
+      rw (w .6) (l .inv .1),
+      w .4 ∙ fill t (carried old vs) _ _ (l .inv .2) (reads ∙ sym (new vs _)),
+      w .5 ∙ l .inv .3 ∙ fill-zero (keptMark old ms) (blendsOf (a .t4)) (l .i) none (n .0) (n .1) (rw (n .2) (new ms 0)),
+      rw (w .6) (walking-new _ _ grown (l .inv .4) (turn t) other),
     ))
     (c .if2 .came)
 
 returns : tie.Need-returns Inv-loop μ-loop
-unfolding carriedArray
+unfolding carriedArrays
 returns c =
     let l = c .before .loop in
     let s = c .before .before in
-    let new = s .args .t3 in
+    let new = s .args .t4 in
     let long = length-take-le (new .count) (new .blends) (omega (arith, s .pre .1, full s .2)) in
-    l .inv .2 ∙ fill-all _ (blendsOf new) (l .i) (omega (arith, long, c .loop-test .left))
+    let end : l .i ≡ length (blendsOf new) = omega (arith, long, c .loop-test .left) in
+    let values = l .inv .2 ∙ fill-all _ (blendsOf new) (l .i) end in
+    let marks = l .inv .3 ∙ fill-all _ (blendsOf new) (l .i) end in
+    λ k. record { values = values k; marks = marks k }
 
-pub carried-values-spec : {M : Type 1} → statement M
-carried-values-spec =
+pub carry-spec : {M : Type 1} → statement M
+carry-spec =
     tie.close
     (tie.spec
     Inv-loop
@@ -223,6 +232,8 @@ carried-values-spec =
     (λ c. let s = c .before .before .before .before .before .before in omega (arith, met c .0, few s))
     array-read-carried
     (λ c. let s = c .before .before .before .before .before .before in omega (arith, c .before .before .before .before .loop-test .taken, s .pre .1))
+    (λ c. let s = c .before .before .before .before .before .before in omega (arith, c .before .before .before .before .loop-test .taken, s .pre .1))
+    (λ c. let s = c .before .before .before .before .before .before in omega (arith, met c .0, few s, full s .3))
     (λ c. let s = c .before .before .before .before .before .before in omega (arith, c .before .before .before .before .loop-test .taken, s .pre .1))
     (λ c. let s = c .before .before .before .before .before .before in omega (arith, met c .0, few s))
     (λ c κs. search needs)
