@@ -5,6 +5,7 @@ pub mod Walking
 pub mod PairsTold
 pub mod ByEnds
 pub mod ByLines
+pub mod ByMarks
 pub mod Demand3
 pub mod ExactSums
 pub mod Following

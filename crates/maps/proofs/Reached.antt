@@ -1,26 +1,27 @@
 -- What holds of a map wherever a history is: it stays so through every call.
-use Prim.Native.Nat.{ℕ, zero, suc, _+_, _<_, _%_}
+use Prim.Native.Nat.{ℕ, _+_, _<_, _%_}
 use native.Mathlib.Omega.{arith}
 use native.Mathlib.Nat.{mod-lt}
 use mathlib.Core.Path.{_≡_, refl, sym, ap, _∙_}
-use mathlib.Core.Logic.{⊎-elim}
 use mathlib.Core.Bool.{Bool, true, false, cond}
-use mathlib.Core.List.{List, [], _∷_, _++_, append-assoc, append-nil, List·Memᴰ, List·Memᴰ·cases-cons, List·Memᴰ·not-nil}
+use mathlib.Core.List.{List, [], _∷_, _++_, append-assoc, append-nil, List·Memᴰ, Memᴰ·append-left}
 use borrow.Author.Tests.{eqb-true}
 use lib.Dec.{ltb, eqb}
-use lib.ListN.{length, replicate}
+use lib.ListN.{length, drop, take-append-drop}
 use Rattle.mesh.specs.declared.Split.{Split}
-use Rattle.mesh.specs.Lines.{allowedSide}
+use Rattle.mesh.specs.Lines.{allowedSide, layoutOf}
+use Rattle.maps.specs.declared.Map.{Map}
 use Rattle.maps.specs.Plain.{Plain, freshPlain, blends}
 use Rattle.maps.specs.Values.{placeOf, drawn}
-use Rattle.mesh.specs.Splits.{given, exactNumber}
+use Rattle.mesh.specs.Splits.{given, liveOf, exactNumber}
 use Rattle.mesh.specs.Lengthening.{chosen}
-use Rattle.maps.specs.Record.{good}
+use Rattle.maps.specs.Record.{Held, plain, good}
 use Rattle.maps.specs.Calls.{setPlain}
 use Rattle.maps.specs.Histories.{Call, set, exact, lengthened, place, reads, weighs, alongRow, alongColumn, sameAs, Outcome, firstDrawn, byMachine, ending}
 use Rattle.maps.specs.Demand.{Start, fresh, lineBy, linesBy}
+use Rattle.axis.proofs.Members.{placed}
 use Rattle.mesh.proofs.Passing.{exact-says}
-use Rattle.maps.proofs.GoodRecords.{Holds, zeros, fresh-holds, set-holds, drawn-holds}
+use Rattle.maps.proofs.GoodRecords.{Holds, good-facts, zeros, fresh-holds, set-holds, drawn-holds}
 use Rattle.mesh.proofs.Accepted.{replays-sides, replays-stands, replays-sound}
 use Rattle.maps.proofs.Readings.{Valued, set-valued, drawn-valued}
 use Rattle.mesh.proofs.ChosenLine.{chosen-exact}
@@ -46,6 +47,16 @@ holds-reached P holds small =
             small = small;
           };
     }
+
+-- as in what a good record holds;
+pub good-reached : (m : Map) → Held m → good m ≡ true → Reached (plain m)
+unfolding plain
+good-reached m held g =
+    let k = length (liveOf (layoutOf (m .lines))) in
+    holds-reached (plain m) (good-facts m (held .full) g .holds)
+    (λ v i.
+    let p = placed (m .values) v 0 (rw (take-append-drop k (m .values)) at (Memᴰ·append-left (drop k (m .values)) i)) in
+    rw (← p .2) (held .small (p .0)))
 
 -- in a fresh map they are 0.
 pub fresh-reached : (w h : ℕ) → allowedSide w ≡ true → allowedSide h ≡ true → Reached (freshPlain w h)

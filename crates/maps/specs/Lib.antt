@@ -12,3 +12,4 @@ pub mod Demand
 pub mod Inner
 pub mod ByWeights
 pub mod ByLines
+pub mod ByMarks

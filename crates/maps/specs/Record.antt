@@ -1,10 +1,10 @@
 -- Document 01, "Values, readings, splits": the record of a map, and when it is good.
-use Prim.Native.Nat.{ℕ, _-_}
+use Prim.Native.Nat.{ℕ, _-_, _<_}
 use mathlib.Core.Path.{_≡_}
 use mathlib.Core.Bool.{Bool, _&&_}
 use mathlib.Core.List.{_++_}
 use lib.Dec.{leb, eqb}
-use lib.ListN.{length, take, drop, replicate}
+use lib.ListN.{length, getD, take, drop, replicate}
 use Rattle.axis.specs.Limits.{mostSplits, mostBlends}
 use Rattle.axis.specs.Range.{all}
 use Rattle.mesh.specs.declared.Split.{Split}
@@ -51,6 +51,11 @@ pub record Full (m : Map) : Type 0 where
   pub splits : length (m .lines .splits) ≡ mostSplits
   pub values : length (m .values) ≡ mostBlends
   pub marks : length (m .marks) ≡ mostBlends
+
+-- and its values are 16-bit numbers
+pub record Held (m : Map) : Type 0 where
+  pub full : Full m
+  pub small : (i : ℕ) → getD (m .values) i 0 < 65536
 
 -- what the record holds: its values and marks are as many as its blends
 unfoldable pub plain : Map → Plain
