@@ -1,6 +1,7 @@
 pub mod Tests
 pub mod Members
 pub mod Entries
+pub mod Beside
 pub mod Distinct
 pub mod Counts
 pub mod Runs

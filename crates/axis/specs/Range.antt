@@ -53,6 +53,12 @@ abbrev pub joined {ℓ ℓ′} : {A : Type ℓ} {B : Type ℓ′} → (A → Lis
 joined f [] = []
 joined f (x ∷ xs) = f x ++ joined f xs
 
+-- two lists side by side: what their entries make, as long as both have one
+abbrev pub beside {ℓ ℓ′ ℓ″} : {A : Type ℓ} {B : Type ℓ′} {C : Type ℓ″} → (A → B → C) → List A → List B → List C
+beside f [] ys = []
+beside f (x ∷ xs) [] = []
+beside f (x ∷ xs) (y ∷ ys) = f x y ∷ beside f xs ys
+
 -- whether two lists agree entry by entry, by a test of two entries
 abbrev pub agree {ℓ} : {A : Type ℓ} → (A → A → Bool) → List A → List A → Bool
 agree test [] [] = true

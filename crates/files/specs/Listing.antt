@@ -6,11 +6,11 @@ use lib.Dec.{ltb, eqb}
 use lib.ListN.{length}
 use Rattle.axis.specs.declared.Triple.{Triple}
 use Rattle.axis.specs.Range.{joined}
-use Rattle.mesh.specs.Weight.{Term}
 use Rattle.maps.specs.Plain.{Plain, blends}
 use Rattle.maps.specs.Record.{plain}
 use Rattle.maps.specs.Values.{paired}
 use Rattle.files.specs.declared.Written.{Written}
+use Rattle.files.specs.File.{TableEntry, entriesOf}
 use Rattle.files.specs.Calls.{ifRefused, shortOf, answered, counted, readFile}
 
 -- A number in base ten, the highest digit first. The first argument bounds how many digits may follow: no more than the number counts.
@@ -36,12 +36,16 @@ numberLine n = digits n ++ (10 ∷ [])
 unfoldable pub knots : Triple → List ℕ
 knots t = spaced (t .l) ++ spaced (t .m) ++ spaced (t .r)
 
-unfoldable pub line : Term → List ℕ
-line t = knots (t .of .across) ++ knots (t .of .up) ++ numberLine (t .multiple)
+-- document 02, L5: "the table program prints it after the value"
+unfoldable pub valueLine : ℕ → ℕ → List ℕ
+valueLine value mark = digits value ++ (32 ∷ []) ++ numberLine mark
+
+unfoldable pub line : TableEntry → List ℕ
+line e = knots (e .term .of .across) ++ knots (e .term .of .up) ++ valueLine (e .term .multiple) (e .mark)
 
 -- "It prints the number of blends", then a line for each
 abbrev pub tableText : Plain → List ℕ
-tableText P = numberLine (length (blends P)) ++ joined line (paired (blends P) (P .values))
+tableText P = numberLine (length (blends P)) ++ joined line (entriesOf (paired (blends P) (P .values)) (P .marks))
 
 -- this many bytes hold every such text: `text-most`
 abbrev pub largestText : ℕ

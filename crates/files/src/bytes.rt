@@ -14,7 +14,7 @@ pub(crate) fn word_at(bytes: &[u8], at: usize) -> usize
     wide(bytes[at]) + 256 * wide(bytes[at + 1])
 }
 
-fn wide(x: u8) -> usize
+pub(crate) fn wide(x: u8) -> usize
     ensures { λ r. ⌜ (r ≡ x) × (r < 256) ⌝ }
 {
     x as usize

@@ -5,10 +5,12 @@ mod put;
 mod take;
 
 use crate::bytes::put_words;
+use crate::bytes::wide;
 use crate::put::put_split;
 use crate::put::put_value;
 use crate::take::count_splits;
 use crate::take::equal;
+use crate::take::is_old;
 use crate::take::taken;
 use maps::Changed;
 use maps::Map;
@@ -21,14 +23,19 @@ ghost use Rattle.maps.specs.Plain.{freshPlain};
 ghost use Rattle.maps.specs.Record.{recordOf};
 ghost use Rattle.maps.specs.Calls.{changed};
 ghost use Rattle.maps.specs.Opened.{withTable, Opens};
-ghost use Rattle.files.specs.Calls.{written, after, readFile};
+ghost use mathlib.Core.Bool.{cond};
+ghost use Rattle.files.specs.File.{valueSize};
+ghost use Rattle.files.specs.Calls.{written, after, writtenIn, afterIn, readFile};
 
-// The bytes of a record of each kind, its length and kind among them; of the head and the tail together; and of the largest file.
+// The bytes of a record of each kind, its length and kind among them, of a value with its mark and, in an old file, without; of the head and the tail
+// together; and of the largest file.
 pub(crate) const HEAD: usize = 8;
 
 pub(crate) const SPLIT: usize = 12;
 
-pub(crate) const VALUE: usize = 10;
+pub(crate) const VALUE: usize = 12;
+
+pub(crate) const OLD_VALUE: usize = 10;
 
 pub(crate) const ENDS: usize = HEAD + 4;
 
@@ -51,21 +58,33 @@ pub fn write(map: Map, buffer: &mut [u8]) -> Written
             length: 0,
         };
     }
-    write_opened(opened, buffer)
+    write_opened(opened, false, buffer)
 }
 
-fn wide(x: u16) -> usize
+fn litres(x: u16) -> usize
     ensures { λ r. ⌜ r ≡ x ⌝ }
 {
     x as usize
 }
 
-// The rest of `write`, after the record is opened. It takes `o` apart itself: each array that is passed on by value is copied again.
-pub fn write_opened(o: Opened, buffer: &mut [u8]) -> Written
-    requires { ⌜ Opens o ⌝ }
-    ensures { λ r. ⌜ (r ≡ written (o .map) (now (buffer .entry))) × (now (buffer .exit) ≡ after (o .map) (now (buffer .entry))) ⌝ }
+// The bytes of a value's record in an old file, or in another.
+fn value_size(old: bool) -> usize
+    ensures { λ r. ⌜ r ≡ valueSize old ⌝ }
 {
-    let length = ENDS + SPLIT * o.map.lines.count + VALUE * o.table.count;
+    if old {
+        return OLD_VALUE;
+    }
+    VALUE
+}
+
+// The rest of `write`, after the record is opened; in the form of an old file only for who compares with one. It takes `o` apart itself: each array that is
+// passed on by value is copied again.
+pub fn write_opened(o: Opened, old: bool, buffer: &mut [u8]) -> Written
+    requires { ⌜ Opens o ⌝ }
+    ensures { λ r. ⌜ (r ≡ writtenIn old (o .map) (now (buffer .entry))) × (now (buffer .exit) ≡ afterIn old (o .map) (now (buffer .entry))) ⌝ }
+{
+    let size = value_size(old);
+    let length = ENDS + SPLIT * o.map.lines.count + size * o.table.count;
     if buffer.len() < length {
         return Written {
             number: 12,
@@ -75,6 +94,7 @@ pub fn write_opened(o: Opened, buffer: &mut [u8]) -> Written
     // The borrow checker covers an element of a local's field, not of a field of a field.
     let lines = o.map.lines;
     let values = o.map.values;
+    let marks = o.map.marks;
     let table = o.table;
     let head = [6, 1, lines.w, lines.h];
     put_words(buffer, 0, &head);
@@ -88,17 +108,20 @@ pub fn write_opened(o: Opened, buffer: &mut [u8]) -> Written
     let mut j = 0;
     while j < table.count {
         let blend = table.blends[j];
-        let value = wide(values[j]);
+        let value = litres(values[j]);
+        let mark = wide(marks[j]);
         put_value(
             buffer,
-            at + VALUE * j,
+            at + size * j,
+            old,
             blend.across.m - 1,
             blend.up.m - 1,
             value,
+            mark,
         );
         j += 1;
     }
-    let end = at + VALUE * table.count;
+    let end = at + size * table.count;
     let last = [2, 4];
     put_words(buffer, end, &last);
     Written {
@@ -116,7 +139,7 @@ fn refused() -> Opened
     opened
 }
 
-// The map whose file the bytes are: refused with 11.
+// The map whose file, or old file, the bytes are: refused with 11.
 pub fn read(bytes: &[u8]) -> Changed
     ensures { λ r. ⌜ r ≡ readFile (now (bytes .entry)) ⌝ }
 {
@@ -129,7 +152,7 @@ pub fn read(bytes: &[u8]) -> Changed
 }
 
 // `read`, with the map opened, so that its record is not replayed again for a call on it. The numbers at a file's places make a
-// map; the bytes are its file where writing it gives the same bytes.
+// map; the bytes are its file where writing it, in the form that their first value has, gives the same bytes.
 pub fn read_opened(bytes: &[u8]) -> Opened
     ensures { λ r. ⌜ r ≡ withTable (readFile (now (bytes .entry))) ⌝ }
 {
@@ -142,17 +165,19 @@ pub fn read_opened(bytes: &[u8]) -> Opened
     if length < used {
         return refused();
     }
-    let places = (length - used) / VALUE;
+    let old = is_old(bytes, count);
+    let size = value_size(old);
+    let places = (length - used) / size;
     if Table::MOST_BLENDS < places {
         return refused();
     }
-    let map = taken(bytes, count, places);
+    let map = taken(bytes, count, places, old, size);
     let opened = open(map);
     if opened.number != 0 {
         return refused();
     }
     let mut buffer = [0u8; LARGEST_FILE];
-    let file = write_opened(opened, &mut buffer);
+    let file = write_opened(opened, old, &mut buffer);
     if file.number != 0 {
         return refused();
     }

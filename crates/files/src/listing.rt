@@ -1,5 +1,6 @@
 // The table of a map file as text: what the table program prints.
 use crate::Written;
+use crate::bytes::wide;
 use crate::read_opened;
 use axis::Triple;
 use axis::knots;
@@ -14,14 +15,14 @@ ghost use lib.ListN.{length};
 ghost use Rattle.mesh.specs.Sound.{Proper};
 ghost use Rattle.maps.specs.Record.{plain};
 ghost use Rattle.maps.specs.Opened.{Opens};
-ghost use Rattle.files.specs.Inner.{WellFormed, Puts, textFrom};
+ghost use Rattle.files.specs.Inner.{WellFormed, Puts, entryOf, textFrom};
 ghost use Rattle.files.specs.Calls.{shortOf, counted, answered};
-ghost use Rattle.files.specs.Listing.{digits, coordinate, spaced, numberLine, knots, line, tableText, textWritten, textAfter};
+ghost use Rattle.files.specs.Listing.{digits, coordinate, spaced, numberLine, knots, valueLine, line, tableText, textWritten, textAfter};
 
 // This many bytes hold every text, and this many every line.
 pub const LARGEST_TEXT: usize = 65536;
 
-const LONGEST_LINE: usize = 42;
+const LONGEST_LINE: usize = 46;
 
 // The byte of a number's last digit.
 fn digit(n: usize) -> u8
@@ -92,54 +93,70 @@ fn put_knots(out: &mut [u8], at: usize, triple: Triple) -> usize
     put_spaced(out, third, triple.r)
 }
 
-// Puts the line of a blend and its value.
-fn put_line(out: &mut [u8], at: usize, blend: Blend, value: usize) -> usize
-    requires { ⌜ at + length (line (record { multiple = value; of = blend })) ≤ length (now out) ⌝ }
-    ensures { λ r. ⌜ Puts (now (out .entry)) at (line (record { multiple = value; of = blend })) (now (out .exit)) r ⌝ }
+// Puts a value, its mark and the end of their line.
+fn put_value_line(out: &mut [u8], at: usize, value: usize, mark: usize) -> usize
+    requires { ⌜ at + length (valueLine value mark) ≤ length (now out) ⌝ }
+    ensures { λ r. ⌜ Puts (now (out .entry)) at (valueLine value mark) (now (out .exit)) r ⌝ }
+{
+    let second = put_digits(out, at, value);
+    let third = put_byte(out, second, b' ');
+    put_number_line(out, third, mark)
+}
+
+// Puts the line of a blend, its value and its mark.
+fn put_line(out: &mut [u8], at: usize, blend: Blend, value: usize, mark: usize) -> usize
+    requires { ⌜ at + length (line (entryOf blend value mark)) ≤ length (now out) ⌝ }
+    ensures { λ r. ⌜ Puts (now (out .entry)) at (line (entryOf blend value mark)) (now (out .exit)) r ⌝ }
 {
     let across = blend.across;
     let up = blend.up;
     let second = put_knots(out, at, across);
     let third = put_knots(out, second, up);
-    put_number_line(out, third, value)
+    put_value_line(out, third, value, mark)
 }
 
-fn wide(x: u16) -> usize
+fn litres(x: u16) -> usize
     ensures { λ r. ⌜ (r ≡ x) × (r < 65536) ⌝ }
 {
     x as usize
 }
 
 // Puts the number of a table's blends, then a line for each.
-fn put_table(out: &mut [u8], table: Table, values: [u16; Table::MOST_BLENDS]) -> usize
-    requires { ⌜ WellFormed table × (length (textFrom table values) ≤ length (now out)) ⌝ }
-    ensures { λ r. ⌜ Puts (now (out .entry)) 0 (textFrom table values) (now (out .exit)) r ⌝ }
+fn put_table(
+    out: &mut [u8],
+    table: Table,
+    values: [u16; Table::MOST_BLENDS],
+    marks: [u8; Table::MOST_BLENDS],
+) -> usize
+    requires { ⌜ WellFormed table × (length (textFrom table values marks) ≤ length (now out)) ⌝ }
+    ensures { λ r. ⌜ Puts (now (out .entry)) 0 (textFrom table values marks) (now (out .exit)) r ⌝ }
 {
     let count = table.count;
     let mut at = put_number_line(out, 0, count);
     let mut i = 0;
     while i < count {
         let blend = table.blends[i];
-        let value = wide(values[i]);
-        at = put_line(out, at, blend, value);
+        let value = litres(values[i]);
+        let mark = wide(marks[i]);
+        at = put_line(out, at, blend, value, mark);
         i += 1;
     }
     at
 }
 
-// How many bytes the line of a blend and its value has: it is put into bytes of its own.
-fn line_size(blend: Blend, value: usize) -> usize
-    requires { ⌜ Proper blend × (value < 65536) ⌝ }
-    ensures { λ r. ⌜ r ≡ length (line (record { multiple = value; of = blend })) ⌝ }
+// How many bytes the line of a blend, its value and its mark has: it is put into bytes of its own.
+fn line_size(blend: Blend, value: usize, mark: usize) -> usize
+    requires { ⌜ Proper blend × (value < 65536) × (mark < 256) ⌝ }
+    ensures { λ r. ⌜ r ≡ length (line (entryOf blend value mark)) ⌝ }
 {
     let mut bytes = [0u8; LONGEST_LINE];
-    put_line(&mut bytes, 0, blend, value)
+    put_line(&mut bytes, 0, blend, value, mark)
 }
 
 // How many bytes the text of a table has.
-fn text_size(table: Table, values: [u16; Table::MOST_BLENDS]) -> usize
+fn text_size(table: Table, values: [u16; Table::MOST_BLENDS], marks: [u8; Table::MOST_BLENDS]) -> usize
     requires { ⌜ WellFormed table ⌝ }
-    ensures { λ r. ⌜ r ≡ length (textFrom table values) ⌝ }
+    ensures { λ r. ⌜ r ≡ length (textFrom table values marks) ⌝ }
 {
     let count = table.count;
     let mut bytes = [0u8; LONGEST_LINE];
@@ -147,22 +164,28 @@ fn text_size(table: Table, values: [u16; Table::MOST_BLENDS]) -> usize
     let mut i = 0;
     while i < count {
         let blend = table.blends[i];
-        let value = wide(values[i]);
-        size += line_size(blend, value);
+        let value = litres(values[i]);
+        let mark = wide(marks[i]);
+        size += line_size(blend, value, mark);
         i += 1;
     }
     size
 }
 
 // Whether so many bytes hold the text of a table. It is measured only where they may be too few.
-fn fits(table: Table, values: [u16; Table::MOST_BLENDS], room: usize) -> bool
+fn fits(
+    table: Table,
+    values: [u16; Table::MOST_BLENDS],
+    marks: [u8; Table::MOST_BLENDS],
+    room: usize,
+) -> bool
     requires { ⌜ WellFormed table ⌝ }
-    ensures { λ r. ⌜ r ≡ leb (length (textFrom table values)) room ⌝ }
+    ensures { λ r. ⌜ r ≡ leb (length (textFrom table values marks)) room ⌝ }
 {
     if LARGEST_TEXT <= room {
         return true;
     }
-    text_size(table, values) <= room
+    text_size(table, values, marks) <= room
 }
 
 // The rest of `list`, on the map that is read.
@@ -173,14 +196,15 @@ fn list_opened(o: Opened, out: &mut [u8]) -> Written
 {
     let map = o.map;
     let values = map.values;
+    let marks = map.marks;
     let table = o.table;
-    if !fits(table, values, out.len()) {
+    if !fits(table, values, marks, out.len()) {
         return Written {
             number: 12,
             length: 0,
         };
     }
-    let length = put_table(out, table, values);
+    let length = put_table(out, table, values, marks);
     Written {
         number: 0,
         length: length,

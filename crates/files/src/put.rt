@@ -17,11 +17,16 @@ pub(crate) fn put_split(bytes: &mut [u8], at: usize, split: Split)
     put_words(bytes, at, &words);
 }
 
-// Puts the entry of a value at an anchor.
-pub(crate) fn put_value(bytes: &mut [u8], at: usize, m: u8, n: u8, value: usize)
-    requires { ⌜ at + valueSize ≤ length (now bytes) ⌝ }
-    ensures { λ _. ⌜ now (bytes .exit) ≡ put (now (bytes .entry)) at (valueNumbers m n value) ⌝ }
+// Puts the entry of a value at an anchor, with its mark or, in an old file, without.
+pub(crate) fn put_value(bytes: &mut [u8], at: usize, old: bool, m: u8, n: u8, value: usize, mark: usize)
+    requires { ⌜ at + valueSize old ≤ length (now bytes) ⌝ }
+    ensures { λ _. ⌜ now (bytes .exit) ≡ put (now (bytes .entry)) at (valueNumbers old m n value mark) ⌝ }
 {
-    let words = [8, 3, knots::wide(m), knots::wide(n), value];
+    if old {
+        let words = [8, 3, knots::wide(m), knots::wide(n), value];
+        put_words(bytes, at, &words);
+        return;
+    }
+    let words = [10, 5, knots::wide(m), knots::wide(n), value, mark];
     put_words(bytes, at, &words);
 }

@@ -9,13 +9,14 @@ use mesh::Split;
 use mesh::Table;
 ghost use mathlib.Core.Path.{_≡_};
 ghost use mathlib.Core.List.{[], _∷_, _++_};
+ghost use mathlib.Core.Bool.{cond};
 ghost use Prim.Native.Nat.{_+_, _-_, _*_, _/_, _≤_};
 ghost use lib.Dec.{eqb};
-ghost use lib.ListN.{length, replicate};
+ghost use lib.ListN.{length, getD, replicate};
 ghost use Rattle.axis.specs.Limits.{mostSplits, mostBlends};
 ghost use Rattle.axis.specs.Range.{each, agree};
 ghost use Rattle.maps.specs.Record.{noSplit, recordOf};
-ghost use Rattle.files.specs.File.{headSize, splitSize, valueSize, endsSize, wordAt, splitCount, splitAt, guessed};
+ghost use Rattle.files.specs.File.{headSize, splitSize, valueSize, endsSize, wordAt, splitCount, splitAt, isOld, guessed};
 
 // How many splits stand in a row after the head.
 pub(crate) fn count_splits(bytes: &[u8]) -> usize
@@ -34,6 +35,14 @@ pub(crate) fn count_splits(bytes: &[u8]) -> usize
         n += 1;
     }
     n
+}
+
+// Whether the first record after the splits is a value without a mark, as in an old file.
+pub(crate) fn is_old(bytes: &[u8], count: usize) -> bool
+    requires { ⌜ (count ≡ splitCount (now bytes) headSize mostSplits) × (endsSize + splitSize * count ≤ length (now bytes)) ⌝ }
+    ensures { λ r. ⌜ r ≡ isOld (now (bytes .entry)) ⌝ }
+{
+    word_at(bytes, HEAD + SPLIT * count + 2) == 3
 }
 
 // The split at a byte place.
@@ -69,31 +78,50 @@ fn take_splits(bytes: &[u8], count: usize) -> [Split; Map::MOST_SPLITS]
     splits
 }
 
-// The values of entries that stand in a row from a place on, in an array.
-fn take_values(bytes: &[u8], at: usize, count: usize) -> [u16; Table::MOST_BLENDS]
-    requires { ⌜ (count ≤ mostBlends) × (at + valueSize * count ≤ length (now bytes)) ⌝ }
-    ensures { λ r. ⌜ r ≡ each 0 count (λ i. wordAt (now (bytes .entry)) (at + valueSize * i + 8) ∷ []) ++ replicate (mostBlends - count) 0 ⌝ }
+// The values of entries of one size that stand in a row from a place on, in an array.
+fn take_values(bytes: &[u8], at: usize, count: usize, size: usize) -> [u16; Table::MOST_BLENDS]
+    requires { ⌜ (count ≤ mostBlends) × (10 ≤ size) × (at + size * count ≤ length (now bytes)) ⌝ }
+    ensures { λ r. ⌜ r ≡ each 0 count (λ i. wordAt (now (bytes .entry)) (at + size * i + 8) ∷ []) ++ replicate (mostBlends - count) 0 ⌝ }
 {
     let mut values = [0u16; Table::MOST_BLENDS];
     let mut i = 0;
     while i < count {
-        values[i] = word_at(bytes, at + VALUE * i + 8) as u16;
+        values[i] = word_at(bytes, at + size * i + 8) as u16;
         i += 1;
     }
     values
 }
 
+// The low bytes of their marks, in an array; zeros where the file is an old one.
+fn take_marks(bytes: &[u8], at: usize, count: usize, old: bool) -> [u8; Table::MOST_BLENDS]
+    requires { ⌜ (count ≤ mostBlends) × (at + valueSize old * count ≤ length (now bytes)) ⌝ }
+    ensures { λ r. ⌜ r ≡ cond old (replicate count 0) (each 0 count (λ i. getD (now (bytes .entry)) (at + valueSize old * i + 10) 0 ∷ [])) ++
+        replicate (mostBlends - count) 0 ⌝ }
+{
+    let mut marks = [0u8; Table::MOST_BLENDS];
+    if old {
+        return marks;
+    }
+    let mut i = 0;
+    while i < count {
+        marks[i] = bytes[at + VALUE * i + 10];
+        i += 1;
+    }
+    marks
+}
+
 // The map that the numbers at a file's places make.
-pub(crate) fn taken(bytes: &[u8], count: usize, places: usize) -> Map
-    requires { ⌜ (count ≡ splitCount (now bytes) headSize mostSplits) × (places ≡ (length (now bytes) - endsSize - splitSize * count) / valueSize) ×
-        (places ≤ mostBlends) × (endsSize + splitSize * count ≤ length (now bytes)) ⌝ }
+pub(crate) fn taken(bytes: &[u8], count: usize, places: usize, old: bool, size: usize) -> Map
+    requires { ⌜ (count ≡ splitCount (now bytes) headSize mostSplits) × (places ≡ (length (now bytes) - endsSize - splitSize * count) / size) ×
+        (places ≤ mostBlends) × (endsSize + splitSize * count ≤ length (now bytes)) × (old ≡ isOld (now bytes)) × (size ≡ valueSize old) ⌝ }
     ensures { λ r. ⌜ r ≡ recordOf (guessed (now (bytes .entry))) ⌝ }
 {
     let w = word_at(bytes, 4);
     let h = word_at(bytes, 6);
     let splits = take_splits(bytes, count);
     let at = HEAD + SPLIT * count;
-    let values = take_values(bytes, at, places);
+    let values = take_values(bytes, at, places, size);
+    let marks = take_marks(bytes, at, places, old);
     Map {
         lines: Lines {
             w: w,
@@ -102,6 +130,7 @@ pub(crate) fn taken(bytes: &[u8], count: usize, places: usize) -> Map
             splits: splits,
         },
         values: values,
+        marks: marks,
     }
 }
 

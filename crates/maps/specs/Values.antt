@@ -6,7 +6,7 @@ use lib.Dec.{leb, ltb}
 use lib.ListN.{length, getD}
 use Rattle.mesh.specs.declared.Split.{Split}
 use Rattle.mesh.specs.declared.Blend.{Blend}
-use Rattle.axis.specs.Range.{only}
+use Rattle.axis.specs.Range.{only, beside}
 use Rattle.axis.specs.Fraction.{Fraction}
 use Rattle.axis.specs.Gap.{corner, gap, share}
 use Rattle.mesh.specs.Blends.{anchored}
@@ -16,10 +16,11 @@ use Rattle.mesh.specs.Weight.{Term, value}
 use Rattle.maps.specs.Plain.{Plain, blends}
 
 -- each blend with its value: the map as a sum of multiples of its blends
+abbrev pub term : Blend → ℕ → Term
+term B v = record { multiple = v; of = B }
+
 abbrev pub paired : List Blend → List ℕ → List Term
-paired [] vs = []
-paired (B ∷ bs) [] = []
-paired (B ∷ bs) (v ∷ vs) = record { multiple = v; of = B } ∷ paired bs vs
+paired bs vs = beside term bs vs
 
 -- "rounded down"
 abbrev pub rounded : Fraction → ℕ
