@@ -3,11 +3,16 @@ use Prim.Native.Nat.{ℕ, zero, suc, _-_, _≤_}
 use native.Mathlib.Omega.{arith}
 use mathlib.Core.Path.{_≡_, refl, ap, _∙_}
 use mathlib.Core.Bool.{Bool, true}
-use mathlib.Core.List.{List, [], _∷_, _++_}
+use mathlib.Core.Logic.{⊎-elim}
+use mathlib.Core.List.{List, [], _∷_, _++_, List·Memᴰ, List·Memᴰ·cases-cons, List·Memᴰ·not-nil}
 use lib.ListN.{length, take, drop, length-drop, take-append-drop, replicate}
 use lib.Seq.{length-take-le}
 use Rattle.axis.specs.Range.{all}
 use Rattle.axis.proofs.Tests.{and-both, and-of}
+
+pub copies : {A : Type 0} (d : A) (n : ℕ) (x : A) → List·Memᴰ x (replicate n d) → x ≡ d
+copies d zero x m = absurd (List·Memᴰ·not-nil m)
+copies d (suc n) x m = ⊎-elim (λ e. e) (copies d n x) (List·Memᴰ·cases-cons m)
 
 module _ {ℓ} {A : Type ℓ} (test : A → Bool) (d : A) where
   pub padding-passes : test d ≡ true → (n : ℕ) → all test (replicate n d) ≡ true
@@ -15,7 +20,7 @@ module _ {ℓ} {A : Type ℓ} (test : A → Bool) (d : A) where
   padding-passes e (suc n) = and-of _ _ e (padding-passes e n)
 
   module _ (only-d : (x : A) → test x ≡ true → x ≡ d) where
-    all-padding : (xs : List A) → all test xs ≡ true → xs ≡ replicate (length xs) d
+    pub all-padding : (xs : List A) → all test xs ≡ true → xs ≡ replicate (length xs) d
     all-padding [] e = refl
     all-padding (x ∷ xs) e =
         let a = and-both (test x) (all test xs) e in

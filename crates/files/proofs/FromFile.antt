@@ -2,23 +2,26 @@
 use Prim.Native.Nat.{ℕ, _<_}
 use native.Mathlib.Omega.{arith}
 use mathlib.Core.Path.{_≡_, refl, sym, ap, subst, _∙_}
-use mathlib.Core.List.{List, [], _∷_, _++_, map, append-assoc, List·Memᴰ}
-use lib.ListN.{length, length-append}
+use mathlib.Core.List.{List, [], _∷_, _++_, map, map-append, append-assoc, List·Memᴰ}
+use lib.ListN.{length, replicate, length-append, length-replicate}
 use Rattle.mesh.specs.declared.Blend.{Blend}
 use Rattle.maps.specs.declared.Map.{Map}
 use Rattle.maps.specs.Plain.{Plain, freshPlain, blends}
-use Rattle.maps.specs.Values.{paired}
+use Rattle.maps.specs.Values.{term, paired}
 use Rattle.maps.specs.Record.{recordOf, plain}
 use Rattle.maps.specs.Histories.{Call, exact, Outcome, byLibrary, byMachine, outcomes, ending}
 use Rattle.maps.specs.Demand.{leftBy, DemandFrom}
+use Rattle.maps.specs.ByMarks.{withoutMarks, butMarks, SameLists}
+use Rattle.axis.proofs.Padding.{copies}
 use Rattle.maps.proofs.Readings.{Valued}
 use Rattle.maps.proofs.Reached.{Reached, holds-reached, fresh-reached, Leads, ending-leads}
 use Rattle.maps.proofs.Rebuilding.{AcceptedTo, accepted-join, accepted-ends, accepted-more, library-accepts, ending-join, outcomes-join, withValues, splits-drawn, value-set}
 use Rattle.maps.proofs.Demand3.{both-tabled, both-lined, reached-demand, demand-three}
 use Rattle.maps.proofs.Following.{ending-follows}
+use Rattle.maps.proofs.ByMarks.{same-lists}
 use Rattle.files.specs.File.{guessed}
 use Rattle.files.specs.Calls.{readFile}
-use Rattle.files.specs.FromFile.{readPlain, setting, fileCalls, AllAccepted, FromFile, AnyCall, onMap, writes, payloads, AmongFiles}
+use Rattle.files.specs.FromFile.{readPlain, setting, fileCalls, measured, AllAccepted, FromFile, AnyCall, onMap, writes, payloads, AmongFiles}
 use Rattle.files.proofs.RoundTrip.{accepted-file}
 use Rattle.files.proofs.ReadMaps.{told-held, guessed-holds, guessed-small}
 use Rattle.mesh.specs.Lines.{layout}
@@ -40,23 +43,25 @@ read-demand bytes e = reached-demand (readPlain bytes) (read-reached bytes e)
 
 -- Setting the values of a table in order leaves those values, whatever stood there.
 module _ (P : Plain) (valued : Valued P) where
-  values-set : (bs done : List Blend) (us ws vs : List ℕ) → blends P ≡ done ++ bs → length us ≡ length done →
-      length ws ≡ length bs → length vs ≡ length bs → ((v : ℕ) → List·Memᴰ v vs → v < 65536) →
-      AcceptedTo (withValues P (us ++ ws)) (map setting (paired bs vs)) (withValues P (us ++ vs))
-  values-set [] done us [] [] is full a b small = refl
-  values-set [] done us [] (v ∷ vs) is full a b small = absurd (omega arith)
-  values-set [] done us (w ∷ ws) vs is full a b small = absurd (omega arith)
-  values-set (B ∷ bs) done us [] vs is full a b small = absurd (omega arith)
-  values-set (B ∷ bs) done us (w ∷ ws) [] is full a b small = absurd (omega arith)
-  values-set (B ∷ bs) done us (w ∷ ws) (v ∷ vs) is full a b small =
+  values-set : (bs done : List Blend) (us ws vs ks ms : List ℕ) → blends P ≡ done ++ bs → length us ≡ length done → length ks ≡ length done →
+      length ws ≡ length bs → length vs ≡ length bs → length ms ≡ length bs → ((v : ℕ) → List·Memᴰ v vs → v < 65536) →
+      AcceptedTo (withValues P (us ++ ws) (ks ++ ms)) (map setting (paired bs vs)) (withValues P (us ++ vs) (ks ++ replicate (length bs) 1))
+  values-set [] done us [] [] ks [] is full f a b c small = refl
+  values-set [] done us [] [] ks (m ∷ ms) is full f a b c small = absurd (omega arith)
+  values-set [] done us [] (v ∷ vs) ks ms is full f a b c small = absurd (omega arith)
+  values-set [] done us (w ∷ ws) vs ks ms is full f a b c small = absurd (omega arith)
+  values-set (B ∷ bs) done us [] vs ks ms is full f a b c small = absurd (omega arith)
+  values-set (B ∷ bs) done us (w ∷ ws) [] ks ms is full f a b c small = absurd (omega arith)
+  values-set (B ∷ bs) done us (w ∷ ws) (v ∷ vs) ks [] is full f a b c small = absurd (omega arith)
+  values-set (B ∷ bs) done us (w ∷ ws) (v ∷ vs) ks (m ∷ ms) is full f a b c small =
       let rest =
-      values-set bs (done ++ B ∷ []) (us ++ v ∷ []) ws vs (is ∙ sym (append-assoc done (B ∷ []) bs)) (simp length-append (omega arith))
-      (omega arith) (omega arith) (λ x m. small x (List·Memᴰ.List·Memᴰ·tail m)) in
-      accepted-more (setting (record { multiple = v; of = B })) (map setting (paired bs vs)) (withValues P (us ++ w ∷ ws)) (withValues P (us ++ v ∷ ws)) _
-      (value-set P valued done B bs is us w ws full v (small v (List·Memᴰ.List·Memᴰ·head refl)))
-      (rw (append-assoc us (v ∷ []) ws, append-assoc us (v ∷ []) vs) at rest)
+      values-set bs (done ++ B ∷ []) (us ++ v ∷ []) ws vs (ks ++ 1 ∷ []) ms (is ∙ sym (append-assoc done (B ∷ []) bs)) (simp length-append (omega arith))
+      (simp length-append (omega arith)) (omega arith) (omega arith) (omega arith) (λ x m. small x (List·Memᴰ.List·Memᴰ·tail m)) in
+      accepted-more (setting (term B v)) (map setting (paired bs vs)) (withValues P (us ++ w ∷ ws) (ks ++ m ∷ ms)) (withValues P (us ++ v ∷ ws) (ks ++ 1 ∷ ms)) _
+      (value-set P valued done B bs is us w ws full v (small v (List·Memᴰ.List·Memᴰ·head refl)) ks m ms f)
+      (rw (append-assoc us (v ∷ []) ws, append-assoc us (v ∷ []) vs, append-assoc ks (1 ∷ []) ms, append-assoc ks (1 ∷ []) (replicate (length bs) 1)) at rest)
 
--- So a map's own calls, its splits and then its values, lead from the fresh map to it.
+-- So a map's own calls, its splits and then its values, lead from the fresh map to it, with every value measured.
 module _ (P : Plain) (at : Reached P) where
   abbrev fresh : Plain
   fresh = freshPlain (P .lines .w) (P .lines .h)
@@ -64,29 +69,46 @@ module _ (P : Plain) (at : Reached P) where
   from-fresh : Reached fresh
   from-fresh = fresh-reached (P .lines .w) (P .lines .h) (at .holds .taken .across) (at .holds .taken .up)
 
-  pub calls-lead : AcceptedTo fresh (fileCalls P) P
+  measured-reached : Reached (measured P)
+  measured-reached =
+      let v = at .valued in
+      record {
+        holds =
+            record {
+              taken = at .holds .taken;
+              counted = at .holds .counted;
+              counted-marks = length-replicate (length (blends P)) 1;
+              are-marks = λ k m. omega (arith, copies 1 (length (blends P)) k m);
+            };
+        valued = record { wide = v .wide; tall = v .tall; is-sound = v .is-sound; counted = v .counted; small = v .small };
+      }
+
+  pub calls-lead : AcceptedTo fresh (fileCalls P) (measured P)
   unfolding freshPlain
   calls-lead =
       let drawn = splits-drawn (P .lines .splits) fresh (at .holds .taken .all-taken) in
       let Q = drawn .0 in
       let ends = accepted-ends (map exact (P .lines .splits)) fresh Q (drawn .1) in
       let leads : Leads fresh (P .lines .splits) Q = rw (ends, drawn .2) at (ending-leads (map exact (P .lines .splits)) fresh from-fresh) in
-      let same : withValues P (Q .values) ≡ Q =
-      λ i. record { lines = layout (sym (leads .wide) i) (sym (leads .tall) i) (sym (leads .more) i); values = Q .values } in
-      let counted : length (Q .values) ≡ length (blends P) =
-      leads .reached .valued .counted ∙ ap (λ (R : Plain). length (blends R)) (sym same) in
-      let set = values-set P (at .valued) (blends P) [] [] (Q .values) (P .values) refl refl counted (at .valued .counted) (at .valued .small) in
-      accepted-join (map exact (P .lines .splits)) (map setting (paired (blends P) (P .values))) fresh Q P (drawn .1)
-      (subst (λ (R : Plain). AcceptedTo R (map setting (paired (blends P) (P .values))) P) same set)
+      let same : withValues P (Q .values) (Q .marks) ≡ Q =
+      λ i. record { lines = layout (sym (leads .wide) i) (sym (leads .tall) i) (sym (leads .more) i); values = Q .values; marks = Q .marks } in
+      let as-many : length (blends Q) ≡ length (blends P) = ap (λ (R : Plain). length (blends R)) (sym same) in
+      let h = leads .reached .holds in
+      let set =
+      values-set P (at .valued) (blends P) [] [] (Q .values) (P .values) [] (Q .marks) refl refl refl (h .counted ∙ as-many) (at .valued .counted)
+      (h .counted-marks ∙ as-many) (at .valued .small) in
+      accepted-join (map exact (P .lines .splits)) (map setting (paired (blends P) (P .values))) fresh Q (measured P) (drawn .1)
+      (subst (λ (R : Plain). AcceptedTo R (map setting (paired (blends P) (P .values))) (measured P)) same set)
 
-  pub calls-end : ending byMachine fresh (fileCalls P) ≡ P
-  calls-end = accepted-ends (fileCalls P) fresh P calls-lead
-
-  pub calls-left : leftBy fresh (fileCalls P) ≡ recordOf P
-  calls-left = ending-follows (fileCalls P) fresh from-fresh ∙ ap recordOf calls-end
+  pub calls-left : leftBy fresh (fileCalls P) ≡ recordOf (measured P)
+  calls-left = ending-follows (fileCalls P) fresh from-fresh ∙ ap recordOf (accepted-ends (fileCalls P) fresh (measured P) calls-lead)
 
   pub calls-accepted : AllAccepted (recordOf fresh) (fileCalls P)
-  calls-accepted = library-accepts (fileCalls P) fresh P from-fresh calls-lead
+  calls-accepted = library-accepts (fileCalls P) fresh (measured P) from-fresh calls-lead
+
+  -- which lists of calls do not tell from it, but for marks
+  pub but-marks : SameLists (recordOf (measured P)) (recordOf P)
+  but-marks = same-lists P (replicate (length (blends P)) 1) at measured-reached
 
 -- "Reading a file makes a map of its own: demand 3 holds of lists that start from it too."
 pub from-file : (bytes : List ℕ) → readFile bytes .number ≡ 0 → FromFile bytes
@@ -94,14 +116,19 @@ from-file bytes e =
     let P = readPlain bytes in
     let at = read-reached bytes e in
     let start = recordOf (freshPlain (P .lines .w) (P .lines .h)) in
-    let left : leftBy (freshPlain (P .lines .w) (P .lines .h)) (fileCalls P) ≡ readFile bytes .map = calls-left P at ∙ read-record bytes e in
+    let left = calls-left P at in
+    let alike : SameLists (recordOf (measured P)) (readFile bytes .map) = rw (read-record bytes e) at (but-marks P at) in
     record {
       is-record = sym (read-record bytes e);
+      is-told = read-held bytes e;
       all-accepted = calls-accepted P at;
       left = left;
-      outcomes-after = λ cs. outcomes-join byLibrary start (fileCalls P) cs ∙
-          ap (λ (m : Map). outcomes byLibrary start (fileCalls P) ++ outcomes byLibrary m cs) left;
-      left-after = λ cs. ending-join byLibrary start (fileCalls P) cs ∙ ap (λ (m : Map). ending byLibrary m cs) left;
+      outcomes-after = λ cs.
+          ap (map butMarks) (outcomes-join byLibrary start (fileCalls P) cs) ∙ map-append butMarks (outcomes byLibrary start (fileCalls P)) _ ∙
+          ap (λ (os : List (Outcome Map)). map butMarks (outcomes byLibrary start (fileCalls P)) ++ os)
+          (ap (λ (m : Map). map butMarks (outcomes byLibrary m cs)) left ∙ alike .same-outcomes cs);
+      left-after = λ cs.
+          ap withoutMarks (ending-join byLibrary start (fileCalls P) cs ∙ ap (λ (m : Map). ending byLibrary m cs) left) ∙ alike .same-left cs;
       whole = λ cs. demand-three (P .lines .w) (P .lines .h) (at .holds .taken .across) (at .holds .taken .up) (fileCalls P ++ cs);
       own = read-demand bytes e;
       same-blends = λ other o wide tall cs ds f g bs tabled.

@@ -1,4 +1,4 @@
--- A table's text: lines put in a row one by one, of at most 42 bytes each.
+-- A table's text: lines put in a row one by one, of at most 46 bytes each.
 use Prim.Native.Nat.{ℕ, _+_, _*_, _-_, _/_, _≤_, _<_}
 use native.Mathlib.Omega.{arith}
 use mathlib.Core.Path.{_≡_, refl, ap, _∙_}
@@ -10,16 +10,16 @@ use lib.Dec.{ltb, eqb}
 use lib.ListN.{length, take, getD, length-append, take-append-drop}
 use lib.Seq.{take-all}
 use Rattle.axis.specs.declared.Triple.{Triple}
-use Rattle.mesh.specs.Weight.{Term}
 use Rattle.axis.specs.Range.{joined}
 use Rattle.axis.specs.Triple.{Rises}
 use Rattle.mesh.specs.declared.Table.{Table}
 use Rattle.mesh.specs.Sound.{none, Proper}
 use Rattle.axis.proofs.Tests.{either}
-use Rattle.files.specs.Inner.{WellFormed, terms, textFrom, Puts}
-use Rattle.files.specs.Listing.{digits, spaced, numberLine, knots, line}
+use Rattle.files.specs.File.{TableEntry}
+use Rattle.files.specs.Inner.{entriesIn, textFrom, Puts}
+use Rattle.files.specs.Listing.{digits, spaced, numberLine, knots, valueLine, line}
 use Rattle.files.proofs.Putting.{put-none, put-length}
-use Rattle.files.proofs.Terms.{term, terms-length, terms-at, terms-rise}
+use Rattle.files.proofs.Terms.{InHand, no-entry, entries-length, entries-at, entries-rise}
 use Rattle.axis.proofs.Members.{placed, joined-append, joined-more}
 use Rattle.files.proofs.Texts.{next-room, puts-then, one-digit, more-digits, outer-coordinate, inner-coordinate}
 
@@ -32,8 +32,11 @@ tenth k most short n lt =
     rw (more-digits n (ltb-false n 10 e), length-append) (omega (arith, s)))
     (either (ltb n 10))
 
+mark-digits : (n : ℕ) → n < 1000 → length (digits n) ≤ 3
+mark-digits = tenth 2 100 (tenth 1 10 (λ n lt. rw (one-digit n lt) (omega arith)))
+
 pub digits-short : (n : ℕ) → n < 100000 → length (digits n) ≤ 5
-digits-short = tenth 4 10000 (tenth 3 1000 (tenth 2 100 (tenth 1 10 (λ n lt. rw (one-digit n lt) (omega arith)))))
+digits-short = tenth 4 10000 (tenth 3 1000 mark-digits)
 
 spaced-short : (k : ℕ) → k ≤ 130 → length (spaced k) ≤ 6
 spaced-short k le =
@@ -54,14 +57,22 @@ knots-short t p =
     let r = spaced-short (t .r) (p .most) in
     rw (length-append (spaced (t .l) ++ spaced (t .m)) (spaced (t .r)), length-append (spaced (t .l)) (spaced (t .m))) (omega (arith, l, m, r))
 
-pub line-short : (t : Term) → Proper (t .of) → t .multiple < 65536 → length (line t) ≤ 42
+value-line-short : (value mark : ℕ) → value < 65536 → mark < 256 → length (valueLine value mark) ≤ 10
+unfolding valueLine
+value-line-short value mark lt small =
+    let v = digits-short value (omega arith) in
+    let m = mark-digits mark (omega arith) in
+    simp length-append (omega (arith, v, m))
+
+pub line-short : (e : TableEntry) → Proper (e .term .of) → e .term .multiple < 65536 → e .mark < 256 → length (line e) ≤ 46
 unfolding line
-line-short t p lt =
-    let a = knots-short (t .of .across) (p .across) in
-    let u = knots-short (t .of .up) (p .up) in
-    let v = number-line-short (t .multiple) (omega arith) in
-    rw (length-append (knots (t .of .across) ++ knots (t .of .up)) (numberLine (t .multiple)), length-append (knots (t .of .across)) (knots (t .of .up)))
-    (omega (arith, a, u, v))
+line-short e p lt small =
+    let across = knots (e .term .of .across) in
+    let up = knots (e .term .of .up) in
+    let a = knots-short (e .term .of .across) (p .across) in
+    let u = knots-short (e .term .of .up) (p .up) in
+    let v = value-line-short (e .term .multiple) (e .mark) lt small in
+    rw (length-append (across ++ up) (valueLine (e .term .multiple) (e .mark)), length-append across up) (omega (arith, a, u, v))
 
 -- Entries in a row, measured one by one, and put one by one where there is room for all of them:
 module _ {A : Type 0} (entry : A → List ℕ) (xs : List A) where
@@ -116,18 +127,18 @@ row-most entry most (x ∷ xs) short =
     rw length-append
     (omega (arith, short x (List·Memᴰ·head refl), row-most entry most xs (λ y m. short y (List·Memᴰ·tail m))))
 
--- so a table's text has at most 6 + 42 × 1,024 bytes
-module _ (t : Table) (values : List ℕ) (ok : WellFormed t) (places : length (t .blends) ≡ 1024) (full : length values ≡ 1024)
-    (words : (i : ℕ) → getD values i 0 < 65536) where
-  pub text-from-most : length (textFrom t values) ≤ 65536
+-- so a table's text has at most 6 + 46 × 1,024 bytes
+module _ {t : Table} {values marks : List ℕ} (h : InHand t values marks) (words : (i : ℕ) → getD values i 0 < 65536)
+    (bytes : (i : ℕ) → getD marks i 0 < 256) where
+  pub text-from-most : length (textFrom t values marks) ≤ 65536
   text-from-most =
-      let first = number-line-short (t .count) (omega (arith, ok .few)) in
-      let rows = row-most line 42 (terms t values) each-short in
-      rw length-append (omega (arith, first, rows, terms-length t values ok places full, ok .few))
+      let few = h .ok .few in
+      let first = number-line-short (t .count) (omega (arith, few)) in
+      let rows = row-most line 46 (entriesIn t values marks) each-short in
+      rw length-append (omega (arith, first, rows, entries-length h, few))
     where
-      each-short : (x : Term) → List·Memᴰ x (terms t values) → length (line x) ≤ 42
+      each-short : (x : TableEntry) → List·Memᴰ x (entriesIn t values marks) → length (line x) ≤ 46
       each-short x m =
-          let p = placed (terms t values) x (term none 0) m in
-          let lt = rw (terms-length t values ok places full) at (p .1) in
-          let e = terms-at t values ok places full (p .0) lt (term none 0) in
-          rw (← p .2, e) (line-short _ (terms-rise t values ok places full (p .0) lt) (words (p .0)))
+          let p = placed (entriesIn t values marks) x no-entry m in
+          let lt = rw (entries-length h) at (p .1) in
+          rw (← p .2, entries-at h (p .0) lt) (line-short _ (entries-rise h (p .0) lt) (words (p .0)) (bytes (p .0)))

@@ -8,16 +8,20 @@ use mathlib.Core.Bool.{true, false}
 use mathlib.Core.List.{List}
 use borrow.Author.Tests.{lt-ltb, le-ltb, leb-true, leb-false, le-leb}
 use lib.Dec.{leb}
-use lib.ListN.{length, drop, length-append, length-replicate}
+use lib.ListN.{length, getD, drop, length-append, length-replicate}
 use Rattle.mesh.specs.declared.Table.{Table}
 use Rattle.mesh.specs.Sound.{table}
 use Rattle.axis.proofs.Tests.{either}
 use Rattle.maps.specs.declared.Map.{Map}
-use Rattle.maps.specs.Record.{plain}
+use Rattle.maps.specs.Record.{isMark, plain}
 use Rattle.mesh.proofs.BlendTables.{table-blends, table-count}
 use Rattle.maps.proofs.Changing.{GoodMap, live-table}
 use Rattle.files.proofs.Filing.{ready}
-use Rattle.files.proofs.ReadMaps.{map-held, read-map}
+use Rattle.maps.proofs.Opening.{good-passes}
+use Rattle.files.proofs.Words as Words
+use Rattle.files.proofs.ReadMaps.{read-good, map-held, read-map}
+use Rattle.maps.specs.Opened.{tableOf}
+use Rattle.files.proofs.Terms.{InHand}
 use Rattle.files.proofs.TableLines.{text-from-most}
 use Rattle.files.specs.declared.Written.{Written}
 use Rattle.files.specs.Calls.{readFile, shortOf, counted, answered}
@@ -25,7 +29,7 @@ use Rattle.files.specs.Inner.{textFrom, Puts}
 use Rattle.files.specs.Listing.{tableText, largestText, textOf, textNumber, textWritten, textAfter}
 
 -- an opened map's table has the map's text
-pub opened-text : {m : Map} {t : Table} → GoodMap m t → textFrom t (m .values) ≡ tableText (plain m)
+pub opened-text : {m : Map} {t : Table} → GoodMap m t → textFrom t (m .values) (m .marks) ≡ tableText (plain m)
 unfolding plain
 opened-text g = rw (live-table g, table-blends, table-count)
 
@@ -37,13 +41,15 @@ module _ {m : Map} {t : Table} (g : GoodMap m t) (out : List ℕ) where
       let n = shortOf (length text) out in
       (_≡_ {A = Written} (record { number = number; length = long }) (counted n text)) × (left ≡ answered n text out)
 
-  pub text-short : leb (length (textFrom t (m .values))) (length out) ≡ false → outcome 12 0 out
-  text-short f = let s = lt-ltb _ _ (rw (opened-text g) at (leb-false (length (textFrom t (m .values))) (length out) f)) in (rw s, rw s)
+  abbrev text : List ℕ
+  text = textFrom t (m .values) (m .marks)
 
-  pub text-put : leb (length (textFrom t (m .values))) (length out) ≡ true → {left : List ℕ} {long : ℕ} → Puts out 0 (textFrom t (m .values)) left long →
-      outcome 0 long left
+  pub text-short : leb (length text) (length out) ≡ false → outcome 12 0 out
+  text-short f = let s = lt-ltb _ _ (rw (opened-text g) at (leb-false (length text) (length out) f)) in (rw s, rw s)
+
+  pub text-put : leb (length text) (length out) ≡ true → {left : List ℕ} {long : ℕ} → Puts out 0 text left long → outcome 0 long left
   text-put room q =
-      let s = le-ltb _ _ (rw (opened-text g) at (leb-true (length (textFrom t (m .values))) (length out) room)) in
+      let s = le-ltb _ _ (rw (opened-text g) at (leb-true (length text) (length out) room)) in
       let p = rw (opened-text g) at q in
       (rw (s, p .ends, zero-add), rw (s, p .is, zero-add))
 
@@ -74,4 +80,7 @@ pub text-most : (bytes : List ℕ) → length (textOf bytes) ≤ largestText
 text-most bytes =
     let g = read-map bytes refl in
     let h = map-held bytes in
-    rw (← opened-text g) (text-from-most _ _ (ready g .well-formed) (all-places g) (h .values) (h .small))
+    let marks = good-passes (readFile bytes .map) (read-good bytes) .are-marks in
+    let hand : InHand (tableOf (readFile bytes .map)) (readFile bytes .map .values) (readFile bytes .map .marks) =
+    record { ok = ready g .well-formed; places = all-places g; full = h .full .values; full-marks = h .full .marks } in
+    rw (← opened-text g) (text-from-most hand (h .small) (λ i. let k = leb-true (getD (readFile bytes .map .marks) i 0) 1 (Words.all-places isMark refl (readFile bytes .map .marks) marks i) in omega arith))

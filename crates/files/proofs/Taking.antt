@@ -5,18 +5,18 @@ use native.Mathlib.Numerals.{add-one}
 use native.Mathlib.Nat.{zero-add, add-zero, sub-zero}
 use mathlib.Core.Path.{_≡_, refl, ap, _∙_}
 use mathlib.Core.Logic.{⊎-elim}
-use mathlib.Core.Bool.{true, _&&_}
+use mathlib.Core.Bool.{Bool, true, false, cond, _&&_}
 use mathlib.Core.List.{List, [], _∷_, _++_, append-assoc}
 use borrow.Author.Tests.{leb-true, le-leb, eqb-true, eq-eqb}
 use lib.Dec.{leb, eqb}
-use lib.ListN.{length, set, replicate}
+use lib.ListN.{length, getD, set, replicate, length-replicate}
 use lib.Seq.{set-at}
 use Rattle.mesh.specs.declared.Split.{Split}
 use Rattle.axis.specs.Range.{each}
 use Rattle.maps.specs.declared.Map.{Map}
 use Rattle.maps.specs.Record.{noSplit, linesOf, recordOf}
 use Rattle.axis.proofs.Tests.{either, and-both, and-of, false-of, cond-true, cond-false}
-use Rattle.files.specs.File.{wordAt, splitCount, splitAt, guessed}
+use Rattle.files.specs.File.{valueSize, wordAt, splitCount, splitAt, isOld, guessed}
 use Rattle.axis.proofs.Members.{each-length}
 
 -- Splits in a row: one more where a whole entry of kind 2 stands, no more where none does.
@@ -101,12 +101,34 @@ module _ {A : Type 0} (got : ℕ → A) (d : A) (n : ℕ) where
   pub filled-all : {i : ℕ} {xs : List A} → Filled i xs → (k : ℕ) → i ≡ k → xs ≡ run 0 k ++ replicate (n - k) d
   filled-all f k e = rw e at (f .is)
 
--- The numbers at a file's places, in a record:
-pub told-map : (bytes : List ℕ) (w h count places : ℕ) (splits : List Split) (values : List ℕ) →
-    w ≡ wordAt bytes 4 → h ≡ wordAt bytes 6 → count ≡ splitCount bytes 8 60 → places ≡ (length bytes - 12 - 12 * count) / 10 →
+-- The numbers at a file's places: its values and marks are as many as there is room for,
+module _ (bytes : List ℕ) where
+  abbrev pub guessed-places : ℕ
+  guessed-places = (length bytes - 12 - 12 * splitCount bytes 8 60) / valueSize (isOld bytes)
+
+  pub guessed-splits : length (guessed bytes .lines .splits) ≡ splitCount bytes 8 60
+  unfolding guessed
+  guessed-splits = each-length 0 (splitCount bytes 8 60) _
+
+  pub guessed-values : length (guessed bytes .values) ≡ guessed-places
+  unfolding guessed
+  guessed-values = each-length 0 guessed-places _
+
+  pub guessed-marks : length (guessed bytes .marks) ≡ guessed-places
+  unfolding guessed
+  guessed-marks =
+      ⊎-elim (λ t. rw t (length-replicate _ 0)) (λ f. rw f (each-length 0 ((length bytes - 12 - 12 * splitCount bytes 8 60) / 12) _)) (either (isOld bytes))
+
+-- and they are the record that the bytes tell.
+pub told-map : (bytes : List ℕ) (w h count places size : ℕ) (old : Bool) (splits : List Split) (values marks : List ℕ) →
+    w ≡ wordAt bytes 4 → h ≡ wordAt bytes 6 → count ≡ splitCount bytes 8 60 → old ≡ isOld bytes → size ≡ valueSize old →
+    places ≡ (length bytes - 12 - 12 * count) / size →
     splits ≡ each 0 count (λ i. splitAt bytes (8 + 12 * i) ∷ []) ++ replicate (60 - count) noSplit →
-    values ≡ each 0 places (λ i. wordAt bytes (8 + 12 * count + 10 * i + 8) ∷ []) ++ replicate (1024 - places) 0 →
-    _≡_ {A = Map} (record { lines = record { w = w; h = h; count = count; splits = splits }; values = values }) (recordOf (guessed bytes))
+    values ≡ each 0 places (λ i. wordAt bytes (8 + 12 * count + size * i + 8) ∷ []) ++ replicate (1024 - places) 0 →
+    marks ≡ cond old (replicate places 0) (each 0 places (λ i. getD bytes (8 + 12 * count + valueSize old * i + 10) 0 ∷ [])) ++ replicate (1024 - places) 0 →
+    _≡_ {A = Map} (record { lines = record { w = w; h = h; count = count; splits = splits }; values = values; marks = marks }) (recordOf (guessed bytes))
 unfolding guessed recordOf linesOf
-told-map bytes w h count places splits values p q r s t u =
-    rw (p, q, t, u, s, r, each-length 0 (splitCount bytes 8 60) (λ i. splitAt bytes (8 + 12 * i)), each-length 0 ((length bytes - 12 - 12 * splitCount bytes 8 60) / 10) (λ i. wordAt bytes (8 + 12 * splitCount bytes 8 60 + 10 * i + 8)))
+told-map bytes w h count places size old splits values marks p q r o z s t u v =
+    let long = guessed-values bytes in
+    let long-marks = guessed-marks bytes in
+    rw (guessed-splits bytes, long, long-marks, p, q, t, u, v, s, z, o, r)

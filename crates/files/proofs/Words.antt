@@ -1,8 +1,8 @@
 -- Numbers of 16 bits in bytes: what is put at a place is read there.
-use Prim.Native.Nat.{ℕ, zero, suc, _+_, _-_, _*_, _/_, _%_, _<_}
+use Prim.Native.Nat.{ℕ, zero, suc, _+_, _*_, _/_, _%_, _<_}
 use native.Mathlib.Omega.{arith}
 use mathlib.Core.Path.{_≡_, refl, ap, _∙_}
-use mathlib.Core.Bool.{Bool, true}
+use mathlib.Core.Bool.{Bool, true, false}
 use mathlib.Core.List.{List, [], _∷_, _++_, map, append-assoc, List·Memᴰ}
 use borrow.Author.Tests.{ltb-true, lt-ltb}
 use lib.Dec.{ltb}
@@ -12,7 +12,7 @@ use Rattle.axis.specs.Range.{each, joined, all}
 use Rattle.axis.proofs.Tests.{and-both, and-of, all-append}
 use Rattle.maps.specs.Plain.{Plain, blends}
 use Rattle.maps.specs.Values.{paired}
-use Rattle.files.specs.File.{word, entry, wordAt, head, splitEntry, valueEntry, tail, fileOf}
+use Rattle.files.specs.File.{word, entry, wordAt, head, splitEntry, TableEntry, entriesOf, placeAndValue, valueEntry, tail, fileWith, fileIn}
 
 little : (n : ℕ) → n < 65536 → wordAt (word n) 0 ≡ n
 little n lt = omega arith
@@ -72,15 +72,19 @@ entry-bytes kind payload =
     (all-append isByte (word size) (word kind) (word-bytes size) (word-bytes kind))
     (joined-bytes word word-bytes payload)
 
-pub file-bytes : (P : Plain) → all isByte (fileOf P) ≡ true
-unfolding fileOf
-file-bytes P =
+value-bytes : (old : Bool) (e : TableEntry) → all isByte (valueEntry old e) ≡ true
+value-bytes true e = entry-bytes 3 (placeAndValue (e .term))
+value-bytes false e = entry-bytes 5 (placeAndValue (e .term) ++ e .mark ∷ [])
+
+pub file-bytes : (old : Bool) (P : Plain) → all isByte (fileIn old P) ≡ true
+unfolding fileWith
+file-bytes old P =
     let start = head (P .lines .w) (P .lines .h) in
     let splits = joined splitEntry (P .lines .splits) in
-    let values = joined valueEntry (paired (blends P) (P .values)) in
+    let entries = entriesOf (paired (blends P) (P .values)) (P .marks) in
+    let values = joined (valueEntry old) entries in
     let splits-bytes = joined-bytes splitEntry (λ s. entry-bytes 2 (s .direction ∷ s .position ∷ s .from ∷ s .to ∷ [])) (P .lines .splits) in
-    let values-bytes =
-    joined-bytes valueEntry (λ t. entry-bytes 3 ((t .of .across .m - 1) ∷ (t .of .up .m - 1) ∷ t .multiple ∷ [])) (paired (blends P) (P .values)) in
+    let values-bytes = joined-bytes (valueEntry old) (value-bytes old) entries in
     all-append isByte (start ++ splits ++ values) tail
     (all-append isByte (start ++ splits) values
     (all-append isByte start splits (entry-bytes 1 (P .lines .w ∷ P .lines .h ∷ [])) splits-bytes) values-bytes)

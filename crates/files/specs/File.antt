@@ -72,10 +72,13 @@ tail = entry 4 []
 
 -- "A file is one kind 1, the splits in order, one kind 3 for each table entry in order, one kind 4, and no more." An old file is that; from document 02, L5
 -- on there is one kind 5 for each table entry.
-unfoldable pub fileIn : Bool → Plain → List ℕ
-fileIn old P =
+unfoldable pub fileWith : (TableEntry → List ℕ) → Plain → List ℕ
+fileWith value P =
     head (P .lines .w) (P .lines .h) ++ joined splitEntry (P .lines .splits) ++
-    joined (valueEntry old) (entriesOf (paired (blends P) (P .values)) (P .marks)) ++ tail
+    joined value (entriesOf (paired (blends P) (P .values)) (P .marks)) ++ tail
+
+abbrev pub fileIn : Bool → Plain → List ℕ
+fileIn old P = fileWith (valueEntry old) P
 
 -- the file that the writer gives, and the one that it gave before there were marks
 abbrev pub fileOf : Plain → List ℕ

@@ -2,6 +2,7 @@
 use Prim.Native.Nat.{ℕ, _-_}
 use mathlib.Core.Path.{_≡_}
 use mathlib.Core.List.{List, [], _∷_, _++_, map, List·Memᴰ}
+use lib.ListN.{length, replicate}
 use Rattle.axis.specs.Range.{joined}
 use Rattle.mesh.specs.declared.Blend.{Blend}
 use Rattle.mesh.specs.Order.{Coarser}
@@ -12,7 +13,9 @@ use Rattle.maps.specs.Values.{paired}
 use Rattle.maps.specs.Record.{recordOf, plain}
 use Rattle.maps.specs.Histories.{Call, set, exact, Answer, number, Outcome, outcome, byLibrary, outcomes, ending}
 use Rattle.maps.specs.Demand.{leftBy, Tabled, meshBy, DemandFrom, Demand3}
+use Rattle.maps.specs.ByMarks.{withoutMarks, butMarks}
 use Rattle.files.specs.declared.Written.{Written}
+use Rattle.files.specs.File.{guessed}
 use Rattle.files.specs.Calls.{written, after, readFile, payloadNumber, payloadAt}
 
 -- what a map that was read holds
@@ -27,6 +30,10 @@ setting t = set (t .of .across .m - 1) (t .of .up .m - 1) (t .multiple)
 abbrev pub fileCalls : Plain → List Call
 fileCalls P = map exact (P .lines .splits) ++ map setting (paired (blends P) (P .values))
 
+-- a map with every value marked as measured
+abbrev pub measured : Plain → Plain
+measured P = record { lines = P .lines; values = P .values; marks = replicate (length (blends P)) 1 }
+
 -- every call of a list is accepted
 abbrev pub AllAccepted : Map → List Call → Type 0
 AllAccepted m cs = (o : Outcome Map) → List·Memᴰ o (outcomes byLibrary m cs) → o .answer ≡ number 0
@@ -34,17 +41,20 @@ AllAccepted m cs = (o : Outcome Map) → List·Memᴰ o (outcomes byLibrary m cs
 -- "Reading a file makes a map of its own: demand 3 holds of lists that start from it too, with the splits of the file as their first accepted
 -- ones, taken in order from the fresh map before the file's values are set."
 pub record FromFile (bytes : List ℕ) : Type 0 where
-  -- The map that is read is the record of what it holds.
+  -- The map that is read is the record of what it holds, which is what the numbers at the file's places tell, its marks among them.
   pub is-record : readFile bytes .map ≡ recordOf (readPlain bytes)
-  -- The calls that the file stands for are all accepted, and leave the map that is read on the fresh map of its sides;
+  pub is-told : readPlain bytes ≡ guessed bytes
+  -- The calls that the file stands for are all accepted, and on the fresh map of its sides they leave the map that is read but for its marks, which are the
+  -- file's: they set every value, so every mark that they leave is 1;
   pub all-accepted : let P = readPlain bytes in AllAccepted (recordOf (freshPlain (P .lines .w) (P .lines .h))) (fileCalls P)
-  pub left : let P = readPlain bytes in leftBy (freshPlain (P .lines .w) (P .lines .h)) (fileCalls P) ≡ readFile bytes .map
-  -- so a list on the map that is read is the rest of a history,
+  pub left : let P = readPlain bytes in leftBy (freshPlain (P .lines .w) (P .lines .h)) (fileCalls P) ≡ recordOf (measured P)
+  -- so a list on the map that is read is, but for marks, the rest of a history,
   pub outcomes-after : (cs : List Call) → let P = readPlain bytes in
       let start = recordOf (freshPlain (P .lines .w) (P .lines .h)) in
-      outcomes byLibrary start (fileCalls P ++ cs) ≡ outcomes byLibrary start (fileCalls P) ++ outcomes byLibrary (readFile bytes .map) cs
+      map butMarks (outcomes byLibrary start (fileCalls P ++ cs)) ≡
+      map butMarks (outcomes byLibrary start (fileCalls P)) ++ map butMarks (outcomes byLibrary (readFile bytes .map) cs)
   pub left-after : (cs : List Call) → let P = readPlain bytes in
-      leftBy (freshPlain (P .lines .w) (P .lines .h)) (fileCalls P ++ cs) ≡ ending byLibrary (readFile bytes .map) cs
+      withoutMarks (leftBy (freshPlain (P .lines .w) (P .lines .h)) (fileCalls P ++ cs)) ≡ withoutMarks (ending byLibrary (readFile bytes .map) cs)
   -- of which demand 3 holds, with document 02's clauses beside it; and so they do of the list on its own.
   pub whole : (cs : List Call) → let P = readPlain bytes in Demand3 (P .lines .w) (P .lines .h) (fileCalls P ++ cs)
   pub own : (cs : List Call) → DemandFrom (readPlain bytes) cs

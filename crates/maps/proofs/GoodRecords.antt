@@ -1,17 +1,17 @@
 -- What a good record gives, and what makes a record good.
-use Prim.Native.Nat.{ℕ, zero, suc, _-_, _≤_}
+use Prim.Native.Nat.{ℕ, _-_, _≤_}
 use native.Mathlib.Omega.{arith}
 use mathlib.Core.Path.{_≡_, refl, subst}
 use mathlib.Core.Logic.{⊎-elim}
 use mathlib.Core.Bool.{true}
-use mathlib.Core.List.{List, _++_, List·Memᴰ, List·Memᴰ·cases-cons, List·Memᴰ·not-nil, Memᴰ·append-left}
+use mathlib.Core.List.{List, _++_, List·Memᴰ, Memᴰ·append-left}
 use borrow.Author.Tests.{le-leb, leb-true, eqb-true, ltb-true}
 use lib.Dec.{eqb, ltb}
 use lib.ListN.{length, getD, take, drop, replicate, length-set, length-map, take-append-drop}
 use lib.Seq.{length-take-le, take-append-seam, drop-append-seam}
 use Rattle.axis.proofs.Tests.{either, and-both, all-at, all-of, all-append}
 use Rattle.axis.proofs.Members.{entry, map-mem, set-mem}
-use Rattle.axis.proofs.Padding.{padding-passes, padded}
+use Rattle.axis.proofs.Padding.{copies, padding-passes, padded}
 use Rattle.mesh.specs.declared.Split.{Split}
 use Rattle.mesh.specs.declared.Blend.{Blend}
 use Rattle.mesh.specs.Lines.{Layout, layoutOf, splitsOf, allowedSide}
@@ -131,10 +131,6 @@ good-facts m full e =
       is-record = λ i. record { lines = record { w = L .w; h = L .h; count = n i; splits = splits i }; values = values i; marks = marks i };
     }
 
-pub zeros : (n v : ℕ) → List·Memᴰ v (replicate n 0) → v ≡ 0
-zeros zero v m = absurd (List·Memᴰ·not-nil m)
-zeros (suc n) v m = ⊎-elim (λ e. e) (zeros n v) (List·Memᴰ·cases-cons m)
-
 -- a mark that a split keeps is one of before, or 0
 kept-mark : (bs : List Blend) (marks : List ℕ) → length marks ≡ length bs → AreMarks marks → (B : Blend) → keptMark bs marks B ≤ 1
 unfolding keptMark
@@ -153,7 +149,7 @@ fresh-holds w h a b =
       taken = taken;
       counted = rw four;
       counted-marks = rw four;
-      are-marks = λ k m. omega (arith, zeros 4 k m);
+      are-marks = λ k m. omega (arith, copies 0 4 k m);
     }
 
 -- a map with one value set,

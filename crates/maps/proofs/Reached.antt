@@ -20,8 +20,9 @@ use Rattle.maps.specs.Calls.{setPlain}
 use Rattle.maps.specs.Histories.{Call, set, exact, lengthened, place, reads, weighs, alongRow, alongColumn, sameAs, Outcome, firstDrawn, byMachine, ending}
 use Rattle.maps.specs.Demand.{Start, fresh, lineBy, linesBy}
 use Rattle.axis.proofs.Members.{placed}
+use Rattle.axis.proofs.Padding.{copies}
 use Rattle.mesh.proofs.Passing.{exact-says}
-use Rattle.maps.proofs.GoodRecords.{Holds, good-facts, zeros, fresh-holds, set-holds, drawn-holds}
+use Rattle.maps.proofs.GoodRecords.{Holds, good-facts, fresh-holds, set-holds, drawn-holds}
 use Rattle.mesh.proofs.Accepted.{replays-sides, replays-stands, replays-sound}
 use Rattle.maps.proofs.Readings.{Valued, set-valued, drawn-valued}
 use Rattle.mesh.proofs.ChosenLine.{chosen-exact}
@@ -61,7 +62,7 @@ good-reached m held g =
 -- in a fresh map they are 0.
 pub fresh-reached : (w h : ℕ) → allowedSide w ≡ true → allowedSide h ≡ true → Reached (freshPlain w h)
 unfolding freshPlain
-fresh-reached w h a b = holds-reached (freshPlain w h) (fresh-holds w h a b) (λ v m. omega (arith, zeros 4 v m))
+fresh-reached w h a b = holds-reached (freshPlain w h) (fresh-holds w h a b) (λ v m. omega (arith, copies 0 4 v m))
 
 pub start-reached : (P : Plain) → Start P → Reached P
 start-reached P (fresh w h a b) = fresh-reached w h a b

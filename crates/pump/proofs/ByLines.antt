@@ -1,4 +1,5 @@
--- At the border only lines decide a split: two buffers of one length, whose maps have the same lines, give the same answer and are left with the same lines.
+-- At the border only lines decide a split: two buffers of one length, with as many bytes in use, whose maps have the same lines, give the same answer and
+-- are left with the same lines.
 use Prim.Native.Nat.{ℕ}
 use mathlib.Core.Path.{_≡_, refl, sym, ap, subst, _∙_}
 use mathlib.Core.Logic.{⊎-elim}
@@ -41,14 +42,15 @@ unfolding plain
 held-lines h = sym (ap (λ (P : Plain). P .lines) (record-good h .1))
 
 files-alike : {P Q : Plain} → Holds P → Holds Q → P .lines ≡ Q .lines → length (fileOf P) ≡ length (fileOf Q)
-files-alike {P} {Q} p q e = file-length P (p .counted) ∙ rw e (sym (file-length Q (q .counted)))
+files-alike {P} {Q} p q e = file-length P (p .counted) (p .counted-marks) false ∙ rw e (sym (file-length Q (q .counted) (q .counted-marks) false))
 
 -- two buffers with the files of maps with the same lines
-left-alike : {d e : Desk} → At d → At e → d .holds .lines ≡ e .holds .lines → (a : PumpAnswer) → SameInBuffer (outcome a (lentBy d)) (outcome a (lentBy e))
-left-alike {d} {e} at too same a =
+left-alike : {d e : Desk} → At d → At e → d .holds .lines ≡ e .holds .lines → length (d .file) ≡ length (e .file) → (a : PumpAnswer) →
+    SameInBuffer (outcome a (lentBy d)) (outcome a (lentBy e))
+left-alike {d} {e} at too same long a =
     record {
       same-answer = refl;
-      same-used = files-alike (at .reached .holds) (too .reached .holds) same;
+      same-used = long;
       same-lines =
           ap (λ (r : Changed). r .map .lines) (is-read at) ∙ records-alike (d .holds) (e .holds) same ∙ sym (ap (λ (r : Changed). r .map .lines) (is-read too));
     }
@@ -57,7 +59,8 @@ left-alike {d} {e} at too same a =
 both-shown : {x y u v : PumpOutcome Buffer} → x ≡ u → y ≡ v → SameInBuffer u v → SameInBuffer x y
 both-shown {x} {y} {u} {v} p q s = rw (p, q) s
 
-module _ {d e : Desk} (at : At d) (too : At e) (same : d .holds .lines ≡ e .holds .lines) (room : length (d .bytes) ≡ length (e .bytes)) where
+module _ {d e : Desk} (at : At d) (too : At e) (same : d .holds .lines ≡ e .holds .lines) (used : length (d .file) ≡ length (e .file))
+    (room : length (d .bytes) ≡ length (e .bytes)) where
   -- a change that the machine answers alike, and that leaves the same lines,
   changes-alike : (c : Call) → numberOf (byMachine (d .holds) c .answer) ≡ numberOf (byMachine (e .holds) c .answer) →
       byMachine (d .holds) c .next .lines ≡ byMachine (e .holds) c .next .lines → SameInBuffer (shown (changes d c)) (shown (changes e c))
@@ -70,7 +73,7 @@ module _ {d e : Desk} (at : At d) (too : At e) (same : d .holds .lines ≡ e .ho
       let long = files-alike (p .holds) (q .holds) lines in
       let short = ltb (length (e .bytes)) (length (fileOf Q)) in
       let both : ltb (length (d .bytes)) (length (fileOf P)) ≡ short = rw (room, long) in
-      ⊎-elim (λ (t : leb 1 n ≡ true). rw (number, t) (left-alike at too same (says n [] [])))
+      ⊎-elim (λ (t : leb 1 n ≡ true). rw (number, t) (left-alike at too same used (says n [] [])))
       (λ (f : leb 1 n ≡ false).
       rw (number, f)
       (⊎-elim (λ (t : short ≡ true). rw (both ∙ t, t) (left-alike at too same (says 12 [] [])))
@@ -108,9 +111,11 @@ module _ {d e : Desk} (at : At d) (too : At e) (same : d .holds .lines ≡ e .ho
       }
 
 pub border-by-lines : (one other : Buffer) → readFile (lent (one .bytes) (one .used)) .number ≡ 0 → readFile (lent (other .bytes) (other .used)) .number ≡ 0 →
-    inBuffer one .lines ≡ inBuffer other .lines → length (one .bytes) ≡ length (other .bytes) → (s : Split) → BorderByLines one other s
+    inBuffer one .lines ≡ inBuffer other .lines → one .used ≡ other .used → length (one .bytes) ≡ length (other .bytes) → (s : Split) →
+    BorderByLines one other s
 unfolding plain
-border-by-lines one other e f same room s =
+border-by-lines one other e f same used room s =
     subst (λ (b : Buffer). BorderByLines b other s) (file-lent one e)
     (subst (λ (b : Buffer). BorderByLines (lentBy (file-desk one e)) b s) (file-lent other f)
-    (border-alike (file-at one e) (file-at other f) (ap layoutOf same) room s))
+    (border-alike (file-at one e) (file-at other f) (ap layoutOf same)
+    (ap (λ (b : Buffer). b .used) (file-lent one e) ∙ used ∙ sym (ap (λ (b : Buffer). b .used) (file-lent other f))) room s))

@@ -13,43 +13,50 @@ use lib.Seq.{take-append-seam, length-take-le}
 use Rattle.axis.proofs.Tests.{either, and-both, cond-true, cond-false}
 use Rattle.mesh.specs.Lines.{allowedSide}
 use Rattle.maps.specs.Plain.{Plain, freshPlain}
+use Rattle.maps.specs.declared.Changed.{Changed}
 use Rattle.maps.specs.Calls.{changed, freshMap}
 use Rattle.maps.specs.Histories as Maps
 use Rattle.maps.specs.Histories.{Call, numberOf, byMachine, ending}
 use Rattle.maps.proofs.GoodRecords.{record-good}
 use Rattle.maps.proofs.Reached.{Reached, fresh-reached, step-leads}
 use Rattle.maps.proofs.Rebuilding.{ending-join}
-use Rattle.maps.proofs.Demand3.{demand-three}
+use Rattle.maps.proofs.Demand3.{reached-demand}
 use Rattle.files.specs.File.{fileOf}
-use Rattle.files.specs.Calls.{ifRefused, writeNumber, readFile}
-use Rattle.files.specs.FromFile.{readPlain, fileCalls}
-use Rattle.files.proofs.RoundTrip.{file-length}
-use Rattle.files.proofs.GoodFiles.{accepts}
-use Rattle.files.proofs.FromFile.{read-reached, calls-end}
+use Rattle.files.specs.Calls.{ifRefused, writeNumberIn, readFile}
+use Rattle.files.specs.FromFile.{readPlain}
+use Rattle.files.proofs.RoundTrip.{is-refused}
+use Rattle.files.proofs.Reading.{file-lengths}
+use Rattle.files.proofs.GoodFiles.{plain-reads-back}
+use Rattle.files.proofs.FromFile.{read-reached, from-file}
 use Rattle.pump.specs.Border.{newNumber, newBytes, newUsed, freshNumber, lent}
 use Rattle.pump.specs.Histories.{PumpCall, fresh, set, exact, lengthened, place, reads, weighs, alongRow, alongColumn, sameAs, sameTo, checks, payloads, lists, PumpOutcome, Buffer, buffer, Desk, desk, puts, changes, byRules, lentBy, shown}
-use Rattle.pump.specs.Demand.{Past, past, withChange, pastAfter, BorderFrom, begun, BorderDemand, BorderFile}
+use Rattle.pump.specs.Demand.{Past, past, Begins, with-fresh, with-file, withChange, pastAfter, BorderFrom, begun, BorderDemand, BorderFile}
 use Rattle.pump.proofs.Histories.{At, puts-untouched, changes-untouched, step-shown}
 
 -- The desk holds what the history of its map leaves.
 pub record Lead (t : Past) (d : Desk) : Type 0 where
   pub at : At d
-  pub across : allowedSide (t .w) ≡ true
-  pub up : allowedSide (t .h) ≡ true
-  pub is : d .holds ≡ ending byMachine (freshPlain (t .w) (t .h)) (t .calls)
+  pub start : Begins (t .first)
+  pub first-reached : Reached (t .first)
+  pub is : d .holds ≡ ending byMachine (t .first) (t .calls)
 
 module _ {t : Past} {d : Desk} (l : Lead t d) where
-  puts-lead : (Q : Plain) → Reached Q → (new : Past) → allowedSide (new .w) ≡ true → allowedSide (new .h) ≡ true →
-      Q ≡ ending byMachine (freshPlain (new .w) (new .h)) (new .calls) →
+  puts-lead : (Q : Plain) → Reached Q → (new : Past) → Begins (new .first) → Reached (new .first) → Q ≡ ending byMachine (new .first) (new .calls) →
       let o = puts d Q in Lead (ifRefused (o .answer .number) t new) (o .next)
   puts-lead Q reached new a b is =
       ⊎-elim (λ (u : ltb (length (d .bytes)) (length (fileOf Q)) ≡ true). rw u l)
       (λ (u : ltb (length (d .bytes)) (length (fileOf Q)) ≡ false).
       rw u
       (record {
-        at = record { reached = reached; rest = drop (length (fileOf Q)) (d .bytes); begins = refl };
-        across = a;
-        up = b;
+        at =
+            record {
+              reached = reached;
+              rest = drop (length (fileOf Q)) (d .bytes);
+              begins = refl;
+              is-file = plain-reads-back Q (reached .holds) (reached .valued .small);
+            };
+        start = a;
+        first-reached = b;
         is = is;
       }))
       (either (ltb (length (d .bytes)) (length (fileOf Q))))
@@ -61,19 +68,21 @@ module _ {t : Past} {d : Desk} (l : Lead t d) where
       ⊎-elim (λ (y : leb 1 n ≡ true). rw (y, y) l)
       (λ (f : leb 1 n ≡ false).
       rw f
-      (puts-lead (byMachine (d .holds) c .next) (step-leads (d .holds) (l .at .reached) c .reached) (withChange t c) (l .across) (l .up)
-      (ap (λ (P : Plain). byMachine P c .next) (l .is) ∙ sym (ending-join byMachine (freshPlain (t .w) (t .h)) (t .calls) (c ∷ [])))))
+      (puts-lead (byMachine (d .holds) c .next) (step-leads (d .holds) (l .at .reached) c .reached) (withChange t c) (l .start) (l .first-reached)
+      (ap (λ (P : Plain). byMachine P c .next) (l .is) ∙ sym (ending-join byMachine (t .first) (t .calls) (c ∷ [])))))
       (either (leb 1 n))
 
   asks-lead : (n : ℕ) → Lead (ifRefused n t t) d
   asks-lead n = ⊎-elim (λ (y : leb 1 n ≡ true). rw y l) (λ (f : leb 1 n ≡ false). rw f l) (either (leb 1 n))
 
   step-lead : (c : PumpCall) → let o = byRules d c in Lead (ifRefused (o .answer .number) t (pastAfter t c)) (o .next)
+  unfolding freshMap
   step-lead (fresh w h) =
       ⊎-elim
       (λ (y : allowedSide w && allowedSide h ≡ true).
       let b = and-both (allowedSide w) (allowedSide h) y in
-      rw y (puts-lead (freshPlain w h) (fresh-reached w h (b .0) (b .1)) (past w h []) (b .0) (b .1) refl))
+      let reached = fresh-reached w h (b .0) (b .1) in
+      rw y (puts-lead (freshPlain w h) reached (past (freshPlain w h) []) (with-fresh w h (cond-true _ _ _ y)) reached refl))
       (λ (f : allowedSide w && allowedSide h ≡ false). rw f l)
       (either (allowedSide w && allowedSide h))
   step-lead (set m n v) = changes-lead (Maps.set m n v)
@@ -90,7 +99,7 @@ module _ {t : Past} {d : Desk} (l : Lead t d) where
   step-lead (payloads i) = asks-lead (byRules d (payloads i) .answer .number)
   step-lead (lists out) = asks-lead (byRules d (lists out) .answer .number)
 
-  step-untouched : (k : ℕ) (c : PumpCall) → length (fileOf (byRules d c .next .holds)) ≤ k → drop k (byRules d c .next .bytes) ≡ drop k (d .bytes)
+  step-untouched : (k : ℕ) (c : PumpCall) → length (byRules d c .next .file) ≤ k → drop k (byRules d c .next .bytes) ≡ drop k (d .bytes)
   step-untouched k (fresh w h) le =
       ⊎-elim (λ (y : allowedSide w && allowedSide h ≡ true). rw y (puts-untouched d k (freshPlain w h) (rw y at le)))
       (λ (f : allowedSide w && allowedSide h ≡ false). rw f) (either (allowedSide w && allowedSide h))
@@ -115,9 +124,11 @@ border-from [] t d l =
       same-outcomes = refl;
       same-left = refl;
       begins = rw (l .at .begins, take-append-seam);
+      is-file = l .at .is-file;
       untouched = λ k all. refl;
+      start = l .start;
       history = l .is;
-      demand = demand-three (t .w) (t .h) (l .across) (l .up) (t .calls);
+      demand = reached-demand (t .first) (l .first-reached) (t .calls);
     }
 border-from (c ∷ cs) t d l =
     let o = byRules d c in
@@ -126,14 +137,16 @@ border-from (c ∷ cs) t d l =
       same-outcomes = rw (step-shown (l .at) c) (ap (λ (os : List (PumpOutcome Buffer)). shown o ∷ os) (rest .same-outcomes));
       same-left = rw (step-shown (l .at) c) (rest .same-left);
       begins = rest .begins;
+      is-file = rest .is-file;
       untouched = λ k all. rest .untouched k (λ p m. all p (List·Memᴰ·tail m)) ∙ step-untouched l k c (all o (List·Memᴰ·head refl));
+      start = rest .start;
       history = rest .history;
       demand = rest .demand;
     }
 
 -- Demand 3 at the border: from an accepted `pump_fresh`.
 pub border-demand : (w h : ℕ) (start : Buffer) → freshNumber w h (start .bytes) ≡ 0 → (cs : List PumpCall) → BorderDemand w h start cs
-unfolding freshMap newNumber newBytes newUsed writeNumber
+unfolding freshMap newNumber newBytes newUsed writeNumberIn
 border-demand w h start e cs =
     ⊎-elim (λ (y : allowedSide w && allowedSide h ≡ true). accepted y) (λ (f : allowedSide w && allowedSide h ≡ false). absurd (omega (arith, rw f at e)))
     (either (allowedSide w && allowedSide h))
@@ -150,37 +163,44 @@ border-demand w h start e cs =
         record {
           made = rw (y, g .0, g .1, room);
           holds =
-              border-from cs (past w h []) (begun w h start)
+              border-from cs (past (freshPlain w h) []) (begun w h start)
               (record {
-                at = record { reached = reached; rest = drop (length file) (start .bytes); begins = refl };
-                across = b .0;
-                up = b .1;
+                at =
+                    record {
+                      reached = reached;
+                      rest = drop (length file) (start .bytes);
+                      begins = refl;
+                      is-file = plain-reads-back (freshPlain w h) (reached .holds) (reached .valued .small);
+                    };
+                start = with-fresh w h (cond-true _ _ _ y);
+                first-reached = reached;
                 is = refl;
               });
         }
 
 -- and from a buffer that holds a map's file: what the machine then holds.
 module _ (start : Buffer) (e : readFile (lent (start .bytes) (start .used)) .number ≡ 0) where
+  abbrev file : List ℕ
+  file = lent (start .bytes) (start .used)
+
   abbrev pub file-desk : Desk
-  file-desk = desk (readPlain (lent (start .bytes) (start .used))) (start .bytes)
+  file-desk = desk (readPlain file) file (start .bytes)
 
-  read-at : Reached (file-desk .holds)
-  read-at = read-reached (lent (start .bytes) (start .used)) e
+  read-at : Reached (readPlain file)
+  read-at = read-reached file e
 
-  is-file : lent (start .bytes) (start .used) ≡ fileOf (file-desk .holds)
-  is-file =
-      let bytes = lent (start .bytes) (start .used) in
-      accepts bytes .accepted (readFile bytes .map) (λ i. changed (e i) (readFile bytes .map)) .is-file
-
+  -- no file is empty, so the bytes in use lie in the buffer
   in-buffer : leb (start .used) (length (start .bytes)) ≡ true
   in-buffer =
-      let long = file-length (file-desk .holds) (read-at .holds .counted) in
       ⊎-elim (λ t. t)
-      (λ f. let none : _≡_ {A = ℕ} 0 (length (fileOf (file-desk .holds))) = ap length (sym (cond-false _ _ _ f) ∙ is-file) in absurd (omega arith))
+      (λ f. let z : _≡_ {A = ℕ} 11 0 = sym (ap (λ (l : List ℕ). readFile l .number) (cond-false _ _ _ f) ∙ no-bytes) ∙ e in absurd (omega arith))
       (either (leb (start .used) (length (start .bytes))))
+    where
+      no-bytes : readFile [] .number ≡ 11
+      no-bytes = ap (λ (c : Changed). c .number) (is-refused [] (λ g p. let l = file-lengths [] g p in let least = l .least in omega arith))
 
-  front : take (start .used) (start .bytes) ≡ fileOf (file-desk .holds)
-  front = sym (cond-true _ _ _ in-buffer) ∙ is-file
+  front : take (start .used) (start .bytes) ≡ file
+  front = sym (cond-true _ _ _ in-buffer)
 
   pub file-lent : lentBy file-desk ≡ start
   file-lent =
@@ -192,14 +212,16 @@ module _ (start : Buffer) (e : readFile (lent (start .bytes) (start .used)) .num
         reached = read-at;
         rest = drop (start .used) (start .bytes);
         begins = sym (take-append-drop (start .used) (start .bytes)) ∙ ap (λ (l : List ℕ). l ++ drop (start .used) (start .bytes)) front;
+        is-file = λ i. changed (e i) (from-file file e .is-record i);
       }
 
   pub border-file : (cs : List PumpCall) → BorderFile start cs
   border-file cs =
-      let P = file-desk .holds in
+      let told = from-file file e in
       record {
+        from-file = told;
         is-lent = file-lent;
         holds =
-            border-from cs (past (P .lines .w) (P .lines .h) (fileCalls P)) file-desk
-            (record { at = file-at; across = read-at .holds .taken .across; up = read-at .holds .taken .up; is = sym (calls-end P read-at) });
+            border-from cs (past (readPlain file) []) file-desk
+            (record { at = file-at; start = with-file file told; first-reached = read-at; is = refl });
       }

@@ -28,9 +28,8 @@ use Rattle.maps.proofs.Reached.{Reached, fresh-reached, step-leads}
 use Rattle.maps.proofs.Following.{step-follows}
 use Rattle.maps.proofs.PairsTold.{Nothing, row-nothing, column-nothing}
 use Rattle.files.specs.File.{fileOf}
-use Rattle.files.specs.Calls.{ifRefused, writeNumber, readFile}
+use Rattle.files.specs.Calls.{ifRefused, writeNumberIn, readFile}
 use Rattle.files.specs.Listing.{textNumber}
-use Rattle.files.proofs.GoodFiles.{reads-back}
 use Rattle.files.proofs.ReadMaps.{read-good}
 use Rattle.pump.specs.Border.{newNumber, newBytes, newUsed, lent, placeNumber, placeAfter, weightsNumber, weightsAfter, readingNumber, readingLitres, sameNumber, sameYes}
 use Rattle.pump.specs.Histories.{PumpCall, fresh, set, exact, lengthened, place, reads, weighs, alongRow, alongColumn, sameAs, sameTo, checks, payloads, lists, says, outcome, buffer, changing, byBorder, Desk, refuses, puts, changes, tellsPairs, byRules, lentBy, shown}
@@ -39,7 +38,8 @@ use Rattle.pump.specs.Histories.{PumpCall, fresh, set, exact, lengthened
 pub record At (d : Desk) : Type 0 where
   pub reached : Reached (d .holds)
   pub rest : List ℕ
-  pub begins : d .bytes ≡ fileOf (d .holds) ++ rest
+  pub begins : d .bytes ≡ d .file ++ rest
+  pub is-file : readFile (d .file) ≡ changed 0 (recordOf (d .holds))
 
 -- bytes behind other bytes in front of them
 past-front : (front bytes : List ℕ) (k : ℕ) → length front ≤ k → drop k (front ++ drop (length front) bytes) ≡ drop k bytes
@@ -52,9 +52,9 @@ past-front front bytes k le =
 -- a new map on the desk, or its refusal, is what writing it into the buffer gives
 module _ (d : Desk) where
   new-shown : (n : ℕ) (Q : Plain) → Reached Q → (r : Changed) → r ≡ changed n (recordOf Q) →
-      outcome (says (newNumber 0 r (d .bytes)) [] []) (buffer (newBytes 0 r (d .bytes)) (newUsed 0 r (d .bytes) (length (fileOf (d .holds))))) ≡
+      outcome (says (newNumber 0 r (d .bytes)) [] []) (buffer (newBytes 0 r (d .bytes)) (newUsed 0 r (d .bytes) (length (d .file)))) ≡
       shown (ifRefused n (refuses d n) (puts d Q))
-  unfolding newNumber newBytes newUsed writeNumber
+  unfolding newNumber newBytes newUsed writeNumberIn
   new-shown n Q at r is =
       let g = record-good (at .holds) in
       ⊎-elim (λ (t : leb 1 n ≡ true). rw (is, t, t))
@@ -65,22 +65,20 @@ module _ (d : Desk) where
       (either (leb 1 n))
 
   -- bytes past a file that is put in front are as they were
-  pub puts-untouched : (k : ℕ) (Q : Plain) → length (fileOf (puts d Q .next .holds)) ≤ k → drop k (puts d Q .next .bytes) ≡ drop k (d .bytes)
+  pub puts-untouched : (k : ℕ) (Q : Plain) → length (puts d Q .next .file) ≤ k → drop k (puts d Q .next .bytes) ≡ drop k (d .bytes)
   puts-untouched k Q le =
       ⊎-elim (λ (t : ltb (length (d .bytes)) (length (fileOf Q)) ≡ true). rw t)
       (λ (u : ltb (length (d .bytes)) (length (fileOf Q)) ≡ false). rw u (past-front (fileOf Q) (d .bytes) k (rw u at le)))
       (either (ltb (length (d .bytes)) (length (fileOf Q))))
 
 module _ {d : Desk} (at : At d) where
-  is-lent : lent (d .bytes) (length (fileOf (d .holds))) ≡ fileOf (d .holds)
+  is-lent : lent (d .bytes) (length (d .file)) ≡ d .file
   is-lent =
-      let short : length (fileOf (d .holds)) ≤ length (fileOf (d .holds) ++ at .rest) = simp length-append (omega arith) in
+      let short : length (d .file) ≤ length (d .file ++ at .rest) = simp length-append (omega arith) in
       rw (at .begins, le-leb _ _ short, take-append-seam)
 
-  pub is-read : readFile (lent (d .bytes) (length (fileOf (d .holds)))) ≡ changed 0 (recordOf (d .holds))
-  is-read =
-      ap readFile is-lent ∙
-      reads-back (d .holds) (at .reached .valued .small) (at .reached .valued .counted) (record-good (at .reached .holds) .0)
+  pub is-read : readFile (lent (d .bytes) (length (d .file))) ≡ changed 0 (recordOf (d .holds))
+  is-read = ap readFile is-lent ∙ at .is-file
 
   -- a change of the map,
   change-shown : (c : Call) (call : Map → Changed) →
@@ -138,7 +136,7 @@ module _ {d : Desk} (at : At d) where
   step-shown (lists out) = let g = record-good (at .reached .holds) in rw (is-read, g .1)
 
   -- and bytes past the file that it leaves are as they were.
-  pub changes-untouched : (k : ℕ) (c : Call) → length (fileOf (changes d c .next .holds)) ≤ k → drop k (changes d c .next .bytes) ≡ drop k (d .bytes)
+  pub changes-untouched : (k : ℕ) (c : Call) → length (changes d c .next .file) ≤ k → drop k (changes d c .next .bytes) ≡ drop k (d .bytes)
   changes-untouched k c le =
       let n = numberOf (byMachine (d .holds) c .answer) in
       ⊎-elim (λ (t : leb 1 n ≡ true). rw t) (λ (f : leb 1 n ≡ false). rw f (puts-untouched d k (byMachine (d .holds) c .next) (rw f at le)))

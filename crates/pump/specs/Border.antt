@@ -70,12 +70,12 @@ signed (negsuc n) = 65535
 abbrev pub shapeNumbers : Shape → List ℕ
 shapeNumbers s = signed (s .l) ∷ signed (s .m) ∷ signed (s .r) ∷ signed (s .b) ∷ signed (s .n) ∷ signed (s .t) ∷ []
 
--- pump_place: 11, 9, then 12. l, m, r, b, n, t and the value, as 16-bit numbers.
+-- pump_place: 11, 9, then 12. l, m, r, b, n, t, the value and its mark, as 16-bit numbers.
 abbrev pub placeBytes : Placed → List ℕ
-placeBytes p = joined word (shapeNumbers (p .blend) ++ p .value ∷ [])
+placeBytes p = joined word (shapeNumbers (p .blend) ++ p .value ∷ p .mark ∷ [])
 
 unfoldable pub placeNumber : List ℕ → ℕ → List ℕ → ℕ
-placeNumber file i out = firstOf (readFile file .number) (tablePlace (readFile file .map) i .number) (shortOf 14 out)
+placeNumber file i out = firstOf (readFile file .number) (tablePlace (readFile file .map) i .number) (shortOf 16 out)
 
 unfoldable pub placeAfter : List ℕ → ℕ → List ℕ → List ℕ
 placeAfter file i out = answered (placeNumber file i out) (placeBytes (tablePlace (readFile file .map) i)) out

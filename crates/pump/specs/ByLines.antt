@@ -17,7 +17,7 @@ pub record SameInBuffer (one other : PumpOutcome Buffer) : Type 0 where
   pub same-used : one .next .used ≡ other .next .used
   pub same-lines : inBuffer (one .next) .lines ≡ inBuffer (other .next) .lines
 
--- What `border-by-lines` shows of two buffers of one length that hold maps with the same lines, and of every split.
+-- What `border-by-lines` shows of two buffers of one length, with as many bytes in use, that hold maps with the same lines, and of every split.
 pub record BorderByLines (one other : Buffer) (s : Split) : Type 0 where
   pub exact : SameInBuffer (byBorder one (Calls.exact s)) (byBorder other (Calls.exact s))
   pub lengthened : SameInBuffer (byBorder one (Calls.lengthened s)) (byBorder other (Calls.lengthened s))

@@ -3,30 +3,36 @@ use Prim.Native.Nat.{ℕ, _≤_}
 use mathlib.Core.Path.{_≡_}
 use mathlib.Core.List.{List, [], _∷_, _++_, map, List·Memᴰ}
 use lib.ListN.{length, take, drop}
-use Rattle.maps.specs.Plain.{freshPlain}
+use Rattle.maps.specs.Plain.{Plain, freshPlain}
+use Rattle.maps.specs.Record.{recordOf}
+use Rattle.maps.specs.Calls.{changed, freshMap}
 use Rattle.maps.specs.Histories as Maps
 use Rattle.maps.specs.Histories.{Call, byMachine, ending}
-use Rattle.maps.specs.Demand.{Demand3}
+use Rattle.maps.specs.Demand.{DemandFrom}
 use Rattle.files.specs.File.{fileOf}
-use Rattle.files.specs.Calls.{ifRefused}
-use Rattle.files.specs.FromFile.{readPlain, fileCalls}
+use Rattle.files.specs.Calls.{ifRefused, readFile}
+use Rattle.files.specs.FromFile.{readPlain, FromFile}
 use Rattle.pump.specs.Border.{lent}
 use Rattle.pump.specs.Histories.{PumpCall, fresh, set, exact, lengthened, place, reads, weighs, alongRow, alongColumn, sameAs, sameTo, checks, payloads, lists, says, PumpOutcome, outcome, Buffer, byBorder, Desk, desk, byRules, outcomes, left, lentBy, shown}
 
--- The history of the map in the buffer: the sides of the last accepted `pump_fresh`, and the accepted changes since then.
+-- The history of the map in the buffer: what the map held that it begins with, and the accepted changes since then. It begins with the last accepted
+-- `pump_fresh` or, where there was none, with the map of the file that was in the buffer.
 pub record Past : Type 0 where
-  pub w : ℕ
-  pub h : ℕ
+  pub first : Plain
   pub calls : List Call
 
-abbrev pub past : ℕ → ℕ → List Call → Past
-past w h calls = record { w = w; h = h; calls = calls }
+abbrev pub past : Plain → List Call → Past
+past P calls = record { first = P; calls = calls }
+
+pub data Begins : Plain → Type 0 where
+  with-fresh : (w h : ℕ) → freshMap w h ≡ changed 0 (recordOf (freshPlain w h)) → Begins (freshPlain w h)
+  with-file : (bytes : List ℕ) → FromFile bytes → Begins (readPlain bytes)
 
 abbrev pub withChange : Past → Call → Past
-withChange t c = past (t .w) (t .h) (t .calls ++ c ∷ [])
+withChange t c = past (t .first) (t .calls ++ c ∷ [])
 
 abbrev pub pastAfter : Past → PumpCall → Past
-pastAfter t (fresh w h) = past w h []
+pastAfter t (fresh w h) = past (freshPlain w h) []
 pastAfter t (set m n v) = withChange t (Maps.set m n v)
 pastAfter t (exact s) = withChange t (Maps.exact s)
 pastAfter t (lengthened s) = withChange t (Maps.lengthened s)
@@ -52,25 +58,28 @@ pub record BorderFrom (t : Past) (d : Desk) (cs : List PumpCall) : Type 0 where
   -- it holds stands in front, and bytes after it are as they were before the call. So it is after the list.
   pub same-outcomes : outcomes byBorder (lentBy d) cs ≡ map shown (outcomes byRules d cs)
   pub same-left : left byBorder (lentBy d) cs ≡ lentBy (left byRules d cs)
-  pub begins : let e = left byRules d cs in take (length (fileOf (e .holds))) (e .bytes) ≡ fileOf (e .holds)
+  pub begins : let e = left byRules d cs in take (length (e .file)) (e .bytes) ≡ e .file
+  pub is-file : let e = left byRules d cs in readFile (e .file) ≡ changed 0 (recordOf (e .holds))
   -- Bytes after every file that the buffer held meanwhile are as they were before the list.
-  pub untouched : (k : ℕ) → ((o : PumpOutcome Desk) → List·Memᴰ o (outcomes byRules d cs) → length (fileOf (o .next .holds)) ≤ k) →
+  pub untouched : (k : ℕ) → ((o : PumpOutcome Desk) → List·Memᴰ o (outcomes byRules d cs) → length (o .next .file) ≤ k) →
       drop k (left byRules d cs .bytes) ≡ drop k (d .bytes)
-  -- The map in the buffer is the one that its history leaves, and demand 3 holds of that history.
-  pub history : let p = pastBy t d cs in left byRules d cs .holds ≡ ending byMachine (freshPlain (p .w) (p .h)) (p .calls)
-  pub demand : let p = pastBy t d cs in Demand3 (p .w) (p .h) (p .calls)
+  -- The map in the buffer is the one that its history leaves, marks too, and demand 3 holds of that history.
+  pub start : Begins (pastBy t d cs .first)
+  pub history : let p = pastBy t d cs in left byRules d cs .holds ≡ ending byMachine (p .first) (p .calls)
+  pub demand : let p = pastBy t d cs in DemandFrom (p .first) (p .calls)
 
 -- what the machine holds after an accepted `pump_fresh`
 abbrev pub begun : ℕ → ℕ → Buffer → Desk
-begun w h start = let file = fileOf (freshPlain w h) in desk (freshPlain w h) (file ++ drop (length file) (start .bytes))
+begun w h start = let file = fileOf (freshPlain w h) in desk (freshPlain w h) file (file ++ drop (length file) (start .bytes))
 
 -- From `pump_fresh`, where it is accepted.
 pub record BorderDemand (w h : ℕ) (start : Buffer) (cs : List PumpCall) : Type 0 where
   pub made : byBorder start (fresh w h) ≡ outcome (says 0 [] []) (lentBy (begun w h start))
-  pub holds : BorderFrom (past w h []) (begun w h start) cs
+  pub holds : BorderFrom (past (freshPlain w h) []) (begun w h start) cs
 
--- From a buffer that holds a map's file, with the calls that the file stands for as the history of its map.
+-- From a buffer that holds a map's file. `FromFile` tells what the splits and values of the file leave as calls, and demand 3 of them and what follows.
 pub record BorderFile (start : Buffer) (cs : List PumpCall) : Type 0 where
-  pub is-lent : let P = readPlain (lent (start .bytes) (start .used)) in lentBy (desk P (start .bytes)) ≡ start
-  pub holds : let P = readPlain (lent (start .bytes) (start .used)) in
-      BorderFrom (past (P .lines .w) (P .lines .h) (fileCalls P)) (desk P (start .bytes)) cs
+  pub from-file : FromFile (lent (start .bytes) (start .used))
+  pub is-lent : let file = lent (start .bytes) (start .used) in lentBy (desk (readPlain file) file (start .bytes)) ≡ start
+  pub holds : let file = lent (start .bytes) (start .used) in
+      BorderFrom (past (readPlain file) []) (desk (readPlain file) file (start .bytes)) cs

@@ -89,14 +89,15 @@ byBorder b checks = asking b (λ file. says (checkNumber file) [] [])
 byBorder b (payloads at) = asking b (λ file. says (payloadNumber file at) (payloadFrom file at ∷ payloadCount file at ∷ []) [])
 byBorder b (lists out) = asking b (λ file. says (textNumber file out) (textWritten file out .length ∷ []) (textAfter file out))
 
--- The plain machine at the border: it holds what the record of a map holds, and what the buffer's bytes are to be. It refuses or answers by the rules,
--- on what it holds.
+-- The plain machine at the border: it holds what the record of a map holds, the file of that map, and what the buffer's bytes are to be, the file in front.
+-- It refuses or answers by the rules, on what it holds. An old file stays until a change is accepted.
 pub record Desk : Type 0 where
   pub holds : Plain
+  pub file : List ℕ
   pub bytes : List ℕ
 
-abbrev pub desk : Plain → List ℕ → Desk
-desk P bytes = record { holds = P; bytes = bytes }
+abbrev pub desk : Plain → List ℕ → List ℕ → Desk
+desk P file bytes = record { holds = P; file = file; bytes = bytes }
 
 abbrev pub refuses : Desk → ℕ → PumpOutcome Desk
 refuses d n = outcome (says n [] []) d
@@ -105,7 +106,7 @@ refuses d n = outcome (says n [] []) d
 abbrev pub puts : Desk → Plain → PumpOutcome Desk
 puts d Q =
     cond (ltb (length (d .bytes)) (length (fileOf Q))) (refuses d 12)
-    (outcome (says 0 [] []) (desk Q (fileOf Q ++ drop (length (fileOf Q)) (d .bytes))))
+    (outcome (says 0 [] []) (desk Q (fileOf Q) (fileOf Q ++ drop (length (fileOf Q)) (d .bytes))))
 
 -- A change of the map, as the plain machine of maps makes it; its refusals come before 12.
 abbrev pub changes : Desk → Call → PumpOutcome Desk
@@ -132,7 +133,7 @@ byRules d (fresh w h) = cond (allowedSide w && allowedSide h) (puts d (freshPlai
 byRules d (set m n v) = changes d (Maps.set m n v)
 byRules d (exact s) = changes d (Maps.exact s)
 byRules d (lengthened s) = changes d (Maps.lengthened s)
-byRules d (place i out) = let p = placeOn (d .holds) i in tells d (p .number) (placeBytes p) 14 out
+byRules d (place i out) = let p = placeOn (d .holds) i in tells d (p .number) (placeBytes p) 16 out
 byRules d (reads u v) = let r = readingOn (d .holds) u v in outcome (says (r .number) (r .litres ∷ []) []) d
 byRules d (weighs u v out) = let w = weightsOn (d .holds) u v in tells d (w .number) (weightsBytes w) 64 out
 byRules d (alongRow v wanted) = tellsPairs d (rowOn (d .holds) v wanted)
@@ -140,9 +141,7 @@ byRules d (alongColumn u wanted) = tellsPairs d (columnOn (d .holds) u wanted)
 byRules d (sameAs other) = let f = readFile other in compares d (f .number) (samePlain (d .holds) (plain (f .map)))
 byRules d (sameTo other) = let f = readFile other in compares d (f .number) (samePlain (plain (f .map)) (d .holds))
 byRules d checks = outcome (says 0 [] []) d
-byRules d (payloads at) =
-    let file = fileOf (d .holds) in
-    outcome (says (payloadNumber file at) (payloadFrom file at ∷ payloadCount file at ∷ []) []) d
+byRules d (payloads at) = outcome (says (payloadNumber (d .file) at) (payloadFrom (d .file) at ∷ payloadCount (d .file) at ∷ []) []) d
 byRules d (lists out) =
     let text = tableText (d .holds) in
     let n = shortOf (length text) out in
@@ -159,7 +158,7 @@ left step s (c ∷ cs) = left step (step s c .next) cs
 
 -- the buffer of what the machine holds; and an outcome of the machine with it
 abbrev pub lentBy : Desk → Buffer
-lentBy d = buffer (d .bytes) (length (fileOf (d .holds)))
+lentBy d = buffer (d .bytes) (length (d .file))
 
 abbrev pub shown : PumpOutcome Desk → PumpOutcome Buffer
 shown o = outcome (o .answer) (lentBy (o .next))

@@ -29,13 +29,13 @@ pub extern "C" fn pump_place(file: &[u8], place: usize, out: &mut [u8]) -> usize
 {
     let known = read_opened(file);
     let entry = known.place(place);
-    let number = first(known.number, entry.number, short(out.len(), 14));
+    let number = first(known.number, entry.number, short(out.len(), 16));
     if number != 0 {
         return number;
     }
     let shape = entry.blend;
-    let words = words_of(shape, entry.value, 0);
-    put_words(out, 0, &words[..7]);
+    let words = words_of(shape, entry.value, entry.mark);
+    put_words(out, 0, &words);
     number
 }
 

@@ -1,16 +1,20 @@
--- `read_opened` meets its contract: no file has the lengths that are refused, and the map that the bytes tell is written again and compared.
+-- `read_opened` meets its contract: no file has the lengths that are refused, and the map that the bytes tell is written again, in their form, and compared.
 use borrow.Author.Needs.{needs}
 use native.Mathlib.Omega.{arith}
 use borrow.Author.Tests.{not-true, not-false}
+use Prim.Native.Nat.{ℕ, _+_, _*_, _-_, _/_, _≤_, _<_}
 use mathlib.Core.Path.{_≡_, refl, sym, ap, _∙_}
+use mathlib.Core.Bool.{Bool, true, false}
+use mathlib.Core.List.{List}
 use Rattle.maps.specs.Opened.{withTable}
 use Rattle.maps.proofs.Changing.{same-map, not-good, is-opened, opened-as}
-use lib.ListN.{replicate}
+use lib.ListN.{length, replicate}
 use lib.Seq.{length-take-le}
-use Rattle.files.specs.Calls.{written, after}
+use Rattle.files.specs.File.{valueSize, isOld}
+use Rattle.files.specs.Calls.{writtenIn, afterIn}
 use Rattle.files.proofs.RoundTrip.{is-refused}
 use Rattle.files.proofs.Taking.{count-few}
-use Rattle.files.proofs.Reading.{Wrote, wrote, file-lengths, not-opened, not-written, not-same, all-same}
+use Rattle.files.proofs.Reading.{size-least, Wrote, wrote, file-lengths, not-opened, not-written, not-same, all-same}
 use Rattle.files.proofs.read_opened.Statement.{statement}
 use Rattle.files.proofs.read_opened.Tie as tie
 
@@ -30,18 +34,56 @@ returns-2 c =
     let bytes = c .before .before .before .before .before .args .bytes .now in
     c .refused2 .ensures ∙ sym (ap withTable (is-refused bytes (λ g e. let f = file-lengths bytes g e in omega (arith, f .least))))
 
+-- the bytes, and the size of a value in their form
+abbrev given : tie.After-value-size → List ℕ
+given c = c .before .before .before .before .before .before .args .bytes .now
+
+size-is : (c : tie.After-value-size) → c .value-size .result ≡ valueSize (isOld (given c))
+size-is c = c .value-size .ensures ∙ ap valueSize (c .before .is-old .ensures)
+
+div-places : tie.Need-div-places
+div-places c = omega (arith, size-is c, size-least (isOld (given c)))
+
+too-many : (old : Bool) (n : ℕ) → n ≤ valueSize old * 1024 → 1024 < n / valueSize old → ⊥
+too-many true n le lt = omega arith
+too-many false n le lt = omega arith
+
 returns-3 : tie.Need-returns-3
 returns-3 c =
-    let bytes = c .before .before .before .before .before .before .args .bytes .now in
-    c .refused3 .ensures ∙ sym (ap withTable (is-refused bytes (λ g e. let f = file-lengths bytes g e in omega (arith, f .most))))
+    let many = c .before in
+    let size = many .before in
+    let bytes = given size in
+    let count = size .before .before .before .count-splits in
+    c .refused3 .ensures ∙
+    sym (ap withTable (is-refused bytes (λ g e.
+    too-many (isOld bytes) (length bytes - (12 + 12 * count .result)) (omega (arith, file-lengths bytes g e .most, count .ensures)) (rw (size-is size) at (many .if3 .taken)))))
+
+taken-requires : tie.Need-taken-requires
+taken-requires c κs =
+    let size = c .before in
+    let fits = size .before .before in
+    let count = fits .before .count-splits in
+    let left : length (given size) - (12 + 12 * count .result) ≡ length (given size) - 12 - 12 * count .result = omega arith in
+    (
+      count .ensures,
+      ap (λ (n : ℕ). n / size .value-size .result) left,
+      c .if3 .left,
+      fits .if2 .left,
+      size .before .is-old .ensures,
+      size .value-size .ensures,
+    )
+
+-- where the bytes and their form were found, from the place after the map is taken
+abbrev sized : tie.After-taken → tie.After-value-size
+sized c = c .before .before
 
 returns-4 : tie.Need-returns-4
 returns-4 c =
-    let taken = c .before .before .before .before in
-    let start = taken .before .before .before .before .before .before in
+    let o = c .before .before .before in
+    let taken = o .before in
     c .refused4 .ensures ∙
-    sym (ap withTable (not-opened (start .args .bytes .now) (taken .taken .result) (taken .taken .ensures)
-    (not-good _ (c .before .before .before .«open» .result) (c .before .before .before .«open» .ensures) (c .before .if4 .taken))))
+    sym (ap withTable (not-opened (given (sized taken)) (taken .taken .result) (taken .taken .ensures)
+    (not-good _ (o .«open» .result) (o .«open» .ensures) (c .before .if4 .taken))))
 
 write-opened-requires : tie.Need-write-opened-requires
 write-opened-requires c κs =
@@ -51,26 +93,30 @@ write-opened-requires c κs =
 
 -- the map that was opened is the one that was taken
 wrote-opened : (c : tie.After-write-opened) →
-    let o = c .before .before .before .before in
-    let m = o .before .taken .result in
-    (c .write-opened .result ≡ written m (replicate 10972 0)) × (c .write-opened .last .1 .0 ≡ after m (replicate 10972 0))
-wrote-opened c = let o = c .before .before .before .before .«open» in rw (same-map _ (o .result) (o .ensures)) at (c .write-opened .ensures)
+    let taken = c .before .before .before .before .before in
+    let m = taken .taken .result in
+    let old = isOld (given (sized taken)) in
+    (c .write-opened .result ≡ writtenIn old m (replicate 13020 0)) × (c .write-opened .last .1 .1 .0 ≡ afterIn old m (replicate 13020 0))
+wrote-opened c =
+    let opened = c .before .before .before .before in
+    let o = opened .«open» in
+    rw (same-map _ (o .result) (o .ensures), sized (opened .before) .before .is-old .ensures) at (c .write-opened .ensures)
 
 returns-5 : tie.Need-returns-5
 returns-5 c =
     let put = c .before .before .before .before in
     let taken = put .before .before .before .before .before in
-    let start = taken .before .before .before .before .before .before in
     c .refused5 .ensures ∙
-    sym (ap withTable (not-written (start .args .bytes .now) (taken .taken .result) (taken .taken .ensures) _ (wrote-opened put .0) refl (c .before .if5 .taken)))
+    sym (ap withTable (not-written (given (sized taken)) (taken .taken .result) (taken .taken .ensures) _ (wrote-opened put .0) refl (c .before .if5 .taken)))
 
 filed : (c : tie.Else5) →
     let put = c .before .before .before in
-    Wrote (put .before .before .before .before .before .taken .result) (put .write-opened .result .length) (put .write-opened .last .1 .0)
+    let taken = put .before .before .before .before .before in
+    Wrote (isOld (given (sized taken))) (taken .taken .result) (put .write-opened .result .length) (put .write-opened .last .1 .1 .0)
 filed c =
     let put = c .before .before .before in
     let w = wrote-opened put in
-    wrote _ _ (w .0) (w .1) (c .if5 .left)
+    wrote _ _ _ (w .0) (w .1) (c .if5 .left)
 
 array-share-prefix-buffer : tie.Need-array-share-prefix-buffer
 array-share-prefix-buffer c = filed c .fits
@@ -83,9 +129,8 @@ returns-6 c =
     let same = c .before .before in
     let at = same .before .before in
     let taken = at .before .before .before .before .before .before .before .before in
-    let start = taken .before .before .before .before .before .before in
     c .refused6 .ensures ∙
-    sym (ap withTable (not-same (start .args .bytes .now) (taken .taken .result) (taken .taken .ensures) (filed at) (sym (same .equal .ensures) ∙ not-true _ (c .before .if6 .taken))))
+    sym (ap withTable (not-same (given (sized taken)) (taken .taken .result) (taken .taken .ensures) (filed at) (sym (same .equal .ensures) ∙ not-true _ (c .before .if6 .taken))))
 
 returns-7 : tie.Need-returns-7
 returns-7 c =
@@ -93,9 +138,8 @@ returns-7 c =
     let at = same .before .before in
     let o = at .before .before .before .before .before .before .before in
     let taken = o .before in
-    let start = taken .before .before .before .before .before .before in
     opened-as _ (o .«open» .result) (o .«open» .ensures) (at .before .before .before .before .before .if4 .left) ∙
-    ap withTable (all-same (start .args .bytes .now) (taken .taken .result) (taken .taken .ensures) (filed at) (sym (same .equal .ensures) ∙ not-false _ (c .if6 .left)))
+    ap withTable (all-same (given (sized taken)) (taken .taken .result) (taken .taken .ensures) (filed at) (sym (same .equal .ensures) ∙ not-false _ (c .if6 .left)))
 
 pub read-opened-spec : {M : Type 1} → statement M
 read-opened-spec =
@@ -108,9 +152,12 @@ read-opened-spec =
     add-used
     (λ c κs. search needs)
     returns-2
+    (λ c κs. (c .before .count-splits .ensures, c .if2 .left))
+    (λ c κs. search needs)
+    div-places
     (λ c κs. search needs)
     returns-3
-    (λ c κs. search needs)
+    taken-requires
     (λ c κs. search needs)
     (λ c κs. search needs)
     returns-4

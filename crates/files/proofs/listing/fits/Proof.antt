@@ -6,17 +6,25 @@ use Prim.Native.Nat.{ℕ, _≤_}
 use mathlib.Core.Path.{sym, ap}
 use lib.Dec.{leb}
 use lib.ListN.{length}
-use mir.Syntax.{w16}
+use mir.Syntax.{w8, w16}
 use Rattle.mesh.proofs.BlendTables.{table-full}
 use Rattle.files.specs.Inner.{textFrom}
+use Rattle.files.proofs.Terms.{InHand}
 use Rattle.files.proofs.TableLines.{text-from-most}
 use Rattle.files.proofs.listing.fits.Statement.{statement}
 use Rattle.files.proofs.listing.fits.Tie as tie
 
-most : (c : tie.Start) → length (textFrom (c .args .table) (c .args .values)) ≤ 65536
+most : (c : tie.Start) → length (textFrom (c .args .table) (c .args .values) (c .args .marks)) ≤ 65536
 most c =
-    text-from-most (c .args .table) (c .args .values) (c .pre) (table-full (c .args .table) (c .good .0)) (c .good .1 .0 .1 .0 .1)
-    (λ i. elem-fits w16 w16 (c .args .values) _ i (c .good .1 .0 .1 .1) tt .fits)
+    let hand : InHand (c .args .table) (c .args .values) (c .args .marks) =
+    record {
+      ok = c .pre;
+      places = table-full (c .args .table) (c .good .0);
+      full = c .good .1 .0 .1 .0 .1;
+      full-marks = c .good .1 .1 .0 .1 .0 .1;
+    } in
+    text-from-most hand (λ i. elem-fits w16 w16 (c .args .values) _ i (c .good .1 .0 .1 .1) tt .fits)
+    (λ i. elem-fits w8 w8 (c .args .marks) _ i (c .good .1 .1 .0 .1 .1) tt .fits)
 
 returns : tie.Need-returns
 returns c = sym (le-leb _ _ (le-trans (most (c .before)) (c .if1 .taken)))

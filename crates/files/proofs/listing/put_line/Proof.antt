@@ -1,9 +1,9 @@
--- `listing::put_line` meets its contract: two triples and the value in a row.
+-- `listing::put_line` meets its contract: two triples, then the value and its mark, in a row.
 use borrow.Author.Needs.{needs}
 use Prim.Native.Nat.{_+_, _≤_}
 use mathlib.Core.List.{_++_}
 use lib.ListN.{length}
-use Rattle.files.specs.Listing.{knots, numberLine, line}
+use Rattle.files.specs.Listing.{knots, valueLine, line}
 use Rattle.files.proofs.Texts.{first-room, two-room, next-room, third-room, puts-three}
 use Rattle.files.proofs.listing.put_line.Statement.{statement}
 use Rattle.files.proofs.listing.put_line.Tie as tie
@@ -14,7 +14,7 @@ front-room : (c : tie.Start) →
     a .at + length (knots (a .blend .across) ++ knots (a .blend .up)) ≤ length (a .out .now)
 unfolding line
 front-room c =
-    let a = c .args in two-room (a .out .now) (a .at) (knots (a .blend .across)) (knots (a .blend .up)) (numberLine (a .value)) (c .pre)
+    let a = c .args in two-room (a .out .now) (a .at) (knots (a .blend .across)) (knots (a .blend .up)) (valueLine (a .value) (a .mark)) (c .pre)
 
 put-knots-requires : tie.Need-put-knots-requires
 put-knots-requires c κs =
@@ -29,14 +29,14 @@ put-knots-requires-2 c κs =
     let a = start .args in
     next-room (a .out .now) (a .at) (knots (a .blend .across)) (knots (a .blend .up)) (front-room start) (first .put-knots .ensures)
 
-put-number-line-requires : tie.Need-put-number-line-requires
+put-value-line-requires : tie.Need-put-value-line-requires
 unfolding line
-put-number-line-requires c κs =
+put-value-line-requires c κs =
     let second = c .before .before .before in
     let first = second .before .before .before .before in
     let start = first .before .before .before .before .before in
     let a = start .args in
-    third-room (a .out .now) (a .at) (knots (a .blend .across)) (knots (a .blend .up)) (numberLine (a .value)) (start .pre) (first .put-knots .ensures)
+    third-room (a .out .now) (a .at) (knots (a .blend .across)) (knots (a .blend .up)) (valueLine (a .value) (a .mark)) (start .pre) (first .put-knots .ensures)
     (second .put-knots2 .ensures)
 
 returns : tie.Need-returns
@@ -47,10 +47,10 @@ returns c =
     let first = second .before .before .before .before in
     let start = first .before .before .before .before .before in
     let a = start .args in
-    puts-three (a .out .now) (a .at) (knots (a .blend .across)) (knots (a .blend .up)) (numberLine (a .value)) (start .pre) (first .put-knots .ensures)
-    (second .put-knots2 .ensures) (third .put-number-line .ensures)
+    puts-three (a .out .now) (a .at) (knots (a .blend .across)) (knots (a .blend .up)) (valueLine (a .value) (a .mark)) (start .pre) (first .put-knots .ensures)
+    (second .put-knots2 .ensures) (third .put-value-line .ensures)
 
 pub put-line-spec : {M : Type 1} → statement M
 put-line-spec =
     tie.close
-    (tie.spec put-knots-requires put-knots-requires-2 put-number-line-requires (λ c. search needs) returns)
+    (tie.spec put-knots-requires put-knots-requires-2 put-value-line-requires (λ c. search needs) returns)
