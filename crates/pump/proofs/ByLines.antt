@@ -29,7 +29,7 @@ use Rattle.files.proofs.RoundTrip.{file-length}
 use Rattle.pump.specs.Border.{lent}
 use Rattle.pump.specs.Histories.{PumpAnswer, PumpOutcome, Buffer, exact, lengthened, outcome, says, Desk, changes, lentBy, shown}
 use Rattle.pump.specs.ByLines.{inBuffer, SameInBuffer, BorderByLines}
-use Rattle.pump.proofs.Histories.{At, is-read, step-shown}
+use Rattle.pump.proofs.Histories.{At, put-at, is-read, step-shown}
 use Rattle.pump.proofs.Demand3.{file-desk, file-lent, file-at}
 
 -- the lines of a record and of what it holds tell each other, and how long the file is
@@ -76,11 +76,10 @@ module _ {d e : Desk} (at : At d) (too : At e) (same : d .holds .lines ≡ e .ho
       ⊎-elim (λ (t : leb 1 n ≡ true). rw (number, t) (left-alike at too same used (says n [] [])))
       (λ (f : leb 1 n ≡ false).
       rw (number, f)
-      (⊎-elim (λ (t : short ≡ true). rw (both ∙ t, t) (left-alike at too same (says 12 [] [])))
+      (⊎-elim (λ (t : short ≡ true). rw (both ∙ t, t) (left-alike at too same used (says 12 [] [])))
       (λ (u : short ≡ false).
       rw (both ∙ u, u)
-      (left-alike (record { reached = p; rest = drop (length (fileOf P)) (d .bytes); begins = refl })
-      (record { reached = q; rest = drop (length (fileOf Q)) (e .bytes); begins = refl }) lines (says 0 [] []))) (either short)))
+      (left-alike (put-at P p (d .bytes)) (put-at Q q (e .bytes)) lines long (says 0 [] []))) (either short)))
       (either (leb 1 n))
 
   -- and so a split,

@@ -26,12 +26,11 @@ use Rattle.files.specs.Calls.{ifRefused, writeNumberIn, readFile}
 use Rattle.files.specs.FromFile.{readPlain}
 use Rattle.files.proofs.RoundTrip.{is-refused}
 use Rattle.files.proofs.Reading.{file-lengths}
-use Rattle.files.proofs.GoodFiles.{plain-reads-back}
 use Rattle.files.proofs.FromFile.{read-reached, from-file}
 use Rattle.pump.specs.Border.{newNumber, newBytes, newUsed, freshNumber, lent}
 use Rattle.pump.specs.Histories.{PumpCall, fresh, set, exact, lengthened, place, reads, weighs, alongRow, alongColumn, sameAs, sameTo, checks, payloads, lists, PumpOutcome, Buffer, buffer, Desk, desk, puts, changes, byRules, lentBy, shown}
 use Rattle.pump.specs.Demand.{Past, past, Begins, with-fresh, with-file, withChange, pastAfter, BorderFrom, begun, BorderDemand, BorderFile}
-use Rattle.pump.proofs.Histories.{At, puts-untouched, changes-untouched, step-shown}
+use Rattle.pump.proofs.Histories.{At, put-at, puts-untouched, changes-untouched, step-shown}
 
 -- The desk holds what the history of its map leaves.
 pub record Lead (t : Past) (d : Desk) : Type 0 where
@@ -48,13 +47,7 @@ module _ {t : Past} {d : Desk} (l : Lead t d) where
       (λ (u : ltb (length (d .bytes)) (length (fileOf Q)) ≡ false).
       rw u
       (record {
-        at =
-            record {
-              reached = reached;
-              rest = drop (length (fileOf Q)) (d .bytes);
-              begins = refl;
-              is-file = plain-reads-back Q (reached .holds) (reached .valued .small);
-            };
+        at = put-at Q reached (d .bytes);
         start = a;
         first-reached = b;
         is = is;
@@ -165,13 +158,7 @@ border-demand w h start e cs =
           holds =
               border-from cs (past (freshPlain w h) []) (begun w h start)
               (record {
-                at =
-                    record {
-                      reached = reached;
-                      rest = drop (length file) (start .bytes);
-                      begins = refl;
-                      is-file = plain-reads-back (freshPlain w h) (reached .holds) (reached .valued .small);
-                    };
+                at = put-at (freshPlain w h) reached (start .bytes);
                 start = with-fresh w h (cond-true _ _ _ y);
                 first-reached = reached;
                 is = refl;

@@ -30,9 +30,10 @@ use Rattle.maps.proofs.PairsTold.{Nothing, row-nothing, column-nothing}
 use Rattle.files.specs.File.{fileOf}
 use Rattle.files.specs.Calls.{ifRefused, writeNumberIn, readFile}
 use Rattle.files.specs.Listing.{textNumber}
+use Rattle.files.proofs.GoodFiles.{plain-reads-back}
 use Rattle.files.proofs.ReadMaps.{read-good}
 use Rattle.pump.specs.Border.{newNumber, newBytes, newUsed, lent, placeNumber, placeAfter, weightsNumber, weightsAfter, readingNumber, readingLitres, sameNumber, sameYes}
-use Rattle.pump.specs.Histories.{PumpCall, fresh, set, exact, lengthened, place, reads, weighs, alongRow, alongColumn, sameAs, sameTo, checks, payloads, lists, says, outcome, buffer, changing, byBorder, Desk, refuses, puts, changes, tellsPairs, byRules, lentBy, shown}
+use Rattle.pump.specs.Histories.{PumpCall, fresh, set, exact, lengthened, place, reads, weighs, alongRow, alongColumn, sameAs, sameTo, checks, payloads, lists, says, outcome, buffer, changing, byBorder, Desk, desk, refuses, puts, changes, tellsPairs, byRules, lentBy, shown}
 
 -- What holds of the desk throughout: its map was reached, and the buffer begins with that map's file.
 pub record At (d : Desk) : Type 0 where
@@ -40,6 +41,16 @@ pub record At (d : Desk) : Type 0 where
   pub rest : List ℕ
   pub begins : d .bytes ≡ d .file ++ rest
   pub is-file : readFile (d .file) ≡ changed 0 (recordOf (d .holds))
+
+-- so it is where a file was put in front
+pub put-at : (Q : Plain) → Reached Q → (bytes : List ℕ) → At (desk Q (fileOf Q) (fileOf Q ++ drop (length (fileOf Q)) bytes))
+put-at Q reached bytes =
+    record {
+      reached = reached;
+      rest = drop (length (fileOf Q)) bytes;
+      begins = refl;
+      is-file = plain-reads-back Q (reached .holds) (reached .valued .small);
+    }
 
 -- bytes behind other bytes in front of them
 past-front : (front bytes : List ℕ) (k : ℕ) → length front ≤ k → drop k (front ++ drop (length front) bytes) ≡ drop k bytes

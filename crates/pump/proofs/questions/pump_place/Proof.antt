@@ -1,10 +1,8 @@
 -- `pump_place` meets its contract: a refusal, or the entry's numbers put in front.
 use borrow.Author.Needs.{needs}
-use native.Mathlib.Omega.{arith}
 use mathlib.Core.Path.{_≡_, sym, _∙_}
 use Rattle.maps.specs.Calls.{tablePlace}
 use Rattle.files.specs.Calls.{readFile}
-use lib.Seq.{length-take-le}
 use Rattle.files.proofs.Putting.{words-fit}
 use Rattle.pump.specs.Border.{placeNumber, placeAfter}
 use Rattle.pump.proofs.Refusals.{stays, gives, enough}
@@ -31,9 +29,6 @@ returns : tie.Need-returns
 unfolding placeAfter
 returns c = let e = number (c .before) in (e, stays _ _ e (c .if1 .taken))
 
-slice-aggregate-put-words : tie.Need-slice-aggregate-put-words
-slice-aggregate-put-words c = let w = c .before .before .words-of in sym (length-take-le 7 (w .result) (rw (w .ensures) (omega arith)))
-
 returns-2 : tie.Need-returns-2
 unfolding placeAfter
 returns-2 c =
@@ -43,7 +38,7 @@ returns-2 c =
     let told = yes .before in
     let asked = told .before .before in
     let known = asked .before in
-    let room = enough (known .read-opened .result .number) (asked .place .result .number) _ _ 14 (told .before .short .ensures) (sym (told .first .ensures) ∙ yes .if1 .left) in
+    let room = enough (known .read-opened .result .number) (asked .place .result .number) _ _ 16 (told .before .short .ensures) (sym (told .first .ensures) ∙ yes .if1 .left) in
     let e = number told in
     (e, rw (words .words-of .ensures, entry asked) at (put .put-words .ensures) ∙ words-fit _ _ _ room ∙ gives _ _ e (yes .if1 .left))
 
@@ -58,7 +53,6 @@ pump-place-spec =
     returns
     (λ c κs. search needs)
     (λ c. search needs)
-    slice-aggregate-put-words
     (λ c κs. search needs)
     (λ c. search needs)
     returns-2)
