@@ -14,7 +14,7 @@ use Rattle.mesh.specs.Blends as Blends
 use Rattle.mesh.specs.Sound.{overSquare}
 use Rattle.mesh.specs.Sound as Sound
 use Rattle.maps.specs.Plain.{Plain, freshPlain, blends}
-use Rattle.maps.specs.Values.{readingAt, carried, drawn}
+use Rattle.maps.specs.Values.{readingAt, carried, keptMark, drawn}
 use Rattle.mesh.specs.Splits.{liveOf, withLine, given, exactNumber}
 use Rattle.mesh.specs.Lengthening.{containing, candidate, chosen}
 use Rattle.maps.specs.Calls.{freshMap, setPlain}
@@ -30,6 +30,8 @@ data Row : Type 0 where
   reached : Call → ℕ → ℕ → Row
   -- the ends with which the last split was drawn
   drawnFrom : ℕ → ℕ → Row
+  -- the marks of the values, in table order
+  marked : List ℕ → Row
   -- with a line drawn as given, in how many supports the unit square at (x, y) lies
   supports : Split → ℕ → ℕ → ℕ → Row
 
@@ -54,6 +56,7 @@ Right P (row c n s ∷ rs) =
     (numberOf (o .answer) ≡ n) × (shownBy (o .answer) (o .next) ≡ s) × Right (o .next) rs
 Right P (reached c n k ∷ rs) = (byMachine P c .answer ≡ walked (record { number = 0; count = n; first = k })) × Right P rs
 Right P (drawnFrom f t ∷ rs) = (last (P .lines .splits) .from ≡ f) × (last (P .lines .splits) .to ≡ t) × Right P rs
+Right P (marked ks ∷ rs) = (P .marks ≡ ks) × Right P rs
 Right P (supports s x y n ∷ rs) = (length (only (overSquare (x + 1) (y + 1)) (liveOf (withLine (P .lines) s))) ≡ n) × Right P rs
 
 -- the number of a fresh map of two sides, and rows on it
@@ -111,15 +114,19 @@ beside =
     on 4 1
     (row (exact (upright 2 0 1)) 0 6 ∷ row (set 2 0 10) 0 6 ∷ reached (alongRow 0 5) 2 0 ∷ reached (alongRow 0 6) 2 1 ∷ reached (alongColumn 2 10) 1 0 ∷
     row (alongColumn 0 5) 13 0 ∷ []) ∷
+    -- L5: a fresh map's marks; a value set to what it is; a split, which keeps old marks and gives new anchors 0; no anchor
+    on 4 1
+    (marked (0 ∷ 0 ∷ 0 ∷ 0 ∷ []) ∷ row (set 4 0 0) 0 4 ∷ marked (0 ∷ 0 ∷ 1 ∷ 0 ∷ []) ∷ row (exact (upright 1 0 1)) 0 6 ∷ marked (0 ∷ 0 ∷ 0 ∷ 0 ∷ 1 ∷ 0 ∷ []) ∷
+    row (set 2 0 7) 9 6 ∷ row (set 1 1 3) 0 6 ∷ marked (0 ∷ 0 ∷ 0 ∷ 1 ∷ 1 ∷ 0 ∷ []) ∷ []) ∷
     []
 
 all-starred : AllRight starred
-unfolding AllRight starred beside Right last shownBy freshMap setPlain drawn given exactNumber containing candidate chosen readingAt carried freshPlain Triple.half Triple.hat Lines.inRange Lines.draws Lines.freshMesh Lines.mesh Lines.onLine Lines.shares Lines.ended Blends.halve Nearest.below Nearest.above Nearest.nearest Blends.isCut Blends.leaves Blends.leavesOf Blends.once Blends.inTableOrder Blends.refine Blends.live Sound.fourEverywhere Sound.noneNested Sound.sound
+unfolding AllRight starred beside Right last shownBy freshMap setPlain drawn given exactNumber containing candidate chosen readingAt carried keptMark freshPlain Triple.half Triple.hat Lines.inRange Lines.draws Lines.freshMesh Lines.mesh Lines.onLine Lines.shares Lines.ended Blends.halve Nearest.below Nearest.above Nearest.nearest Blends.isCut Blends.leaves Blends.leavesOf Blends.once Blends.inTableOrder Blends.refine Blends.live Sound.fourEverywhere Sound.noneNested Sound.sound
 all-starred = (refl, (refl, (refl, (refl, (refl, (refl, (refl, (refl, refl, (refl, refl, (refl, refl, (refl, refl, (refl, (refl, refl, (refl, refl, (refl, refl, tt)))))))), (refl, (refl, refl, (refl, refl, (refl, refl, (refl, refl, tt)))), (refl, (refl, refl, (refl, refl, (refl, refl, (refl, refl, (refl, refl, tt))))), (refl, (refl, refl, (refl, refl, (refl, refl, (refl, refl, tt)))), (refl, (refl, refl, (refl, refl, (refl, refl, (refl, refl, (refl, refl, tt))))), tt)))))))))))
 
 all-beside : AllRight beside
-unfolding AllRight starred beside Right last shownBy freshMap setPlain drawn given exactNumber containing candidate chosen readingAt carried freshPlain Triple.half Triple.hat Lines.inRange Lines.draws Lines.freshMesh Lines.mesh Lines.onLine Lines.shares Lines.ended Blends.halve Nearest.below Nearest.above Nearest.nearest Blends.isCut Blends.leaves Blends.leavesOf Blends.once Blends.inTableOrder Blends.refine Blends.live Sound.fourEverywhere Sound.noneNested Sound.sound
-all-beside = (refl, (refl, refl, (refl, refl, (refl, refl, (refl, refl, tt)))), (refl, (refl, refl, (refl, refl, (refl, refl, (refl, refl, (refl, refl, tt))))), (refl, (refl, refl, (refl, refl, (refl, refl, (refl, refl, (refl, refl, (refl, refl, tt)))))), (refl, (refl, refl, (refl, refl, tt)), (refl, (refl, refl, (refl, refl, (refl, refl, (refl, refl, (refl, refl, (refl, refl, (refl, refl, (refl, refl, (refl, refl, tt))))))))), (refl, (refl, refl, (refl, refl, (refl, (refl, (refl, (refl, (refl, refl, (refl, refl, (refl, refl, (refl, refl, (refl, refl, tt))))))))))), (refl, (refl, refl, (refl, refl, (refl, (refl, (refl, (refl, refl, tt)))))), tt)))))))
+unfolding AllRight starred beside Right last shownBy freshMap setPlain drawn given exactNumber containing candidate chosen readingAt carried keptMark freshPlain Triple.half Triple.hat Lines.inRange Lines.draws Lines.freshMesh Lines.mesh Lines.onLine Lines.shares Lines.ended Blends.halve Nearest.below Nearest.above Nearest.nearest Blends.isCut Blends.leaves Blends.leavesOf Blends.once Blends.inTableOrder Blends.refine Blends.live Sound.fourEverywhere Sound.noneNested Sound.sound
+all-beside = (refl, (refl, refl, (refl, refl, (refl, refl, (refl, refl, tt)))), (refl, (refl, refl, (refl, refl, (refl, refl, (refl, refl, (refl, refl, tt))))), (refl, (refl, refl, (refl, refl, (refl, refl, (refl, refl, (refl, refl, (refl, refl, tt)))))), (refl, (refl, refl, (refl, refl, tt)), (refl, (refl, refl, (refl, refl, (refl, refl, (refl, refl, (refl, refl, (refl, refl, (refl, refl, (refl, refl, (refl, refl, tt))))))))), (refl, (refl, refl, (refl, refl, (refl, (refl, (refl, (refl, (refl, refl, (refl, refl, (refl, refl, (refl, refl, (refl, refl, tt))))))))))), (refl, (refl, refl, (refl, refl, (refl, (refl, (refl, (refl, refl, tt)))))), (refl, (refl, (refl, refl, (refl, (refl, refl, (refl, (refl, refl, (refl, refl, (refl, tt)))))))), tt))))))))
 
 -- that pump's flow at the last of these points
 straight-flow : flow (pos 40) (negsuc 5) (pos 5) (negsuc 0) (pos 3) (pos 2) ≡ pos 26
