@@ -6,7 +6,7 @@ use pump_tests::files::{number, of_kinds, old, other_kind, put, records};
 use pump_tests::model::{Map, Split};
 use std::ops::Range;
 
-/// Marks that are none; some look like one if only a byte or a bit of them is looked at.
+/// Numbers that are no marks. Some would be if only a byte or a bit of them were looked at.
 const NO_MARKS: [u16; 8] = [2, 3, 255, 256, 257, 512, 32_768, 65_535];
 
 /// Changes the 16-bit number at a place.
@@ -152,8 +152,8 @@ fn damaged_files() {
 fn mixes_and_other_marks() {
     let seed = draw::seed("mixes_and_other_marks");
     let mut refused = 0;
-    for number in 0..draw::count() / 40 {
-        let mut random = Random(seed ^ number << 32);
+    for round in 0..draw::count() / 40 {
+        let mut random = Random(seed ^ round << 32);
         let tries = random.below(14);
         let map = draw::map(&mut random, 9, tries);
         let new = map.write();
@@ -165,22 +165,18 @@ fn mixes_and_other_marks() {
             for at in [0, random.below(values.len()), values.len() - 1] {
                 let one = values[at].clone();
                 let rest = [&values[..at], &values[at + 1..]].concat();
-                bads.push(with_others(good, &[one.clone()], random.below(2) as u16));
+                bads.push(with_others(good, &values[at..=at], random.below(2) as u16));
                 bads.push(with_others(good, &rest, random.below(2) as u16));
-                // The other kind's number with the payload of the old one.
+                // The other kind with the payload of this one.
                 let mut kind = good.clone();
                 change(&mut kind, one.start + 2, |kind| 8 - kind);
                 bads.push(kind);
-                let marked = NO_MARKS.iter().map(|mark| {
-                    let mut bad = good.clone();
-                    put(&mut bad, one.end - 2, *mark);
-                    bad
-                });
-                if one.len() == 12 {
-                    bads.extend(marked);
+                for mark in NO_MARKS.iter().filter(|_| number(good, one.start + 2) == 5) {
+                    bads.push(good.clone());
+                    put(bads.last_mut().unwrap(), one.end - 2, *mark);
                 }
             }
-            // The wrong payload for the kind, throughout.
+            // So for all values.
             let mut kinds = good.clone();
             values.iter().for_each(|value| change(&mut kinds, value.start + 2, |kind| 8 - kind));
             bads.push(kinds);
@@ -200,7 +196,7 @@ fn mixes_and_other_marks() {
             Call::Table,
         ];
         for (at, bad) in bads.iter().enumerate() {
-            for call in [&Call::Check, &calls[(at + number as usize) % calls.len()]] {
+            for call in [&Call::Check, &calls[(at + round as usize) % calls.len()]] {
                 let lent = if call.changes() { Lent::buffer(bad, bad.len() + 400) } else { Lent::file(bad) };
                 assert_eq!(compare(call, &lent, &String::new).number, 11, "{call:?} on {bad:?}");
                 refused += 1;
