@@ -247,9 +247,9 @@ pub struct Weight {
     pub denominator: i64,
 }
 
-/// The record of a map: sides, splits in order, values in table order ("Values, readings, splits"), and the mark of each
-/// value (document 02, L5). It is made by `fresh` and `read` and changed by the calls alone, so it is always good and no
-/// call says 2.
+/// The record of a map: sides, splits in order, values in table order ("Values, readings, splits"), and the mark of
+/// each value (document 02, L5). It is made by `fresh` and `read` and changed by the calls alone, so it is always good
+/// and no call says 2.
 #[derive(Clone, Debug, PartialEq, Eq)]
 pub struct Map {
     pub w: i64,
@@ -377,8 +377,8 @@ impl Map {
         sound(self.w, self.h, &live(&self.lines().with(split)))
     }
 
-    /// Takes a split in: old anchors keep their values and marks, each new one takes the old map's reading there, which is
-    /// worked out ("Values, readings, splits"; document 02, L5).
+    /// Takes a split in: old anchors keep their values and marks, each new one takes the old map's reading there, which
+    /// is worked out ("Values, readings, splits"; document 02, L5).
     fn take(&mut self, split: Split) {
         let old = self.table();
         let entry = |new: &Blend| match old.iter().position(|old| old.anchor() == new.anchor()) {
@@ -425,8 +425,8 @@ impl Map {
         Ok(taken)
     }
 
-    /// Two maps are the same when sides, live blends and values agree ("Values, readings, splits"), whatever their marks
-    /// (document 02, L5).
+    /// Two maps are the same when sides, live blends and values agree ("Values, readings, splits"), whatever their
+    /// marks (document 02, L5).
     pub fn same(&self, other: &Map) -> bool {
         (self.w, self.h) == (other.w, other.h) && self.table() == other.table() && self.values == other.values
     }

@@ -1,5 +1,5 @@
-//! Document 02, L5: marks decide nothing. Of each drawn map a second file is made with other marks, or in the old form, and
-//! every call gets both: the answers are the same but for the marks that are shown and kept.
+//! Document 02, L5: marks decide nothing. Of each drawn map a second file is made with other marks, or in the old form,
+//! and every call gets both: the answers are the same but for the marks that are shown and kept.
 
 use pump_tests::calls::{perform, Call, Lent, Outcome};
 use pump_tests::draw::{self, Random};

@@ -9,7 +9,7 @@ use pump_tests::plain::Plain;
 use pump_tests::{Pump, LARGEST_FILE};
 use std::collections::BTreeMap;
 
-/// How often each call gave each number, how often it was accepted on an old file, and how often two maps were the same.
+/// How often each call gave each number, how often it gave 0 on an old file, and how often two maps were the same.
 #[derive(Default)]
 struct Seen {
     numbers: BTreeMap<(&'static str, usize), usize>,
@@ -30,8 +30,8 @@ impl Seen {
         self.numbers.get(&(call, number)).copied().unwrap_or(0)
     }
 
-    /// Every call must have given every number that it can give, and no other, and 0 on old files. 1 and 4 have tests of
-    /// their own. Nobody has seen a lengthened split say 8, so that one may be missing.
+    /// Every call must have given every number that it can give, and no other, and 0 on old files. 1 and 4 have tests
+    /// of their own. Nobody has seen a lengthened split say 8, so that one may be missing.
     fn assert_all(&self) {
         let can: [(&'static str, &[usize]); 12] = [
             ("set", &[0, 9, 11, 12]),
@@ -99,8 +99,8 @@ fn lend(random: &mut Random, call: &Call, map: &Map, file: &[u8]) -> Lent {
     lent
 }
 
-/// One history, from a fresh map; any calls, or splits alone. Now and then it goes on from the map's file in the old form.
-/// The model's map goes along, for the draws and as a check on the model's own files.
+/// One history, from a fresh map; any calls, or splits alone. Now and then it goes on from the map's file in the old
+/// form. The model's map goes along, for the draws and as a check on the model's own files.
 fn history(random: &mut Random, seen: &mut Seen, (w, h): (usize, usize), length: usize, splits_alone: bool) -> Map {
     let mut story = vec![];
     let mut map = Map::fresh(w, h).unwrap();

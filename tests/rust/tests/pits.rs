@@ -1,5 +1,5 @@
-//! "Pits on paper" of document 01, with the numbers and counts that it gives, and with the marks and the file lengths of
-//! document 02, L5.
+//! "Pits on paper" of document 01, with the numbers and counts that it gives, and with the marks and the file lengths
+//! of document 02, L5.
 
 use pump_tests::calls::{compare, Call, Lent, Outcome};
 use pump_tests::LARGEST_FILE;

@@ -1,5 +1,5 @@
-//! Replays the outside vectors: the lists of calls, by document 01 and by document 02 as far as L5, and the files of the
-//! table program. The answers from before L5 know no marks, so these are left out where they are compared.
+//! Replays the outside vectors: the lists of calls, by document 01 and by document 02 as far as L5, and the files of
+//! the table program. The answers from before L5 know no marks, so these are left out where they are compared.
 
 use pump_tests::files::old;
 use pump_tests::model::{Blend, Map, No, Split};
