@@ -431,7 +431,7 @@ impl Map {
             }
             at += 12;
         }
-        // The length tells of which kind all the values must be; a mix lies between the two.
+        // The length tells of which kind all the values must be: that of a mix lies between the two.
         let marked = bytes.len() == map.file_length();
         if !marked && bytes.len() != map.file_length() - 2 * map.table.len() {
             return Err(NO);
