@@ -38,7 +38,7 @@ impl Drawn {
     fn fresh(sides: [usize; 2]) -> Drawn {
         let [w, h] = sides;
         let (mut file, mut used) = (vec![0; 60], 0);
-        assert_eq!(Library.fresh(w, h, &mut file, &mut used), 0);
+        assert_eq!((Library.fresh(w, h, &mut file, &mut used), used), (0, file.len()));
         Drawn { sides, splits: vec![], lines: Lines::fresh(w as i64, h as i64), file }
     }
 
