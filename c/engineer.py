@@ -11,7 +11,7 @@ from collections import Counter
 from fractions import Fraction
 
 SIDE = 12
-LARGEST_FILE = 10972
+LARGEST_FILE = 13020
 
 
 class Weight(ctypes.Structure):

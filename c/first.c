@@ -92,6 +92,15 @@ int main(void) {
     n = pump_row(map, used, 12, 301, &count, &first);
     printf("301 litres a minute at speed 12: %zu, %s\n", n, why[n]);
 
+    /* What was set is measured; all other values were worked out. */
+    pump_entry entry;
+    size_t values = 0, measured = 0;
+    while (pump_place(map, used, values, (uint8_t *)&entry, sizeof entry) == PUMP_YES) {
+        values++;
+        measured += entry.mark == PUMP_MEASURED;
+    }
+    printf("%zu values, %zu of them measured\n", values, measured);
+
     /* At every whole point the four weights add up to one. */
     pump_weight four[4];
     n = pump_weights(map, used, 7, 9, (uint8_t *)four, sizeof four);

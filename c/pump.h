@@ -26,6 +26,14 @@
  * is good likewise, with the same t; a level line likewise, with the axes changed round. The ends of a whole gap are
  * good, so a line that is refused with 8 can always be lengthened.
  *
+ * Marks
+ * -----
+ * Each value has a mark that says where it comes from: 1, PUMP_MEASURED, or 0, PUMP_WORKED_OUT. A value that is set
+ * is measured, also where it is the one from before; the values of a fresh map, and those that a split gives to new
+ * anchors, are worked out. pump_place and pump_table show the mark after the value. Nothing else looks at marks: two
+ * maps that differ only in them have the same readings, weights, rows and columns, take the same splits and are the
+ * same map to pump_same.
+ *
  * Maps are bytes
  * --------------
  * A map crosses this border as the bytes of its file, and nothing is kept between calls. A call that changes a map
@@ -38,10 +46,17 @@
  * a kind, and the payload.
  *     6, 1, w, h                                  one; the sides
  *     10, 2, direction, position, from, to        one for each split, in the order in which they were drawn
- *     8, 3, m, n, value                           one for each anchor (m, n), sorted by m, then by n
+ *     10, 5, m, n, value, mark                    one for each anchor (m, n), sorted by m, then by n
  *     2, 4                                        one; the end
- * That is 12 + 12 * splits + 10 * anchors bytes. Bytes of this form are a map file where their splits would all be
- * accepted as exact splits, in order from the fresh map, and their anchors are those of the map so made.
+ * That is 12 + 12 * splits + 12 * anchors bytes. Bytes of this form are a map file where their splits would all be
+ * accepted as exact splits, in order from the fresh map, their anchors are those of the map so made, and each mark is
+ * 0 or 1.
+ *
+ * Older files have a record without a mark for each anchor,
+ *     8, 3, m, n, value
+ * and are read too, with 0 for every mark. Such a file may be lent to any call, and stays as it is until a change is
+ * accepted: that leaves the new map's file in the new form, which has 2 bytes more for each anchor. A file with
+ * anchors of both kinds is refused.
  *
  * Answers
  * -------
@@ -88,11 +103,13 @@ enum {
     PUMP_LARGEST_SIDE = 128,
     PUMP_MOST_SPLITS = 60,
     PUMP_MOST_BLENDS = 1024,
-    PUMP_LARGEST_FILE = 10972, /* 12 + 12 * 60 + 10 * 1024 */
+    PUMP_LARGEST_FILE = 13020, /* 12 + 12 * 60 + 12 * 1024 */
     PUMP_TABLE_TEXT = 65536    /* no table's text is longer */
 };
 
 enum { PUMP_UPRIGHT = 0, PUMP_LEVEL = 1 };
+
+enum { PUMP_WORKED_OUT = 0, PUMP_MEASURED = 1 };
 
 /*
  * What pump_place and pump_weights put into the bytes lent to them: the fields in this order, as 16-bit numbers,
@@ -104,6 +121,7 @@ typedef struct {
     int16_t l, m, r; /* across, by level */
     int16_t b, n, t; /* up, by speed */
     uint16_t value;  /* litres a minute at the anchor */
+    uint16_t mark;   /* PUMP_WORKED_OUT or PUMP_MEASURED */
 } pump_entry;
 
 typedef struct {
@@ -112,21 +130,22 @@ typedef struct {
 } pump_weight;
 
 /* Makes the fresh map of sides w (level, across) and h (speed, up), each 1 to PUMP_LARGEST_SIDE: four anchors, at
-   the corners, with the value 0, in a file of 52 bytes. What the buffer and *used held before does not matter.
-   Refused with 1 or 12. */
+   the corners, with the value 0, worked out, in a file of 60 bytes. What the buffer and *used held before does not
+   matter. Refused with 1 or 12. */
 size_t pump_fresh(size_t w, size_t h, uint8_t *buffer, size_t size, size_t *used);
 
-/* Sets the value at the anchor (m, n). Refused with 11 or 9. */
+/* Sets the value at the anchor (m, n) and marks it measured. Refused with 11 or 9, and with 12 where the buffer holds
+   an older file and is too short for the new one. */
 size_t pump_set(uint8_t *buffer, size_t size, size_t *used, size_t m, size_t n, uint16_t value);
 
 /* Draws the line as given:
        PUMP_UPRIGHT at level `position` from speed `from` to speed `to`; 0 < position < w and 0 <= from < to <= h;
        PUMP_LEVEL at speed `position` from level `from` to level `to`; 0 < position < h and 0 <= from < to <= w.
-   Every old anchor keeps its value, and each new one gets the reading that the map had there. So no reading at an
-   old anchor changes, none at a whole point rises, and none falls by more than one: that one is lost in the
-   rounding, and a later split may take one again. Nothing is lost where the pump is straight: if the value at each
-   anchor (m, n) is A + B m + C n + D m n, the four whole numbers of either sign, then so it is after the split, and
-   the reading at every whole point (u, v) is A + B u + C v + D u v, before and after.
+   Every old anchor keeps its value and mark, and each new one gets the reading that the map had there, marked as
+   worked out. So no reading at an old anchor changes, none at a whole point rises, and none falls by more than one:
+   that one is lost in the rounding, and a later split may take one again. Nothing is lost where the pump is
+   straight: if the value at each anchor (m, n) is A + B m + C n + D m n, the four whole numbers of either sign, then
+   so it is after the split, and the reading at every whole point (u, v) is A + B u + C v + D u v, before and after.
    Refused with 11, 3 to 8, or 12. */
 size_t pump_exact_split(uint8_t *buffer, size_t size, size_t *used, size_t direction, size_t position, size_t from,
                         size_t to);
@@ -139,8 +158,8 @@ size_t pump_exact_split(uint8_t *buffer, size_t size, size_t *used, size_t direc
 size_t pump_lengthened_split(uint8_t *buffer, size_t size, size_t *used, size_t direction, size_t position, size_t from,
                              size_t to);
 
-/* Puts the blend and value at a place of the table, from 0, into the sizeof(pump_entry) bytes at out. The table
-   lists the blends in the order of the file's anchors. Refused with 11, 9 or 12. */
+/* Puts the blend, value and mark at a place of the table, from 0, into the sizeof(pump_entry) bytes at out, 16 of them.
+   The table lists the blends in the order of the file's anchors. Refused with 11, 9 or 12. */
 size_t pump_place(const uint8_t *file, size_t length, size_t place, uint8_t *out, size_t size);
 
 /* The reading at the whole point (u, v): the sum of value times weight, exact, then rounded down.
@@ -165,9 +184,9 @@ size_t pump_column(const uint8_t *file, size_t length, size_t u, size_t wanted, 
    Refused with 11, 10 or 12. */
 size_t pump_weights(const uint8_t *file, size_t length, size_t u, size_t v, uint8_t *out, size_t size);
 
-/* Whether two maps are the same: *yes is 1 where sides, blends and values agree, else 0. By which splits the lines
-   were drawn, and in which order, does not count, so two same maps may have files of different lengths. Both may be
-   the same bytes. Refused with 11. */
+/* Whether two maps are the same: *yes is 1 where sides, blends and values agree, else 0. Marks do not count, nor by
+   which splits the lines were drawn, and in which order, so two same maps may have files of different lengths. Both
+   may be the same bytes. Refused with 11. */
 size_t pump_same(const uint8_t *first, size_t first_length, const uint8_t *second, size_t second_length, size_t *yes);
 
 /* Whether the bytes are a map file. Refused with 11. */
@@ -180,8 +199,9 @@ size_t pump_check(const uint8_t *file, size_t length);
 size_t pump_payload(const uint8_t *bytes, size_t length, size_t place, size_t *from, size_t *count);
 
 /* Puts the text of the whole table into out: a line with the number of blends, then for each a line `l m r b n t
-   value`, with one blank between numbers and a newline at the end of every line. *count is the text's length; bytes
-   after it stay as they were, and no zero ends it. PUMP_TABLE_TEXT bytes hold every text. Refused with 11 or 12. */
+   value mark`, with one blank between numbers and a newline at the end of every line. *count is the text's length;
+   bytes after it stay as they were, and no zero ends it. PUMP_TABLE_TEXT bytes hold every text. Refused with 11 or
+   12. */
 size_t pump_table(const uint8_t *file, size_t length, uint8_t *out, size_t size, size_t *count);
 
 #ifdef __cplusplus

@@ -175,7 +175,7 @@ static size_t measure(uint8_t *stack, size_t (*call)(void), const subject *map) 
     return deepest;
 }
 
-enum { SUBJECTS = 6 };
+enum { SUBJECTS = 7 };
 
 static subject subjects[SUBJECTS];
 
@@ -187,11 +187,28 @@ static const size_t want[SUBJECTS][CALLS] = {
     {0, 0, 0, 0, 0, 0, 0, 0, 0, 0, 0, 0, 0, 0},
     {0, 11, 11, 11, 11, 11, 11, 11, 11, 11, 11, 0, 11, 11},
     {0, 11, 11, 11, 11, 11, 11, 11, 11, 11, 11, 11, 11, 11},
+    {0, 0, 0, 0, 0, 0, 0, 0, 0, 0, 0, 0, 0, 0},
 };
+
+/* The file in the old form: the values of kind 3, without marks. */
+static void without_marks(subject *map) {
+    size_t end = 0, from, count;
+    for (size_t at = 0; pump_payload(map->bytes, map->used, at, &from, &count) == PUMP_YES; at = from + count) {
+        size_t length = from + count - at;
+        memmove(map->bytes + end, map->bytes + at, length);
+        if (map->bytes[end + 2] == 5) {
+            map->bytes[end] = 8;
+            map->bytes[end + 2] = 3;
+            length = 10;
+        }
+        end += length;
+    }
+    map->used = end;
+}
 
 static void make_subjects(void) {
     subject *before = &subjects[0], *largest = &subjects[1], *fan = &subjects[2], *small = &subjects[3],
-            *damaged = &subjects[4], *junk = &subjects[5];
+            *damaged = &subjects[4], *junk = &subjects[5], *old = &subjects[6];
 
     begin(before, "the largest map before its last split");
     for (size_t at = 1; at <= 30; at++) {
@@ -225,6 +242,10 @@ static void make_subjects(void) {
     junk->name = "bytes without a record";
     junk->used = sizeof junk->bytes;
     memset(junk->bytes, 0xff, sizeof junk->bytes);
+
+    *old = *before;
+    old->name = "the largest map before its last split, in an old file";
+    without_marks(old);
 }
 
 int main(void) {

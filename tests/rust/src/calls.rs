@@ -63,10 +63,10 @@ impl Lent {
         Lent { bytes: file.to_vec(), used: file.len(), out: 65_536 }
     }
 
-    /// The file in a buffer of this size, with some marks after it.
+    /// The file in a buffer of this size, with some other bytes after it.
     pub fn buffer(file: &[u8], size: usize) -> Lent {
-        let mark = |at: usize| file.get(at).copied().unwrap_or(at as u8 ^ 0x5a);
-        Lent { bytes: (0..size).map(mark).collect(), used: file.len(), out: 0 }
+        let byte = |at: usize| file.get(at).copied().unwrap_or(at as u8 ^ 0x5a);
+        Lent { bytes: (0..size).map(byte).collect(), used: file.len(), out: 0 }
     }
 }
 

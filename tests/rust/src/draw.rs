@@ -1,7 +1,8 @@
 //! Random calls, drawn so that most kinds of answers come up.
 
 use crate::calls::Call;
-use crate::model::{reading, Lines, Map, LEVEL, UPRIGHT};
+use crate::files::old;
+use crate::model::{reading, Lines, Map, LEVEL, MEASURED, UPRIGHT};
 
 /// Splitmix64.
 pub struct Random(pub u64);
@@ -185,10 +186,14 @@ pub fn call(random: &mut Random, map: &Map, others: &[Vec<u8>]) -> Call {
         25..=49 => Call::Lengthened(split(random, map, &lines)),
         50..=67 => {
             let (mut m, mut n) = point(random, map);
+            let mut value = random.draw() as u16 >> random.below(16);
             if random.chance(80) {
-                let anchors: Vec<_> = map.table().iter().map(|blend| blend.anchor()).collect();
-                let anchor = random.pick(&anchors);
-                (m, n) = (anchor.0 as usize, anchor.1 as usize);
+                let (blend, held, _) = map.place(random.below(map.values.len())).unwrap();
+                (m, n) = (blend.m as usize, blend.n as usize);
+                // What the map says is sometimes what is measured.
+                if random.chance(20) {
+                    value = held;
+                }
             }
             if random.chance(5) {
                 m = extreme(random, m);
@@ -196,7 +201,7 @@ pub fn call(random: &mut Random, map: &Map, others: &[Vec<u8>]) -> Call {
             if random.chance(5) {
                 n = extreme(random, n);
             }
-            Call::Set(m, n, random.draw() as u16 >> random.below(16))
+            Call::Set(m, n, value)
         }
         68..=73 => {
             let place = random.below(map.values.len() + 2);
@@ -213,7 +218,7 @@ pub fn call(random: &mut Random, map: &Map, others: &[Vec<u8>]) -> Call {
         90..=92 => Call::Same(others[random.below(others.len())].clone(), random.chance(50)),
         93 => Call::Check,
         94..=97 => {
-            let place = random.below(12 + 12 * map.splits.len() + 10 * map.values.len() + 2);
+            let place = random.below(12 + 12 * (map.splits.len() + map.values.len()) + 2);
             Call::Payload(if random.chance(10) { extreme(random, place) } else { place })
         }
         98..=99 => Call::Table,
@@ -225,6 +230,16 @@ pub fn call(random: &mut Random, map: &Map, others: &[Vec<u8>]) -> Call {
             let (u, v) = (coordinate(random, map.w as usize), random.below(map.h as usize + 1));
             Call::Column(u, wanted(random, map, (u, v)))
         }
+    }
+}
+
+/// The file of a map, sometimes in the old form.
+pub fn file(random: &mut Random, map: &Map) -> Vec<u8> {
+    let file = map.write();
+    if random.chance(30) {
+        old(&file)
+    } else {
+        file
     }
 }
 
@@ -240,7 +255,7 @@ pub fn map(random: &mut Random, largest: usize, tries: usize) -> Map {
         };
         if random.chance(70) {
             let place = random.below(map.values.len());
-            map.values[place] = random.draw() as u16;
+            (map.values[place], map.marks[place]) = (random.draw() as u16, MEASURED);
         }
     }
     map

@@ -5,9 +5,13 @@ pub mod calls;
 pub mod draw;
 #[cfg(feature = "library")]
 pub mod ffi;
+pub mod files;
 pub mod maps;
 pub mod model;
 pub mod plain;
+
+/// The size of the largest file: 60 splits and 1,024 blends.
+pub const LARGEST_FILE: usize = 13_020;
 
 /// The calls of pump.h over slices. The number is handed back; the rest goes where pump.h puts it.
 pub trait Pump: Sync {

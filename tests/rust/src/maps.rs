@@ -1,5 +1,7 @@
 //! Maps that are the worst in some way, as the splits that make them on sides of 128.
 
+use crate::files::{of_kinds, put};
+
 /// Direction, position, from, to.
 pub type Split = [usize; 4];
 
@@ -18,14 +20,11 @@ pub fn fan() -> Vec<Split> {
 
 pub const FAN_GIVEN: Split = [1, 50, 56, 60];
 
-/// The same file with values that go up and down, over the whole range.
+/// The same file with values that go up and down, over the whole range, and some of them measured.
 pub fn with_values(mut file: Vec<u8>) -> Vec<u8> {
-    let splits = (8..).step_by(12).take_while(|at| file[at + 2] == 2).count();
-    // The value stands at the end of each record of kind 3, and those are the last but one.
-    let records = (8 + 12 * splits..file.len() - 4).step_by(10);
-    for (at, record) in records.enumerate() {
-        let value = (at * 40_503 % 65_536) as u16;
-        file[record + 8..record + 10].copy_from_slice(&value.to_le_bytes());
+    for (at, record) in of_kinds(&file, &[5]).into_iter().enumerate() {
+        put(&mut file, record.start + 8, (at * 40_503 % 65_536) as u16);
+        put(&mut file, record.start + 10, (at % 3 == 0) as u16);
     }
     file
 }

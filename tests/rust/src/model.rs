@@ -13,6 +13,8 @@ pub const LARGEST_SIDE: usize = 128;
 pub const MOST_SPLITS: usize = 60;
 pub const UPRIGHT: usize = 0;
 pub const LEVEL: usize = 1;
+pub const WORKED_OUT: u16 = 0;
+pub const MEASURED: u16 = 1;
 
 // ---------------------------------------------------------------------------------------------------- Sides and lines
 
@@ -245,24 +247,26 @@ pub struct Weight {
     pub denominator: i64,
 }
 
-/// The record of a map: sides, splits in order, values in table order ("Values, readings, splits"). It is made by `fresh`
-/// and `read` and changed by the calls alone, so it is always good and no call says 2.
+/// The record of a map: sides, splits in order, values in table order ("Values, readings, splits"), and the mark of
+/// each value (document 02, L5). It is made by `fresh` and `read` and changed by the calls alone, so it is always good
+/// and no call says 2.
 #[derive(Clone, Debug, PartialEq, Eq)]
 pub struct Map {
     pub w: i64,
     pub h: i64,
     pub splits: Vec<Split>,
     pub values: Vec<u16>,
+    pub marks: Vec<u16>,
 }
 
 impl Map {
-    /// A fresh map ("Sides and lines"; values 0 by "Values, readings, splits").
+    /// A fresh map ("Sides and lines"; values 0 by "Values, readings, splits", marks 0 by document 02, L5).
     pub fn fresh(w: usize, h: usize) -> Result<Map, No> {
         let fits = |side| (1..=LARGEST_SIDE).contains(&side);
         if !fits(w) || !fits(h) {
             return Err(1);
         }
-        Ok(Map { w: w as i64, h: h as i64, splits: vec![], values: vec![0; 4] })
+        Ok(Map { w: w as i64, h: h as i64, splits: vec![], values: vec![0; 4], marks: vec![WORKED_OUT; 4] })
     }
 
     /// The fresh map's lines and those of its splits, run out and joined ("Histories").
@@ -287,21 +291,22 @@ impl Map {
         Ok((u as i64, v as i64))
     }
 
-    /// Sets the value at an anchor ("Values, readings, splits").
+    /// Sets the value at an anchor ("Values, readings, splits"), which marks it as measured (document 02, L5).
     pub fn set(&mut self, m: usize, n: usize, value: u16) -> Result<(), No> {
         let at = |blend: &Blend| blend.m as usize == m && blend.n as usize == n;
         let place = self.table().iter().position(at).ok_or(9usize)?;
         self.values[place] = value;
+        self.marks[place] = MEASURED;
         Ok(())
     }
 
-    /// The blend and value at a table place, from 0.
-    pub fn place(&self, place: usize) -> Result<(Blend, u16), No> {
+    /// The blend and value at a table place, from 0, and the value's mark (document 02, L5).
+    pub fn place(&self, place: usize) -> Result<(Blend, u16, u16), No> {
         let table = self.table();
         if place >= table.len() {
             return Err(9);
         }
-        Ok((table[place], self.values[place]))
+        Ok((table[place], self.values[place], self.marks[place]))
     }
 
     /// The reading at a whole point ("Values, readings, splits").
@@ -372,15 +377,16 @@ impl Map {
         sound(self.w, self.h, &live(&self.lines().with(split)))
     }
 
-    /// Takes a split in: old anchors keep their values, each new one takes the old map's reading there.
+    /// Takes a split in: old anchors keep their values and marks, each new one takes the old map's reading there, which
+    /// is worked out ("Values, readings, splits"; document 02, L5).
     fn take(&mut self, split: Split) {
         let old = self.table();
-        let value = |new: &Blend| match old.iter().position(|old| old.anchor() == new.anchor()) {
-            Some(place) => self.values[place],
-            None => reading(&old, &self.values, new.m, new.n) as u16,
+        let entry = |new: &Blend| match old.iter().position(|old| old.anchor() == new.anchor()) {
+            Some(place) => (self.values[place], self.marks[place]),
+            None => (reading(&old, &self.values, new.m, new.n) as u16, WORKED_OUT),
         };
         let drawn = self.lines().with(split);
-        self.values = table(live(&drawn)).iter().map(value).collect();
+        (self.values, self.marks) = table(live(&drawn)).iter().map(entry).unzip();
         self.splits.push(split);
     }
 
@@ -419,17 +425,18 @@ impl Map {
         Ok(taken)
     }
 
-    /// Two maps are the same when sides, live blends and values agree ("Values, readings, splits").
+    /// Two maps are the same when sides, live blends and values agree ("Values, readings, splits"), whatever their
+    /// marks (document 02, L5).
     pub fn same(&self, other: &Map) -> bool {
         (self.w, self.h) == (other.w, other.h) && self.table() == other.table() && self.values == other.values
     }
 
-    /// The table program's text ("Pits on paper").
+    /// The table program's text ("Pits on paper"), with the mark after the value (document 02, L5).
     pub fn text(&self) -> String {
         let mut text = format!("{}\n", self.values.len());
-        for (blend, value) in self.table().iter().zip(&self.values) {
+        for ((blend, value), mark) in self.table().iter().zip(&self.values).zip(&self.marks) {
             let Blend { l, m, r, b, n, t } = blend;
-            text += &format!("{l} {m} {r} {b} {n} {t} {value}\n");
+            text += &format!("{l} {m} {r} {b} {n} {t} {value} {mark}\n");
         }
         text
     }
@@ -499,7 +506,7 @@ fn record(bytes: &[u8], place: usize) -> Result<(u16, Vec<u16>, usize), No> {
 }
 
 impl Map {
-    /// The file of a map ("Map file").
+    /// The file of a map ("Map file"), its values of kind 5 (document 02, L5).
     pub fn write(&self) -> Vec<u8> {
         let mut bytes = vec![];
         put_record(&mut bytes, 1, &[self.w as u16, self.h as u16]);
@@ -507,15 +514,15 @@ impl Map {
             let numbers = [split.direction as i64, split.position, split.from, split.to];
             put_record(&mut bytes, 2, &numbers.map(|number| number as u16));
         }
-        for (blend, value) in self.table().iter().zip(&self.values) {
-            put_record(&mut bytes, 3, &[blend.m as u16, blend.n as u16, *value]);
+        for ((blend, value), mark) in self.table().iter().zip(&self.values).zip(&self.marks) {
+            put_record(&mut bytes, 5, &[blend.m as u16, blend.n as u16, *value, *mark]);
         }
         put_record(&mut bytes, 4, &[]);
         bytes
     }
 
     /// Reads a file: its splits are taken in order as exact splits from the fresh map, then its values are set
-    /// ("Map file", refusal 11).
+    /// ("Map file", refusal 11). They are all of kind 3, marks 0, or all of kind 5, marks 0 or 1 (document 02, L5).
     pub fn read(bytes: &[u8]) -> Result<Map, No> {
         let (kind, sides, mut place) = record(bytes, 0)?;
         if kind != 1 || sides.len() != 2 {
@@ -533,13 +540,23 @@ impl Map {
             map.exact_split(direction as usize, position as usize, from as usize, to as usize).or(Err(11usize))?;
             place = next;
         }
+        let mut kinds = BTreeSet::new();
         for (entry, blend) in map.table().iter().enumerate() {
             let (kind, numbers, next) = record(bytes, place)?;
-            if kind != 3 || numbers.len() != 3 || (numbers[0] as i64, numbers[1] as i64) != blend.anchor() {
+            let (m, n, value, mark) = match (kind, &numbers[..]) {
+                (3, [m, n, value]) => (*m, *n, *value, WORKED_OUT),
+                (5, [m, n, value, mark @ (WORKED_OUT | MEASURED)]) => (*m, *n, *value, *mark),
+                _ => return Err(11),
+            };
+            if (m as i64, n as i64) != blend.anchor() {
                 return Err(11);
             }
-            map.values[entry] = numbers[2];
+            (map.values[entry], map.marks[entry]) = (value, mark);
+            kinds.insert(kind);
             place = next;
+        }
+        if kinds.len() != 1 {
+            return Err(11);
         }
         let (kind, nothing, next) = record(bytes, place)?;
         if kind != 4 || !nothing.is_empty() || next != bytes.len() {
@@ -631,8 +648,8 @@ impl Pump for Model {
 
     fn place(&self, file: &[u8], place: usize, out: &mut [u8]) -> usize {
         number((|| {
-            let (blend, value) = Map::read(file)?.place(place)?;
-            put(&fields(&[&blend.numbers()[..], &[value as i64]].concat()), out)
+            let (blend, value, mark) = Map::read(file)?.place(place)?;
+            put(&fields(&[&blend.numbers()[..], &[value as i64, mark as i64]].concat()), out)
         })())
     }
 

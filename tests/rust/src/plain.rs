@@ -7,7 +7,7 @@ type No = usize;
 
 const LARGEST_SIDE: usize = 128;
 const MOST_SPLITS: usize = 60;
-const ENTRY: usize = 14;
+const ENTRY: usize = 16;
 const WEIGHTS: usize = 64;
 const FOURS: [u8; LARGEST_SIDE * LARGEST_SIDE] = [4; LARGEST_SIDE * LARGEST_SIDE];
 
@@ -99,9 +99,10 @@ struct Map {
     /// For each direction and position the unit steps between 0 and the side that its lines cover. The run-out steps go
     /// with the first and the last of them.
     lines: [[u128; LARGEST_SIDE + 1]; 2],
-    /// The live blends, in table order, and their values.
+    /// The live blends, in table order, their values and the marks of these.
     table: Vec<Blend>,
     values: Vec<u16>,
+    marks: Vec<u16>,
     /// For each unit square the number of supports it lies in.
     supports: Vec<u8>,
 }
@@ -147,6 +148,7 @@ impl Map {
             lines,
             table,
             values: vec![0; 4],
+            marks: vec![0; 4],
             supports: vec![4; w * h],
         })
     }
@@ -273,13 +275,13 @@ impl Map {
         self.table.binary_search_by_key(&(m, n), |blend| (blend.m, blend.n)).or(Err(9))
     }
 
-    /// Gives the anchors of a map with one more line their values.
+    /// Gives the anchors of a map with one more line their values and marks.
     fn hand_over(&self, next: &mut Map) {
-        let value = |blend: &Blend| match self.anchor(blend.m, blend.n) {
-            Ok(place) => self.values[place],
-            Err(_) => self.sum(blend.m, blend.n),
+        let entry = |blend: &Blend| match self.anchor(blend.m, blend.n) {
+            Ok(place) => (self.values[place], self.marks[place]),
+            Err(_) => (self.sum(blend.m, blend.n), 0),
         };
-        next.values = next.table.iter().map(value).collect();
+        (next.values, next.marks) = next.table.iter().map(entry).unzip();
     }
 
     fn exact_split(&self, split: [usize; 4]) -> Result<Map, No> {
@@ -386,7 +388,7 @@ impl Map {
     }
 
     fn file_length(&self) -> usize {
-        12 + 12 * self.splits.len() + 10 * self.table.len()
+        12 + 12 * (self.splits.len() + self.table.len())
     }
 
     fn write(&self, buffer: &mut [u8], used: &mut usize) -> Result<(), No> {
@@ -405,8 +407,8 @@ impl Map {
         for split in &self.splits {
             put(&[10, 2, split.direction as u16, split.position as u16, split.from as u16, split.to as u16]);
         }
-        for (blend, value) in self.table.iter().zip(&self.values) {
-            put(&[8, 3, blend.m as u16, blend.n as u16, *value]);
+        for ((blend, value), mark) in self.table.iter().zip(&self.values).zip(&self.marks) {
+            put(&[10, 5, blend.m as u16, blend.n as u16, *value, *mark]);
         }
         put(&[2, 4]);
         *used = length;
@@ -429,16 +431,26 @@ impl Map {
             }
             at += 12;
         }
-        if map.file_length() != bytes.len() {
+        // The length tells of which kind all the values must be: that of a mix lies between the two.
+        let marked = bytes.len() == map.file_length();
+        if !marked && bytes.len() != map.file_length() - 2 * map.table.len() {
             return Err(NO);
         }
+        let (length, kind) = if marked { (10, 5) } else { (8, 3) };
         map.values.clear();
+        map.marks.clear();
         for blend in &map.table {
-            if !begins(at, 8, 3) || number(at + 4) != blend.m as u16 || number(at + 6) != blend.n as u16 {
+            let mark = if marked { number(at + 10) } else { 0 };
+            if !begins(at, length, kind)
+                || number(at + 4) != blend.m as u16
+                || number(at + 6) != blend.n as u16
+                || mark > 1
+            {
                 return Err(NO);
             }
             map.values.push(number(at + 8));
-            at += 10;
+            map.marks.push(mark);
+            at += 2 + length as usize;
         }
         if !begins(at, 2, 4) {
             return Err(NO);
@@ -463,8 +475,8 @@ fn put(numbers: impl Iterator<Item = i16>, size: usize, out: &mut [u8]) -> Resul
     Ok(())
 }
 
-/// Adds a number and a mark after it.
-fn put_number(text: &mut Vec<u8>, number: i32, mark: u8) {
+/// Adds a number and what parts it from the next.
+fn put_number(text: &mut Vec<u8>, number: i32, parting: u8) {
     let mut digits = [0; 8];
     let mut count = 0;
     let mut rest = number.unsigned_abs();
@@ -482,7 +494,7 @@ fn put_number(text: &mut Vec<u8>, number: i32, mark: u8) {
     }
     digits[..count].reverse();
     text.extend_from_slice(&digits[..count]);
-    text.push(mark);
+    text.push(parting);
 }
 
 fn payload(bytes: &[u8], place: usize) -> Result<(usize, usize), No> {
@@ -513,13 +525,19 @@ impl Pump for Plain {
     }
 
     fn set(&self, buffer: &mut [u8], used: &mut usize, m: usize, n: usize, value: u16) -> usize {
-        number(lent(buffer, *used).and_then(|map| {
+        number(lent(buffer, *used).and_then(|mut map| {
             if m > LARGEST_SIDE || n > LARGEST_SIDE {
                 return Err(9);
             }
             let place = map.anchor(m as i16, n as i16)?;
-            let at = 8 + 12 * map.splits.len() + 10 * place + 8;
+            if *used < map.file_length() {
+                // An old file is written anew.
+                (map.values[place], map.marks[place]) = (value, 1);
+                return map.write(buffer, used);
+            }
+            let at = 8 + 12 * (map.splits.len() + place) + 8;
             buffer[at..at + 2].copy_from_slice(&value.to_le_bytes());
+            buffer[at + 2..at + 4].copy_from_slice(&[1, 0]);
             Ok(())
         }))
     }
@@ -537,7 +555,7 @@ impl Pump for Plain {
     fn place(&self, file: &[u8], place: usize, out: &mut [u8]) -> usize {
         number(Map::read(file).and_then(|map| {
             let Blend { m, n, l, r, b, t } = *map.table.get(place).ok_or(9usize)?;
-            put([l, m, r, b, n, t, map.values[place] as i16].into_iter(), ENTRY, out)
+            put([l, m, r, b, n, t, map.values[place] as i16, map.marks[place] as i16].into_iter(), ENTRY, out)
         }))
     }
 
@@ -597,12 +615,13 @@ impl Pump for Plain {
         number(Map::read(file).and_then(|map| {
             let mut text = Vec::with_capacity(32 * (1 + map.table.len()));
             put_number(&mut text, map.table.len() as i32, b'\n');
-            for (blend, value) in map.table.iter().zip(&map.values) {
+            for ((blend, value), mark) in map.table.iter().zip(&map.values).zip(&map.marks) {
                 let Blend { m, n, l, r, b, t } = *blend;
                 for number in [l, m, r, b, n, t] {
                     put_number(&mut text, number as i32, b' ');
                 }
-                put_number(&mut text, *value as i32, b'\n');
+                put_number(&mut text, *value as i32, b' ');
+                put_number(&mut text, *mark as i32, b'\n');
             }
             out.get_mut(..text.len()).ok_or(12usize)?.copy_from_slice(&text);
             *count = text.len();

@@ -6,6 +6,7 @@
 use pump_tests::calls::{perform, Call, Lent, Outcome};
 use pump_tests::draw::{self, Random};
 use pump_tests::ffi::Library;
+use pump_tests::files::{anchors, lines, number};
 use pump_tests::model::{Lines, Map, Split, MOST_SPLITS};
 use std::collections::BTreeMap;
 
@@ -14,7 +15,7 @@ const ASKED: usize = 14;
 
 /// Bytes for what a split adds to a file: its record, and an anchor on each line that it meets, of 59 splits and two
 /// edges at most.
-const ROOM: usize = 12 + 61 * 10;
+const ROOM: usize = 12 + 61 * 12;
 
 /// Anchors of a second map that are set at most. Each time the library reads the whole file.
 const SET: usize = 64;
@@ -25,30 +26,13 @@ const SIDES: [usize; 4] = [1, 16, 17, 128];
 /// The ends of the range of values, which some second maps must have had where the first had others.
 const ENDS: [u16; 2] = [0, 65_535];
 
-/// A number of a file.
-fn number(file: &[u8], at: usize) -> usize {
-    u16::from_le_bytes([file[at], file[at + 1]]) as usize
-}
-
-/// The part of a file that tells the sides and the splits.
-fn lines(file: &[u8]) -> &[u8] {
-    let end = (8..).step_by(12).find(|at| number(file, at + 2) != 2).unwrap();
-    &file[..end]
-}
-
-/// The anchors of a file with their values, in order.
-fn anchors(file: &[u8]) -> BTreeMap<(usize, usize), u16> {
-    let records = (lines(file).len()..file.len() - 4).step_by(10);
-    let anchor = |at| ((number(file, at + 4), number(file, at + 6)), number(file, at + 8) as u16);
-    records.map(anchor).collect()
-}
-
-/// The blends, as the library prints them, without the values.
+/// The blends, as the library prints them, without the values and their marks.
 fn blends(file: &[u8]) -> Vec<String> {
     let table = perform(&Library, &Call::Table, &Lent::file(file));
     assert_eq!(table.number, 0);
     let text = std::str::from_utf8(&table.out()[..table.numbers[0]]).unwrap();
-    text.lines().skip(1).map(|line| line.rsplit_once(' ').unwrap().0.to_string()).collect()
+    let blend = |line: &str| line.rsplitn(3, ' ').last().unwrap().to_string();
+    text.lines().skip(1).map(blend).collect()
 }
 
 /// The file that an accepted call leaves.
@@ -57,13 +41,13 @@ fn left(outcome: &Outcome) -> Vec<u8> {
 }
 
 fn fresh(w: usize, h: usize) -> Vec<u8> {
-    let outcome = perform(&Library, &Call::Fresh(w, h), &Lent::buffer(&[], 52));
+    let outcome = perform(&Library, &Call::Fresh(w, h), &Lent::buffer(&[], 60));
     assert_eq!(outcome.number, 0);
     left(&outcome)
 }
 
-fn set(file: &[u8], (m, n): (usize, usize), value: u16) -> Vec<u8> {
-    let outcome = perform(&Library, &Call::Set(m, n, value), &Lent::buffer(file, file.len()));
+fn set(file: &[u8], (m, n): (u16, u16), value: u16) -> Vec<u8> {
+    let outcome = perform(&Library, &Call::Set(m as usize, n as usize, value), &Lent::buffer(file, file.len()));
     assert_eq!(outcome.number, 0);
     left(&outcome)
 }
@@ -92,9 +76,8 @@ impl Drawn {
     /// Takes in the last split of a file.
     fn take(&mut self, file: &[u8]) {
         let at = lines(file).len() - 12;
-        let [direction, position, from, to] = [4, 6, 8, 10].map(|field| number(file, at + field));
-        let [position, from, to] = [position, from, to].map(|number| number as i64);
-        let split = Split { direction, position, from, to };
+        let [direction, position, from, to] = [4, 6, 8, 10].map(|field| number(file, at + field) as i64);
+        let split = Split { direction: direction as usize, position, from, to };
         self.map.splits.push(split);
         self.lines.draw(split);
     }
@@ -152,7 +135,7 @@ fn with_other_values(random: &mut Random, drawn: &Drawn, file: &[u8]) -> Vec<u8>
     let count = chosen.len();
     chosen.truncate(random.pick(&[1, count / 3 + 1, count]).min(SET));
     let ends_alone = random.chance(30);
-    for (place, (anchor, old)) in chosen.into_iter().enumerate() {
+    for (place, (anchor, (old, _))) in chosen.into_iter().enumerate() {
         let mut value = if ends_alone { random.pick(&ENDS) } else { any_value(random) };
         if place == 0 && value == old {
             value = 65_535 - old;
@@ -206,7 +189,7 @@ impl Pair {
         assert_eq!(one, other, "other lines: {}", tell());
         let (before, last) = one.split_at(one.len() - 12);
         assert_eq!(before, lines(&self.files[0]), "lines from before: {}", tell());
-        let line = [4, 6, 8, 10].map(|at| number(last, at));
+        let line = [4, 6, 8, 10].map(|at| number(last, at) as usize);
         match call {
             Call::Exact(given) => assert_eq!(line, *given, "{}", tell()),
             Call::Lengthened(given) => {
@@ -218,14 +201,14 @@ impl Pair {
         }
         assert_eq!(blends(&files[0]), blends(&files[1]), "other blends: {}", tell());
 
-        // Old anchors keep their values, each map its own.
+        // Old anchors keep their values and marks, each map its own.
         let old = self.files.each_ref().map(|file| anchors(file));
         let new = files.each_ref().map(|file| anchors(file));
         for (old, new) in old.iter().zip(&new) {
-            let kept = old.iter().all(|(anchor, value)| new.get(anchor) == Some(value));
-            assert!(kept, "an old anchor has another value: {}", tell());
+            let kept = old.iter().all(|(anchor, entry)| new.get(anchor) == Some(entry));
+            assert!(kept, "an old anchor has another value or mark: {}", tell());
         }
-        let apart = |values: &[BTreeMap<_, u16>; 2], anchor| values[0][anchor] != values[1][anchor];
+        let apart = |entries: &[BTreeMap<_, (u16, u16)>; 2], anchor| entries[0][anchor].0 != entries[1][anchor].0;
         let still = old[0].keys().filter(|anchor| apart(&old, anchor) && apart(&new, anchor)).count();
         assert_eq!(still, old[0].keys().filter(|anchor| apart(&old, anchor)).count(), "{}", tell());
         assert!(still > 0, "the two maps have the same values: {}", tell());
@@ -281,9 +264,9 @@ fn same_line_or_same_number() {
             *count += (w == side || h == side) as usize;
         }
         let (values, others) = (anchors(&file), anchors(&other));
-        assert_ne!(values, others);
+        assert!(others.iter().any(|(anchor, entry)| entry.0 != values[anchor].0));
         for (count, end) in of_ends.iter_mut().zip(ENDS) {
-            *count += others.iter().any(|(anchor, value)| *value == end && values[anchor] != end) as usize;
+            *count += others.iter().any(|(anchor, entry)| entry.0 == end && values[anchor].0 != end) as usize;
         }
 
         let mut pair = Pair { drawn, files: [file, other] };

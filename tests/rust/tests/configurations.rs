@@ -6,7 +6,7 @@
 use pump_tests::draw::{self, Random};
 use pump_tests::ffi::Library;
 use pump_tests::model::{Lines, Split};
-use pump_tests::Pump;
+use pump_tests::{Pump, LARGEST_FILE};
 use std::collections::{BTreeMap, BTreeSet, HashMap};
 
 /// Maps that are drawn at least, and at most while configurations are missing. After the last new one, as many again are
@@ -37,15 +37,15 @@ struct Drawn {
 impl Drawn {
     fn fresh(sides: [usize; 2]) -> Drawn {
         let [w, h] = sides;
-        let (mut file, mut used) = (vec![0; 52], 0);
-        assert_eq!(Library.fresh(w, h, &mut file, &mut used), 0);
+        let (mut file, mut used) = (vec![0; 60], 0);
+        assert_eq!((Library.fresh(w, h, &mut file, &mut used), used), (0, file.len()));
         Drawn { sides, splits: vec![], lines: Lines::fresh(w as i64, h as i64), file }
     }
 
     /// The map after a split, exact or lengthened, if the library accepts it.
     fn split(&self, split: [usize; 4], exact: bool) -> Option<Drawn> {
         let (mut file, mut used) = (self.file.clone(), self.file.len());
-        file.resize(10_972, 0);
+        file.resize(LARGEST_FILE, 0);
         let number = match exact {
             true => Library.exact_split(&mut file, &mut used, split),
             false => Library.lengthened_split(&mut file, &mut used, split),

@@ -128,6 +128,8 @@ fn lines_alone_count() {
             let text = compare(&Call::Table, &lent, &String::new);
             let same = compare(&Call::Same(other.write(), random.chance(50)), &lent, &String::new);
             assert_eq!((same.number, same.numbers[0]), (0, 1));
+            // Sameness does not look at marks, but the table shows them.
+            other.marks = map.marks.clone();
             let lent = Lent::file(&other.write());
             assert_eq!(compare(&Call::Table, &lent, &String::new).out(), text.out());
             let place = random.below(map.values.len());

@@ -2,22 +2,25 @@
 
 use pump_tests::calls::{compare, Call, Lent, Outcome};
 use pump_tests::draw::{self, Random};
+use pump_tests::files::old;
 use pump_tests::maps;
-use pump_tests::model::Map;
+use pump_tests::model::{Map, WORKED_OUT};
 use pump_tests::plain::Plain;
-use pump_tests::Pump;
+use pump_tests::{Pump, LARGEST_FILE};
 use std::collections::BTreeMap;
 
-/// How often each call gave each number, and how often two maps were the same.
+/// How often each call gave each number, how often it gave 0 on an old file, and how often two maps were the same.
 #[derive(Default)]
 struct Seen {
     numbers: BTreeMap<(&'static str, usize), usize>,
+    on_old: BTreeMap<&'static str, usize>,
     same: [usize; 2],
 }
 
 impl Seen {
-    fn note(&mut self, call: &Call, outcome: &Outcome) {
+    fn note(&mut self, call: &Call, outcome: &Outcome, on_old: bool) {
         *self.numbers.entry((call.name(), outcome.number)).or_default() += 1;
+        *self.on_old.entry(call.name()).or_default() += (on_old && outcome.number == 0) as usize;
         if matches!(call, Call::Same(..)) && outcome.number == 0 {
             self.same[outcome.numbers[0]] += 1;
         }
@@ -27,11 +30,11 @@ impl Seen {
         self.numbers.get(&(call, number)).copied().unwrap_or(0)
     }
 
-    /// Every call must have given every number that it can give, and no other. 1 and 4 have tests of their own. Nobody has
-    /// seen a lengthened split say 8, so that one may be missing.
+    /// Every call must have given every number that it can give, and no other, and 0 on old files. 1 and 4 have tests
+    /// of their own. Nobody has seen a lengthened split say 8, so that one may be missing.
     fn assert_all(&self) {
         let can: [(&'static str, &[usize]); 12] = [
-            ("set", &[0, 9, 11]),
+            ("set", &[0, 9, 11, 12]),
             ("exact", &[0, 3, 5, 6, 7, 8, 11, 12]),
             ("lengthened", &[0, 3, 5, 6, 7, 11, 12]),
             ("place", &[0, 9, 11, 12]),
@@ -46,7 +49,9 @@ impl Seen {
         ];
         for (call, numbers) in can {
             let counts: Vec<usize> = (0..=13).map(|number| self.count(call, number)).collect();
-            println!("{call:>10} gave 0 to 13: {counts:?}");
+            let on_old = self.on_old.get(call).copied().unwrap_or(0);
+            println!("{call:>10} gave 0 to 13: {counts:?}; 0 on old files: {on_old}");
+            assert!(on_old > 0, "{call} was never accepted on an old file");
             for (number, count) in counts.into_iter().enumerate() {
                 let may = number == 4 || (call, number) == ("lengthened", 8);
                 assert!(may || numbers.contains(&number) == (count > 0), "{call} gave {number} {count} times");
@@ -59,10 +64,13 @@ impl Seen {
 /// The bytes lent: the file with room after it or none, sometimes too little, sometimes a length beyond the bytes.
 fn lend(random: &mut Random, call: &Call, map: &Map, file: &[u8]) -> Lent {
     if call.changes() {
+        // An old file may fit where the one that a call would leave does not.
+        let written = 12 + 12 * (map.splits.len() + map.values.len());
         let size = match random.below(20) {
             0 => file.len(),
             1 => file.len() + random.below(60),
-            2 => 10_972,
+            2 => LARGEST_FILE,
+            3 => file.len().max(written - random.below(2)),
             _ => file.len() + random.between(300, 900),
         };
         let mut lent = Lent::buffer(file, size);
@@ -77,7 +85,7 @@ fn lend(random: &mut Random, call: &Call, map: &Map, file: &[u8]) -> Lent {
     }
     let mut lent = Lent::file(file);
     lent.out = match call {
-        Call::Place(_) => random.pick(&[0, 13, 14, 14, 14, 15, 40]),
+        Call::Place(_) => random.pick(&[0, 14, 15, 16, 16, 16, 17, 40]),
         Call::Weights(..) => random.pick(&[0, 63, 64, 64, 64, 65, 100]),
         Call::Table => {
             let text = map.text().len();
@@ -91,24 +99,30 @@ fn lend(random: &mut Random, call: &Call, map: &Map, file: &[u8]) -> Lent {
     lent
 }
 
-/// One history, from a fresh map; any calls, or splits alone. The model's map goes along, for the draws and as a check
-/// on the model's own files.
+/// One history, from a fresh map; any calls, or splits alone. Now and then it goes on from the map's file in the old
+/// form. The model's map goes along, for the draws and as a check on the model's own files.
 fn history(random: &mut Random, seen: &mut Seen, (w, h): (usize, usize), length: usize, splits_alone: bool) -> Map {
     let mut story = vec![];
     let mut map = Map::fresh(w, h).unwrap();
     let mut file = map.write();
-    let mut others = vec![file.clone()];
+    let mut others = vec![draw::file(random, &map)];
+    let mut on_old = false;
     for _ in 0..length {
+        if random.chance(10) {
+            file = old(&file);
+            map.marks.fill(WORKED_OUT);
+            on_old = true;
+        }
         let call = match splits_alone {
             true if random.chance(50) => Call::Exact(draw::split(random, &map, &map.lines())),
             true => Call::Lengthened(draw::split(random, &map, &map.lines())),
             false => draw::call(random, &map, &others),
         };
         let lent = lend(random, &call, &map, &file);
-        story.push((call.clone(), lent.bytes.len(), lent.used, lent.out));
-        let tell = || format!("sides {w} by {h}; calls, each with size, used and size of out: {story:?}");
+        story.push((call.clone(), on_old, lent.bytes.len(), lent.used, lent.out));
+        let tell = || format!("sides {w} by {h}; calls, each with old file, size, used, size of out: {story:?}");
         let outcome = compare(&call, &lent, &tell);
-        seen.note(&call, &outcome);
+        seen.note(&call, &outcome, on_old);
         if outcome.number != 0 || !call.changes() {
             continue;
         }
@@ -120,7 +134,8 @@ fn history(random: &mut Random, seen: &mut Seen, (w, h): (usize, usize), length:
             _ => unreachable!(),
         }
         assert_eq!(map.write(), file);
-        others.push(file.clone());
+        on_old = false;
+        others.push(draw::file(random, &map));
     }
     map
 }
@@ -158,7 +173,7 @@ fn full_histories() {
 
 /// The map of these splits on sides of 128, by the plain implementation, with values.
 fn largest(splits: &[maps::Split]) -> Vec<u8> {
-    let (mut buffer, mut used) = (vec![0; 10_972], 0);
+    let (mut buffer, mut used) = (vec![0; LARGEST_FILE], 0);
     assert_eq!(Plain.fresh(128, 128, &mut buffer, &mut used), 0);
     for split in splits {
         assert_eq!(Plain.exact_split(&mut buffer, &mut used, *split), 0);
@@ -172,10 +187,14 @@ fn largest(splits: &[maps::Split]) -> Vec<u8> {
 fn most_blends() {
     let (last, first) = maps::grid().split_last().map(|(last, first)| (*last, first.to_vec())).unwrap();
     let before = largest(&first);
-    let short = compare(&Call::Exact(last), &Lent::buffer(&before, 10_971), &String::new);
-    let whole = compare(&Call::Exact(last), &Lent::buffer(&before, 10_972), &String::new);
-    assert_eq!((short.number, whole.number, whole.used), (12, 0, 10_972));
+    let short = compare(&Call::Exact(last), &Lent::buffer(&before, LARGEST_FILE - 1), &String::new);
+    let whole = compare(&Call::Exact(last), &Lent::buffer(&before, LARGEST_FILE), &String::new);
+    assert_eq!((short.number, whole.number, whole.used), (12, 0, LARGEST_FILE));
     let file = largest(&maps::grid());
+    let old = old(&file);
+    for (size, number) in [(old.len(), 12), (LARGEST_FILE - 1, 12), (LARGEST_FILE, 0)] {
+        assert_eq!(compare(&Call::Set(4, 8, 15), &Lent::buffer(&old, size), &String::new).number, number);
+    }
     for call in [
         Call::Table,
         Call::Place(1023),
@@ -188,7 +207,9 @@ fn most_blends() {
         Call::Set(128, 120, 65_535),
         Call::Exact([0, 2, 0, 4]),
     ] {
-        compare(&call, &Lent::file(&file), &String::new);
+        for file in [&file, &old] {
+            compare(&call, &Lent::file(file), &String::new);
+        }
     }
 }
 
@@ -209,7 +230,7 @@ fn table_that_just_fits() {
 #[test]
 fn longest_search() {
     let (last, first) = maps::fan().split_last().map(|(last, first)| (*last, first.to_vec())).unwrap();
-    let before = Lent::buffer(&largest(&first), 10_972);
+    let before = Lent::buffer(&largest(&first), LARGEST_FILE);
     let searched = compare(&Call::Lengthened(maps::FAN_GIVEN), &before, &String::new);
     let drawn = compare(&Call::Exact(last), &before, &String::new);
     assert_eq!((searched.number, searched.bytes()), (0, drawn.bytes()));
@@ -242,11 +263,11 @@ fn fresh_maps() {
             _ => random.between(0, 129),
         };
         let call = Call::Fresh(side(), side());
-        let mut lent = Lent::buffer(&[], random.pick(&[0, 1, 51, 52, 53, 100]));
+        let mut lent = Lent::buffer(&[], random.pick(&[0, 1, 52, 59, 60, 61, 100]));
         lent.used = round;
         let outcome = compare(&call, &lent, &String::new);
-        assert_eq!(outcome.used, if outcome.number == 0 { 52 } else { round });
-        seen.note(&call, &outcome);
+        assert_eq!(outcome.used, if outcome.number == 0 { 60 } else { round });
+        seen.note(&call, &outcome, false);
     }
     assert!([0, 1, 12].iter().all(|number| seen.count("fresh", *number) > 100));
 }

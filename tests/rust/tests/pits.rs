@@ -1,6 +1,8 @@
-//! "Pits on paper" of document 01, with the numbers and counts that it gives.
+//! "Pits on paper" of document 01, with the numbers and counts that it gives, and with the marks and the file lengths
+//! of document 02, L5.
 
 use pump_tests::calls::{compare, Call, Lent, Outcome};
+use pump_tests::LARGEST_FILE;
 
 /// A map in a buffer that holds any.
 struct Editor(Vec<u8>);
@@ -13,7 +15,7 @@ impl Editor {
     }
 
     fn call(&mut self, call: Call) -> Outcome {
-        let lent = if call.changes() { Lent::buffer(&self.0, 10_972) } else { Lent::file(&self.0) };
+        let lent = if call.changes() { Lent::buffer(&self.0, LARGEST_FILE) } else { Lent::file(&self.0) };
         let outcome = compare(&call, &lent, &String::new);
         if call.changes() {
             self.0 = outcome.bytes()[..outcome.used].to_vec();
@@ -80,6 +82,7 @@ fn counts_of_blends() {
     assert_eq!(map.lengthened([1, 2, 0, 2]), Ok(14));
     let last_split = 8 + 12 * 3;
     assert_eq!(map.0[last_split..last_split + 12], [10, 0, 2, 0, 1, 0, 2, 0, 0, 0, 8, 0]);
+    assert_eq!(map.0.len(), 12 + 12 * 4 + 12 * 14);
 
     let mut map = Editor::fresh(8, 8);
     map.exact([1, 2, 0, 8]).unwrap();
@@ -122,11 +125,49 @@ fn readings() {
 #[test]
 fn fresh_file_and_table() {
     let mut map = Editor::fresh(2, 3);
-    assert_eq!(map.0.len(), 52);
-    assert_eq!(map.text(), "4\n-1 0 2 -1 0 3 0\n-1 0 2 0 3 4 0\n0 2 3 -1 0 3 0\n0 2 3 0 3 4 0\n");
+    assert_eq!(map.0.len(), 60);
+    assert_eq!(map.text(), "4\n-1 0 2 -1 0 3 0 0\n-1 0 2 0 3 4 0 0\n0 2 3 -1 0 3 0 0\n0 2 3 0 3 4 0 0\n");
     let outcome = map.call(Call::Weights(2, 1));
     let numbers: Vec<i16> = outcome.out()[..64].chunks(2).map(|pair| i16::from_ne_bytes([pair[0], pair[1]])).collect();
     let want =
         [[-1, 0, 2, -1, 0, 3, 0, 6], [-1, 0, 2, 0, 3, 4, 0, 6], [0, 2, 3, -1, 0, 3, 4, 6], [0, 2, 3, 0, 3, 4, 2, 6]];
     assert_eq!(numbers, want.concat());
+}
+
+/// A set value is measured, also where it is the one from before; a split keeps the marks of old anchors, and what it
+/// works out for new ones is not measured.
+#[test]
+fn marks() {
+    let mut map = Editor::fresh(4, 1);
+    map.call(Call::Set(4, 0, 6));
+    map.call(Call::Set(0, 1, 0));
+    assert_eq!(map.text(), "4\n-1 0 4 -1 0 1 0 0\n-1 0 4 0 1 2 0 1\n0 4 5 -1 0 1 6 1\n0 4 5 0 1 2 0 0\n");
+    map.exact([0, 1, 0, 1]).unwrap();
+    let (left, middle) = ("-1 0 1 -1 0 1 0 0\n-1 0 1 0 1 2 0 1\n", "0 1 4 -1 0 1 1 0\n0 1 4 0 1 2 0 0\n");
+    assert_eq!(map.text(), format!("6\n{left}{middle}1 4 5 -1 0 1 6 1\n1 4 5 0 1 2 0 0\n"));
+    let entry = map.call(Call::Place(4)).out()[..16].to_vec();
+    assert_eq!(entry, [1, 4, 5, -1, 0, 1, 6, 1i16].map(i16::to_ne_bytes).concat());
+}
+
+/// An old file stays as it is until a value is set or a line is drawn.
+#[test]
+fn old_file() {
+    let bytes = |numbers: &[u16]| numbers.iter().flat_map(|number| number.to_le_bytes()).collect::<Vec<u8>>();
+    let old = bytes(&[6, 1, 2, 3, 8, 3, 0, 0, 7, 8, 3, 0, 3, 0, 8, 3, 2, 0, 0, 8, 3, 2, 3, 9, 2, 4]);
+    assert_eq!(old.len(), 52);
+    let mut map = Editor(old.clone());
+    assert_eq!(map.text(), "4\n-1 0 2 -1 0 3 7 0\n-1 0 2 0 3 4 0 0\n0 2 3 -1 0 3 0 0\n0 2 3 0 3 4 9 0\n");
+    assert_eq!(map.reading(2, 3), Ok(9));
+    assert_eq!(map.call(Call::Set(1, 1, 5)).number, 9);
+    assert_eq!(map.exact([1, 1, 0, 1]), Err(6));
+    assert_eq!(map.0, old);
+    for (size, number) in [(59, 12), (60, 0)] {
+        assert_eq!(compare(&Call::Set(2, 0, 5), &Lent::buffer(&old, size), &String::new).number, number);
+    }
+    map.call(Call::Set(2, 0, 5));
+    let new = [6, 1, 2, 3, 10, 5, 0, 0, 7, 0, 10, 5, 0, 3, 0, 0, 10, 5, 2, 0, 5, 1, 10, 5, 2, 3, 9, 0, 2, 4];
+    assert_eq!(map.0, bytes(&new));
+    let mut map = Editor(old);
+    assert_eq!(map.exact([0, 1, 0, 3]), Ok(6));
+    assert_eq!(map.0.len(), 12 + 12 + 12 * 6);
 }

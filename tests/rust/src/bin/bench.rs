@@ -6,7 +6,7 @@ use pump_tests::ffi::Library;
 use pump_tests::maps::{self, Split};
 use pump_tests::model::Map;
 use pump_tests::plain::Plain;
-use pump_tests::Pump;
+use pump_tests::{Pump, LARGEST_FILE};
 use std::hint::black_box;
 use std::time::{Duration, Instant};
 
@@ -63,7 +63,7 @@ impl Desk {
 }
 
 fn fresh(w: usize, h: usize) -> Vec<u8> {
-    let (mut file, mut used) = (vec![0; 52], 0);
+    let (mut file, mut used) = (vec![0; 60], 0);
     assert_eq!(Plain.fresh(w, h, &mut file, &mut used), 0);
     file
 }
@@ -71,7 +71,7 @@ fn fresh(w: usize, h: usize) -> Vec<u8> {
 /// The file after a split, if it is accepted.
 fn split(file: &[u8], split: Split) -> Option<Vec<u8>> {
     let mut buffer = file.to_vec();
-    buffer.resize(10_972, 0);
+    buffer.resize(LARGEST_FILE, 0);
     let mut used = file.len();
     let number = Plain.exact_split(&mut buffer, &mut used, split);
     buffer.truncate(used);
@@ -207,7 +207,7 @@ fn beside_a_check(calls: &[Call], file: &[u8], desk: &mut Desk) {
 
 fn main() {
     let start = Instant::now();
-    let mut desk = Desk { buffer: vec![0; 10_972], out: vec![0; 65_536], used: 0, numbers: [0, 0] };
+    let mut desk = Desk { buffer: vec![0; LARGEST_FILE], out: vec![0; 65_536], used: 0, numbers: [0, 0] };
     println!("Microseconds a call; the ratio is of the best times.\n");
     println!("| map | call | number | library, best | library, median | plain, best | plain, median | ratio |");
     println!("|---|---|---|---|---|---|---|---|");
