@@ -2,9 +2,9 @@
 use Prim.Native.Nat.{ℕ, suc, _+_, _≤_, _<_}
 use native.Mathlib.Omega.{arith}
 use native.Mathlib.Numerals.{add-one}
-use mathlib.Core.Path.{_≡_, refl, sym, ap, _∙_}
+use mathlib.Core.Path.{_≡_, refl, sym, ap, subst, _∙_}
 use mathlib.Core.Bool.{Bool, true, false, _&&_}
-use mathlib.Core.List.{List, [], _∷_, List·Memᴰ, Memᴰ·append-right}
+use mathlib.Core.List.{List, [], _∷_, List·Memᴰ, Memᴰ·append-left, Memᴰ·append-right}
 use mathlib.Core.List.List·Memᴰ.{List·Memᴰ·head}
 use lib.ListN.{length, getD, take, drop, length-take, take-append-drop, drop-of-length-le}
 use lib.Seq.{drop-cons, getD-take, length-take-le}
@@ -28,6 +28,10 @@ module _ {ℓ} {A : Type ℓ} (xs : List A) (n i : ℕ) where
     left-mem d lt =
         rw (← take-append-drop i (take n xs))
         (Memᴰ·append-right (take i (take n xs)) (rw (left-turn d lt) (List·Memᴰ·head refl)))
+
+-- what stands in front of a list stands in it
+pub taken-mem {ℓ} : {A : Type ℓ} (n : ℕ) (xs : List A) (x : A) → List·Memᴰ x (take n xs) → List·Memᴰ x xs
+taken-mem n xs x m = subst (List·Memᴰ x) (take-append-drop n xs) (Memᴰ·append-left (drop n xs) m)
 
 -- a test of the entries from a place on, as a loop takes them
 module _ {ℓ} {A : Type ℓ} (test : A → Bool) (xs : List A) (i : ℕ) where

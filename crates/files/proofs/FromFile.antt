@@ -57,7 +57,8 @@ module _ (P : Plain) (valued : Valued P) where
       let rest =
       values-set bs (done ++ B ∷ []) (us ++ v ∷ []) ws vs (ks ++ 1 ∷ []) ms (is ∙ sym (append-assoc done (B ∷ []) bs)) (simp length-append (omega arith))
       (simp length-append (omega arith)) (omega arith) (omega arith) (omega arith) (λ x m. small x (List·Memᴰ.List·Memᴰ·tail m)) in
-      accepted-more (setting (term B v)) (map setting (paired bs vs)) (withValues P (us ++ w ∷ ws) (ks ++ m ∷ ms)) (withValues P (us ++ v ∷ ws) (ks ++ 1 ∷ ms)) _
+      accepted-more (setting (term B v)) (map setting (paired bs vs)) (withValues P (us ++ w ∷ ws) (ks ++ m ∷ ms))
+      (withValues P (us ++ v ∷ ws) (ks ++ 1 ∷ ms)) _
       (value-set P valued done B bs is us w ws full v (small v (List·Memᴰ.List·Memᴰ·head refl)) ks m ms f)
       (rw (append-assoc us (v ∷ []) ws, append-assoc us (v ∷ []) vs, append-assoc ks (1 ∷ []) ms, append-assoc ks (1 ∷ []) (replicate (length bs) 1)) at rest)
 

@@ -4,11 +4,11 @@ use native.Mathlib.Omega.{arith}
 use mathlib.Core.Path.{_≡_, refl, sym, ap, ap₂, subst, _∙_}
 use mathlib.Core.Logic.{_⊎_, inl, inr, ⊎-elim}
 use mathlib.Core.Bool.{Bool, true, false}
-use mathlib.Core.List.{List, [], _∷_, _++_, List·Memᴰ, Memᴰ·append-left}
+use mathlib.Core.List.{List, [], _∷_, _++_, List·Memᴰ}
 use mathlib.Core.List.List·Memᴰ.{List·Memᴰ·head, List·Memᴰ·tail}
 use borrow.Author.Tests.{leb-true, eqb-true}
 use lib.Dec.{leb, eqb}
-use lib.ListN.{length, take, drop, replicate, take-append-drop}
+use lib.ListN.{length, take, replicate}
 use Rattle.mesh.specs.declared.Split.{Split}
 use Rattle.mesh.specs.declared.Blend.{Blend}
 use Rattle.mesh.specs.Lines.{Direction, upright, level, number, side, other, allowedSide, inRange, layoutOf}
@@ -16,22 +16,23 @@ use Rattle.mesh.specs.Sound.{sound}
 use Rattle.axis.specs.Range.{all, joined}
 use Rattle.axis.proofs.Tests.{either, true-not-false, and-both, all-at, all-of, all-append}
 use Rattle.axis.proofs.Padding.{copies, padding-passes, all-padding}
+use Rattle.axis.proofs.Entries.{taken-mem}
 use Rattle.axis.proofs.Beside.{beside-second}
 use Rattle.mesh.proofs.Ranges.{in-range-says}
 use Rattle.maps.specs.declared.Map.{Map}
 use Rattle.maps.specs.declared.Changed.{Changed}
-use Rattle.maps.specs.Plain.{Plain, blends}
+use Rattle.maps.specs.Plain.{Plain, freshPlain, blends}
 use Rattle.maps.specs.Values.{paired}
 use Rattle.maps.specs.Record.{isZero, recordOf, Held, plain, good}
 use Rattle.maps.specs.Calls.{changed}
 use Rattle.maps.proofs.OverSquare.{four-at}
-use Rattle.maps.proofs.GoodRecords.{Holds, record-good, GoodFacts, good-facts}
+use Rattle.maps.proofs.GoodRecords.{Holds, record-good, fresh-holds, GoodFacts, good-facts}
 use Rattle.maps.proofs.Reached.{good-reached}
-use Rattle.mesh.proofs.Accepted.{replays-sides, replays-stands, replays-sound}
-use Rattle.files.specs.File.{head, splitEntry, TableEntry, entriesOf, markedEntry, tail, fileWith, fileIn, fileOf, oldFileOf, splitCount, isOld, guessed}
+use Rattle.mesh.proofs.Accepted.{replays-sides, replays-stands, replays-sound, replays-short}
+use Rattle.files.specs.File.{largestFile, head, splitEntry, TableEntry, entriesOf, markedEntry, tail, fileWith, fileIn, fileOf, oldFileOf, splitCount, isOld, guessed}
 use Rattle.files.specs.Calls.{readFile}
 use Rattle.files.specs.Accepted.{IsFile, IsOldFile, unmarkedEntry, Accepts}
-use Rattle.files.proofs.RoundTrip.{Small, Fits, accepted-file, written-reads, read-either}
+use Rattle.files.proofs.RoundTrip.{Small, Fits, file-length, accepted-file, written-reads, read-either}
 use Rattle.files.proofs.ReadMaps.{map-held}
 use Rattle.mesh.specs.Splits.{liveOf}
 
@@ -92,13 +93,22 @@ good-fits P holds values =
 pub plain-reads-back : (P : Plain) → Holds P → ((v : ℕ) → List·Memᴰ v (P .values) → v < 65536) → readFile (fileOf P) ≡ changed 0 (recordOf P)
 plain-reads-back P holds values = written-reads false P (good-fits P holds values) (λ o. absurd (true-not-false false o refl)) (record-good holds .0)
 
+-- "A written file has 12 + 12 × s + 12 × k bytes from now on, a fresh map's 60"; the largest has 13,020.
+pub file-most : (P : Plain) → Holds P → length (fileOf P) ≤ largestFile
+file-most P h = omega (arith, file-length P (h .counted) (h .counted-marks) false, h .taken .few, replays-short (h .taken))
+
+pub fresh-file : (w h : ℕ) → allowedSide w ≡ true → allowedSide h ≡ true → length (fileOf (freshPlain w h)) ≡ 60
+unfolding freshPlain
+fresh-file w h a b =
+    let holds = fresh-holds w h a b in
+    omega (arith, file-length (freshPlain w h) (holds .counted) (holds .counted-marks) false, holds .counted)
+
 -- marks that are all 0
 no-marks-held : {m : Map} → GoodFacts m → all isZero (m .marks) ≡ true → plain m .marks ≡ replicate (length (blends (plain m))) 0
 unfolding plain
 no-marks-held {m} f zeros =
     let k = length (liveOf (layoutOf (m .lines))) in
-    let used : all isZero (take k (m .marks)) ≡ true =
-    all-of isZero (take k (m .marks)) (λ x i. all-at isZero (m .marks) zeros x (subst (List·Memᴰ x) (take-append-drop k (m .marks)) (Memᴰ·append-left (drop k (m .marks)) i))) in
+    let used = all-of isZero (take k (m .marks)) (λ x i. all-at isZero (m .marks) zeros x (taken-mem k (m .marks) x i)) in
     all-padding isZero 0 (λ v q. eqb-true v 0 q) (take k (m .marks)) used ∙ ap (λ (n : ℕ). replicate n 0) (f .holds .counted-marks)
 
 -- A good record reads back from its file, and from its old file where its marks are all 0.

@@ -72,7 +72,8 @@ module _ (P : Plain) (full : length (P .values) ≡ length (blends P)) (full-mar
 
   entries-values : map (λ (e : TableEntry). e .term .multiple) entries ≡ P .values
   entries-values =
-      sym (map-map (λ (t : Term). t .multiple) (λ (e : TableEntry). e .term) entries) ∙ ap (map (λ (t : Term). t .multiple)) (beside-firsts _ (λ (e : TableEntry). e .term) (λ t k. refl) terms (P .marks) marks-count) ∙
+      sym (map-map (λ (t : Term). t .multiple) (λ (e : TableEntry). e .term) entries) ∙
+      ap (map (λ (t : Term). t .multiple)) (beside-firsts _ (λ (e : TableEntry). e .term) (λ t k. refl) terms (P .marks) marks-count) ∙
       beside-seconds term (λ (t : Term). t .multiple) (λ B v. refl) (blends P) (P .values) full
 
   entries-marks : map (λ (e : TableEntry). e .mark) entries ≡ P .marks
@@ -213,7 +214,8 @@ module _ (old : Bool) (P : Plain) (ok : Fits P) where
 
 -- The marks are read, or there are none to read,
 marks-read : (old : Bool) (P : Plain) (ok : Fits P) → (old ≡ true → P .marks ≡ replicate (length (blends P)) 0) →
-    cond old (replicate (length (blends P)) 0) (each 0 (length (blends P)) (λ i. getD (fileIn old P) (base old P ok + valueSize old * i + 10) 0 ∷ [])) ≡ P .marks
+    let k = length (blends P) in
+    cond old (replicate k 0) (each 0 k (λ i. getD (fileIn old P) (base old P ok + valueSize old * i + 10) 0 ∷ [])) ≡ P .marks
 marks-read true P ok none = sym (none refl)
 marks-read false P ok none =
     all-read false P ok (λ i. getD (fileIn false P) (base false P ok + 12 * i + 10) 0) (λ e. e .mark)

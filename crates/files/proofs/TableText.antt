@@ -83,4 +83,6 @@ text-most bytes =
     let marks = good-passes (readFile bytes .map) (read-good bytes) .are-marks in
     let hand : InHand (tableOf (readFile bytes .map)) (readFile bytes .map .values) (readFile bytes .map .marks) =
     record { ok = ready g .well-formed; places = all-places g; full = h .full .values; full-marks = h .full .marks } in
-    rw (← opened-text g) (text-from-most hand (h .small) (λ i. let k = leb-true (getD (readFile bytes .map .marks) i 0) 1 (Words.all-places isMark refl (readFile bytes .map .marks) marks i) in omega arith))
+    let low : (i : ℕ) → getD (readFile bytes .map .marks) i 0 ≤ 1 =
+    λ i. leb-true _ 1 (Words.all-places isMark refl (readFile bytes .map .marks) marks i) in
+    rw (← opened-text g) (text-from-most hand (h .small) (λ i. omega (arith, low i)))

@@ -53,7 +53,8 @@ module _ {t : Table} {values marks : List ℕ} (h : InHand t values marks) where
   module _ (i : ℕ) (lt : i < t .count) where
     pub entries-at : getD (entriesIn t values marks) i no-entry ≡ entryOf (getD (t .blends) i none) (getD values i 0) (getD marks i 0)
     entries-at =
-        beside-at marking (paired (blendsOf t) (take (t .count) values)) (take (t .count) marks) i no-entry (no-entry .term) 0 (rw terms-length lt) (rw marks-length lt) ∙
+        beside-at marking (paired (blendsOf t) (take (t .count) values)) (take (t .count) marks) i no-entry (no-entry .term) 0 (rw terms-length lt)
+        (rw marks-length lt) ∙
         rw (
           beside-at term (blendsOf t) (take (t .count) values) i (no-entry .term) none 0 (rw blends-length lt) (rw values-length lt),
           getD-take (t .count) (t .blends) i none lt,

@@ -154,7 +154,11 @@ fn line_size(blend: Blend, value: usize, mark: usize) -> usize
 }
 
 // How many bytes the text of a table has.
-fn text_size(table: Table, values: [u16; Table::MOST_BLENDS], marks: [u8; Table::MOST_BLENDS]) -> usize
+fn text_size(
+    table: Table,
+    values: [u16; Table::MOST_BLENDS],
+    marks: [u8; Table::MOST_BLENDS],
+) -> usize
     requires { ⌜ WellFormed table ⌝ }
     ensures { λ r. ⌜ r ≡ length (textFrom table values marks) ⌝ }
 {

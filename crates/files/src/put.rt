@@ -18,7 +18,15 @@ pub(crate) fn put_split(bytes: &mut [u8], at: usize, split: Split)
 }
 
 // Puts the entry of a value at an anchor, with its mark or, in an old file, without.
-pub(crate) fn put_value(bytes: &mut [u8], at: usize, old: bool, m: u8, n: u8, value: usize, mark: usize)
+pub(crate) fn put_value(
+    bytes: &mut [u8],
+    at: usize,
+    old: bool,
+    m: u8,
+    n: u8,
+    value: usize,
+    mark: usize,
+)
     requires { ⌜ at + valueSize old ≤ length (now bytes) ⌝ }
     ensures { λ _. ⌜ now (bytes .exit) ≡ put (now (bytes .entry)) at (valueNumbers old m n value mark) ⌝ }
 {

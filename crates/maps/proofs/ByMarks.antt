@@ -111,6 +111,6 @@ module _ (m n : Map) (hm : Held m) (hn : Held n) (gm : good m ≡ true) (gn : go
         same-told = λ x. (
           rw (gm, gn) (ap (λ (P : Plain). cond (good x) (record { number = 0; yes = samePlain P (plain x) }) (record { number = 2; yes = false })) remarked),
           rw (gm, gn)
-          (ap (λ (P : Plain). cond (good x && true) (record { number = 0; yes = samePlain (plain x) P }) (record { number = 2; yes = false })) remarked),
+              (ap (λ (P : Plain). cond (good x && true) (record { number = 0; yes = samePlain (plain x) P }) (record { number = 2; yes = false })) remarked),
         );
       }

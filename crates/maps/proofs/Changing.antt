@@ -63,7 +63,11 @@ module _ (P : Plain) where
   record-drawn : (s : Split) → length (P .lines .splits) < 60 →
       let bs = blends (drawn P s) in
       recordOf (drawn P s) ≡
-      record { lines = withSplit (recordOf P .lines) s; values = inArray (carried (blends P) (P .values)) bs; marks = inArray (keptMark (blends P) (P .marks)) bs }
+      record {
+        lines = withSplit (recordOf P .lines) s;
+        values = inArray (carried (blends P) (P .values)) bs;
+        marks = inArray (keptMark (blends P) (P .marks)) bs;
+      }
   unfolding recordOf linesOf drawn
   record-drawn s room =
       rw (

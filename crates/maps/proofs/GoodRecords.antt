@@ -1,15 +1,16 @@
 -- What a good record gives, and what makes a record good.
 use Prim.Native.Nat.{ℕ, _-_, _≤_}
 use native.Mathlib.Omega.{arith}
-use mathlib.Core.Path.{_≡_, refl, subst}
+use mathlib.Core.Path.{_≡_, refl}
 use mathlib.Core.Logic.{⊎-elim}
 use mathlib.Core.Bool.{true}
-use mathlib.Core.List.{List, _++_, List·Memᴰ, Memᴰ·append-left}
+use mathlib.Core.List.{List, _++_, List·Memᴰ}
 use borrow.Author.Tests.{le-leb, leb-true, eqb-true, ltb-true}
 use lib.Dec.{eqb, ltb}
-use lib.ListN.{length, getD, take, drop, replicate, length-set, length-map, take-append-drop}
+use lib.ListN.{length, getD, take, replicate, length-set, length-map}
 use lib.Seq.{length-take-le, take-append-seam, drop-append-seam}
 use Rattle.axis.proofs.Tests.{either, and-both, all-at, all-of, all-append}
+use Rattle.axis.proofs.Entries.{taken-mem}
 use Rattle.axis.proofs.Members.{entry, map-mem, set-mem}
 use Rattle.axis.proofs.Padding.{copies, padding-passes, padded}
 use Rattle.mesh.specs.declared.Split.{Split}
@@ -121,8 +122,7 @@ good-facts m full e =
             taken = lines;
             counted = length-take-le k (m .values) (rw (full .values) short);
             counted-marks = length-take-le k (m .marks) (rw (full .marks) short);
-            are-marks = λ x mem.
-                leb-true x 1 (all-at isMark (m .marks) (p .are-marks) x (subst (List·Memᴰ x) (take-append-drop k (m .marks)) (Memᴰ·append-left (drop k (m .marks)) mem)));
+            are-marks = λ x mem. leb-true x 1 (all-at isMark (m .marks) (p .are-marks) x (taken-mem k (m .marks) x mem));
           };
       is-sound = replays-sound lines;
       is-short = replays-short lines;
@@ -172,5 +172,7 @@ drawn-holds {P} p s e =
       taken = replays-more (p .taken) s e;
       counted = length-map new _;
       counted-marks = length-map new _;
-      are-marks = λ k mem. let r = map-mem (keptMark (blends P) (P .marks)) new k mem in rw (r .2) (kept-mark (blends P) (P .marks) (p .counted-marks) (p .are-marks) (r .0));
+      are-marks = λ k mem.
+          let r = map-mem (keptMark (blends P) (P .marks)) new k mem in
+          rw (r .2) (kept-mark (blends P) (P .marks) (p .counted-marks) (p .are-marks) (r .0));
     }

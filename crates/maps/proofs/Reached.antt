@@ -4,10 +4,10 @@ use native.Mathlib.Omega.{arith}
 use native.Mathlib.Nat.{mod-lt}
 use mathlib.Core.Path.{_≡_, refl, sym, ap, _∙_}
 use mathlib.Core.Bool.{Bool, true, false, cond}
-use mathlib.Core.List.{List, [], _∷_, _++_, append-assoc, append-nil, List·Memᴰ, Memᴰ·append-left}
+use mathlib.Core.List.{List, [], _∷_, _++_, append-assoc, append-nil, List·Memᴰ}
 use borrow.Author.Tests.{eqb-true}
 use lib.Dec.{ltb, eqb}
-use lib.ListN.{length, drop, take-append-drop}
+use lib.ListN.{length}
 use Rattle.mesh.specs.declared.Split.{Split}
 use Rattle.mesh.specs.Lines.{allowedSide, layoutOf}
 use Rattle.maps.specs.declared.Map.{Map}
@@ -19,6 +19,7 @@ use Rattle.maps.specs.Record.{Held, plain, good}
 use Rattle.maps.specs.Calls.{setPlain}
 use Rattle.maps.specs.Histories.{Call, set, exact, lengthened, place, reads, weighs, alongRow, alongColumn, sameAs, Outcome, firstDrawn, byMachine, ending}
 use Rattle.maps.specs.Demand.{Start, fresh, lineBy, linesBy}
+use Rattle.axis.proofs.Entries.{taken-mem}
 use Rattle.axis.proofs.Members.{placed}
 use Rattle.axis.proofs.Padding.{copies}
 use Rattle.mesh.proofs.Passing.{exact-says}
@@ -56,7 +57,7 @@ good-reached m held g =
     let k = length (liveOf (layoutOf (m .lines))) in
     holds-reached (plain m) (good-facts m (held .full) g .holds)
     (λ v i.
-    let p = placed (m .values) v 0 (rw (take-append-drop k (m .values)) at (Memᴰ·append-left (drop k (m .values)) i)) in
+    let p = placed (m .values) v 0 (taken-mem k (m .values) v i) in
     rw (← p .2) (held .small (p .0)))
 
 -- in a fresh map they are 0.

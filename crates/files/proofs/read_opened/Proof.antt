@@ -56,15 +56,15 @@ returns-3 c =
     let count = size .before .before .before .count-splits in
     c .refused3 .ensures ∙
     sym (ap withTable (is-refused bytes (λ g e.
-    too-many (isOld bytes) (length bytes - (12 + 12 * count .result)) (omega (arith, file-lengths bytes g e .most, count .ensures)) (rw (size-is size) at (many .if3 .taken)))))
+    too-many (isOld bytes) (length bytes - (12 + 12 * count .result)) (omega (arith, file-lengths bytes g e .most, count .ensures))
+    (rw (size-is size) at (many .if3 .taken)))))
 
 taken-requires : tie.Need-taken-requires
 taken-requires c κs =
     let size = c .before in
     let fits = size .before .before in
     let count = fits .before .count-splits in
-    let left : length (given size) - (12 + 12 * count .result) ≡ length (given size) - 12 - 12 * count .result = omega arith in
-    (
+    let left : length (given size) - (12 + 12 * count .result) ≡ length (given size) - 12 - 12 * count .result = omega arith in (
       count .ensures,
       ap (λ (n : ℕ). n / size .value-size .result) left,
       c .if3 .left,
@@ -130,7 +130,8 @@ returns-6 c =
     let at = same .before .before in
     let taken = at .before .before .before .before .before .before .before .before in
     c .refused6 .ensures ∙
-    sym (ap withTable (not-same (given (sized taken)) (taken .taken .result) (taken .taken .ensures) (filed at) (sym (same .equal .ensures) ∙ not-true _ (c .before .if6 .taken))))
+    sym (ap withTable (not-same (given (sized taken)) (taken .taken .result) (taken .taken .ensures) (filed at)
+    (sym (same .equal .ensures) ∙ not-true _ (c .before .if6 .taken))))
 
 returns-7 : tie.Need-returns-7
 returns-7 c =
@@ -139,7 +140,8 @@ returns-7 c =
     let o = at .before .before .before .before .before .before .before in
     let taken = o .before in
     opened-as _ (o .«open» .result) (o .«open» .ensures) (at .before .before .before .before .before .if4 .left) ∙
-    ap withTable (all-same (given (sized taken)) (taken .taken .result) (taken .taken .ensures) (filed at) (sym (same .equal .ensures) ∙ not-false _ (c .if6 .left)))
+    ap withTable (all-same (given (sized taken)) (taken .taken .result) (taken .taken .ensures) (filed at)
+    (sym (same .equal .ensures) ∙ not-false _ (c .if6 .left)))
 
 pub read-opened-spec : {M : Type 1} → statement M
 read-opened-spec =

@@ -73,7 +73,8 @@ headed c = c .before .before .before .before .before
 values-short : (c : tie.After-value-size Inv-loop μ-loop Inv-loop2 μ-loop2) (n : ℕ) → n ≤ 1024 → c .value-size .result * n ≤ 12288
 values-short c n le = rw (c .value-size .ensures) (values-most (c .before .before .args .old) n le)
 
-long : (c : tie.After-value-size Inv-loop μ-loop Inv-loop2 μ-loop2) (e : TableEntry) → length (valueEntry (c .before .before .args .old) e) ≡ c .value-size .result
+long : (c : tie.After-value-size Inv-loop μ-loop Inv-loop2 μ-loop2) (e : TableEntry) →
+    length (valueEntry (c .before .before .args .old) e) ≡ c .value-size .result
 long c e = value-long (c .before .before .args .old) e ∙ sym (c .value-size .ensures)
 
 -- the buffer keeps its length
@@ -86,7 +87,14 @@ splits-kept c =
 values-kept : (c : tie.At-loop2 Inv-loop μ-loop Inv-loop2 μ-loop2) → length (c .loop2 .buffer) ≡ length (start (headed c) .args .buffer .now)
 values-kept c =
     let row = c .loop2 .inv .1 in
-    some-length (valueEntry (start (headed c) .args .old)) (sized (headed c) .value-size .result) _ _ _ (long (sized (headed c))) (row .room) (row .some) ∙ splits-kept (c .before .before)
+    let size = sized (headed c) in
+    some-length (valueEntry (size .before .before .args .old)) (size .value-size .result) _ _ _ (long size) (row .room) (row .some) ∙
+    splits-kept (c .before .before)
+
+-- so is the place of a turn
+place-short : (c : tie.In-loop2 Inv-loop μ-loop Inv-loop2 μ-loop2) →
+    sized (headed (c .before)) .value-size .result * c .before .loop2 .j ≤ 12288
+place-short c = values-short (sized (headed (c .before))) (c .before .loop2 .j) (omega (arith, c .loop2-test .taken, c .before .loop2 .inv .0))
 
 rises : (c : tie.In-loop2 Inv-loop μ-loop Inv-loop2 μ-loop2) →
     Proper (getD (start (headed (c .before)) .args .o .table .blends) (c .before .loop2 .j) none)
@@ -144,8 +152,10 @@ loop2-holds c =
     let first = c .before .before .before .before in
     let s = start first in
     let e = entries-length (hand s) in
-    let fits = first .before .before .before .before .before .before .before .if1 .left in
-    (is-ready s .well-formed .few, record { counted = e; room = rw e (omega (arith, fits, splits-kept (c .before))); some = some-none (valueEntry (s .args .old)) _ _ _ _ })
+    let fits = first .before .before .before .before .before .before .before .if1 .left in (
+      is-ready s .well-formed .few,
+      record { counted = e; room = rw e (omega (arith, fits, splits-kept (c .before))); some = some-none (valueEntry (s .args .old)) _ _ _ _ },
+    )
 
 sub-put-value : tie.Need-sub-put-value Inv-loop μ-loop Inv-loop2 μ-loop2
 sub-put-value c = let p = rises (c .before .before .before .before .before) in omega (arith, p .across .low)
@@ -158,7 +168,8 @@ put-value-requires c κs =
     let at = c .before .before .before .before .before .before .before in
     let row = at .loop2 .inv .1 in
     let size = sized (headed at) in
-    rw (← size .value-size .ensures) (some-room (valueEntry (size .before .before .args .old)) (size .value-size .result) _ _ _ (long size) (row .room) (row .some) (omega (arith, row .counted)))
+    rw (← size .value-size .ensures)
+    (some-room (valueEntry (size .before .before .args .old)) (size .value-size .result) _ _ _ (long size) (row .room) (row .some) (omega (arith, row .counted)))
 
 loop2-again : tie.Need-loop2-again Inv-loop μ-loop Inv-loop2 μ-loop2
 loop2-again c =
@@ -171,7 +182,9 @@ loop2-again c =
     let inv = in-loop .before .loop2 .inv in
     let row = inv .1 in
     let same = entries-at (hand s) _ (in-loop .loop2-test .taken) ∙ ap₂ (entryOf _) (sym (litres .litres .ensures)) (sym (wide .wide .ensures .0)) in
-    let next = some-next (valueEntry (s .args .old)) (size .value-size .result) _ _ _ (long size) (row .room) (row .some) no-entry _ (omega (arith, row .counted)) same (put .put-value .ensures) in
+    let next =
+    some-next (valueEntry (s .args .old)) (size .value-size .result) _ _ _ (long size) (row .room) (row .some) no-entry _ (omega (arith, row .counted)) same
+    (put .put-value .ensures) in
     (inv .0, record { counted = row .counted; room = row .room; some = next })
 
 same-length : tie.Need-same-length Inv-loop μ-loop Inv-loop2 μ-loop2
@@ -235,8 +248,8 @@ write-opened-spec =
     (λ c κs. search needs)
     (λ c. omega arith)
     (λ c κs. search needs)
-    (λ c. let at = c .before .before .before .before .before in omega (arith, values-short (sized (headed at)) (at .loop2 .j) (omega (arith, at .loop2 .inv .0))))
-    (λ c. let at = c .before .before .before .before .before in omega (arith, values-short (sized (headed at)) (at .loop2 .j) (omega (arith, at .loop2 .inv .0))))
+    (λ c. omega (arith, place-short (c .before .before .before .before)))
+    (λ c. omega (arith, place-short (c .before .before .before .before)))
     sub-put-value
     sub-put-value-2
     put-value-requires

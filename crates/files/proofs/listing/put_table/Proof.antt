@@ -47,12 +47,14 @@ in-hand : (c : tie.After-wide Inv-loop μ-loop) →
     let litres = c .before in
     let at = litres .before .before .before in
     let a = at .before .before .before .before .before .before .args in
-    getD (entriesIn (a .t2) (a .t3) (a .t4)) (at .loop .i) no-entry ≡ entryOf (getD (a .t2 .blends) (at .loop .i) none) (litres .litres .result) (c .wide .result)
+    getD (entriesIn (a .t2) (a .t3) (a .t4)) (at .loop .i) no-entry ≡
+    entryOf (getD (a .t2 .blends) (at .loop .i) none) (litres .litres .result) (c .wide .result)
 in-hand c =
     let litres = c .before in
     let in-loop = litres .before .before in
     let start = in-loop .before .before .before .before .before .before .before in
-    entries-at (hand start) (in-loop .before .loop .i) (in-loop .loop-test .taken) ∙ ap₂ (entryOf _) (sym (litres .litres .ensures .0)) (sym (c .wide .ensures .0))
+    entries-at (hand start) (in-loop .before .loop .i) (in-loop .loop-test .taken) ∙
+    ap₂ (entryOf _) (sym (litres .litres .ensures .0)) (sym (c .wide .ensures .0))
 
 put-number-line-requires : tie.Need-put-number-line-requires Inv-loop μ-loop
 put-number-line-requires c κs =

@@ -181,8 +181,10 @@ loop-again c =
     let long = length-take-le (a .t1 .count) (a .t1 .blends) (omega (arith, few s, full s .0)) in
     let old-up = proper-facts (a .w) (a .h) (next-old t) (old-proper t (both .0)) .up in
     let sides = s .pre .0 .sides in
-    let same : (xs : List ℕ) (new : ℕ) → keptOr new old xs (next t) ≡ getD xs (l .j) 0 = λ xs new. kept-same old (grown .rising) xs new (next t) (knots t .4) (l .j) (next-old t) _ (omega (arith, both .0, long))
-    (old-turn t (both .0)) (both .1) (omega arith) in (
+    let same : (xs : List ℕ) (new : ℕ) → keptOr new old xs (next t) ≡ getD xs (l .j) 0 =
+    λ xs new.
+    kept-same old (grown .rising) xs new (next t) (knots t .4) (l .j) (next-old t) _ (omega (arith, both .0, long)) (old-turn t (both .0)) (both .1)
+    (omega arith) in (
       omega arith,
       omega (arith, w .3, both .0),
       w .1 ∙ fill t (carried old vs) _ _ (l .inv .2) (sym (getD-take (a .t1 .count) (a .t2) (l .j) 0 (both .0)) ∙ sym (same vs _)),
