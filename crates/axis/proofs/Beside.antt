@@ -1,8 +1,9 @@
 -- Two lists of one length side by side.
 use Prim.Native.Nat.{ℕ, zero, suc, _<_}
 use native.Mathlib.Omega.{arith}
-use mathlib.Core.Path.{_≡_, refl, ap, ap₂, _∙_}
-use mathlib.Core.List.{List, [], _∷_, map, List·Memᴰ, List·Memᴰ·not-nil}
+use mathlib.Core.Path.{_≡_, refl, sym, ap, ap₂, subst, _∙_}
+use mathlib.Core.Logic.{⊎-elim}
+use mathlib.Core.List.{List, [], _∷_, map, List·Memᴰ, List·Memᴰ·cases-cons, List·Memᴰ·not-nil}
 use mathlib.Core.List.List·Memᴰ.{List·Memᴰ·head, List·Memᴰ·tail}
 use lib.ListN.{length, getD}
 use Rattle.axis.specs.Range.{beside}
@@ -20,7 +21,15 @@ module _ {A : Type 0} {B : Type 0} {C : Type 0} (f : A → B → C) where
   beside-at (x ∷ xs) (y ∷ ys) zero c a b p q = refl
   beside-at (x ∷ xs) (y ∷ ys) (suc i) c a b p q = beside-at xs ys i c a b (omega arith) (omega arith)
 
-  -- what is made of two entries tells the second
+  -- each entry is made of two entries
+  beside-mem : (xs : List A) (ys : List B) (c : C) → List·Memᴰ c (beside f xs ys) → (x : A) × (y : B) × List·Memᴰ x xs × List·Memᴰ y ys × (c ≡ f x y)
+  beside-mem [] ys c m = absurd (List·Memᴰ·not-nil m)
+  beside-mem (x ∷ xs) [] c m = absurd (List·Memᴰ·not-nil m)
+  beside-mem (x ∷ xs) (y ∷ ys) c m =
+      ⊎-elim (λ e. (x, y, List·Memᴰ·head refl, List·Memᴰ·head refl, e))
+      (λ k. let r = beside-mem xs ys c k in (r .0, r .1, List·Memᴰ·tail (r .2), List·Memᴰ·tail (r .3), r .4)) (List·Memᴰ·cases-cons m)
+
+  -- and tells the second,
   module _ (second : C → B) (tells : (x : A) (y : B) → second (f x y) ≡ y) where
     pub beside-seconds : (xs : List A) (ys : List B) → length ys ≡ length xs → map second (beside f xs ys) ≡ ys
     beside-seconds [] [] e = refl
@@ -29,12 +38,10 @@ module _ {A : Type 0} {B : Type 0} {C : Type 0} (f : A → B → C) where
     beside-seconds (x ∷ xs) (y ∷ ys) e = ap₂ _∷_ (tells x y) (beside-seconds xs ys (omega arith))
 
     pub beside-second : (xs : List A) (ys : List B) (c : C) → List·Memᴰ c (beside f xs ys) → List·Memᴰ (second c) ys
-    beside-second [] ys c m = absurd (List·Memᴰ·not-nil m)
-    beside-second (x ∷ xs) [] c m = absurd (List·Memᴰ·not-nil m)
-    beside-second (x ∷ xs) (y ∷ ys) c (List·Memᴰ·head e) = List·Memᴰ·head (ap second e ∙ tells x y)
-    beside-second (x ∷ xs) (y ∷ ys) c (List·Memᴰ·tail m) = List·Memᴰ·tail (beside-second xs ys c m)
+    beside-second xs ys c m =
+        let r = beside-mem xs ys c m in subst (λ (y : B). List·Memᴰ y ys) (sym (ap second (r .4) ∙ tells (r .0) (r .1))) (r .3)
 
-  -- and the first
+  -- and the first.
   module _ (first : C → A) (tells : (x : A) (y : B) → first (f x y) ≡ x) where
     pub beside-firsts : (xs : List A) (ys : List B) → length ys ≡ length xs → map first (beside f xs ys) ≡ xs
     beside-firsts [] ys e = refl
@@ -42,7 +49,5 @@ module _ {A : Type 0} {B : Type 0} {C : Type 0} (f : A → B → C) where
     beside-firsts (x ∷ xs) (y ∷ ys) e = ap₂ _∷_ (tells x y) (beside-firsts xs ys (omega arith))
 
     pub beside-first : (xs : List A) (ys : List B) (c : C) → List·Memᴰ c (beside f xs ys) → List·Memᴰ (first c) xs
-    beside-first [] ys c m = absurd (List·Memᴰ·not-nil m)
-    beside-first (x ∷ xs) [] c m = absurd (List·Memᴰ·not-nil m)
-    beside-first (x ∷ xs) (y ∷ ys) c (List·Memᴰ·head e) = List·Memᴰ·head (ap first e ∙ tells x y)
-    beside-first (x ∷ xs) (y ∷ ys) c (List·Memᴰ·tail m) = List·Memᴰ·tail (beside-first xs ys c m)
+    beside-first xs ys c m =
+        let r = beside-mem xs ys c m in subst (λ (x : A). List·Memᴰ x xs) (sym (ap first (r .4) ∙ tells (r .0) (r .1))) (r .2)

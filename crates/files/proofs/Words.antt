@@ -2,7 +2,7 @@
 use Prim.Native.Nat.{ℕ, zero, suc, _+_, _*_, _/_, _%_, _<_}
 use native.Mathlib.Omega.{arith}
 use mathlib.Core.Path.{_≡_, refl, ap, _∙_}
-use mathlib.Core.Bool.{Bool, true, false}
+use mathlib.Core.Bool.{Bool, true, false, cond}
 use mathlib.Core.List.{List, [], _∷_, _++_, map, append-assoc, List·Memᴰ}
 use borrow.Author.Tests.{ltb-true, lt-ltb}
 use lib.Dec.{ltb}
@@ -12,7 +12,7 @@ use Rattle.axis.specs.Range.{each, joined, all}
 use Rattle.axis.proofs.Tests.{and-both, and-of, all-append}
 use Rattle.maps.specs.Plain.{Plain, blends}
 use Rattle.maps.specs.Values.{paired}
-use Rattle.files.specs.File.{word, entry, wordAt, head, splitEntry, TableEntry, entriesOf, placeAndValue, valueEntry, tail, fileWith, fileIn}
+use Rattle.files.specs.File.{word, entry, wordAt, head, splitEntry, TableEntry, entriesOf, placeAndValue, oldEntry, markedEntry, valueEntry, tail, fileWith, fileIn}
 
 little : (n : ℕ) → n < 65536 → wordAt (word n) 0 ≡ n
 little n lt = omega arith
@@ -73,8 +73,11 @@ entry-bytes kind payload =
     (joined-bytes word word-bytes payload)
 
 value-bytes : (old : Bool) (e : TableEntry) → all isByte (valueEntry old e) ≡ true
-value-bytes true e = entry-bytes 3 (placeAndValue (e .term))
-value-bytes false e = entry-bytes 5 (placeAndValue (e .term) ++ e .mark ∷ [])
+value-bytes old e = either-kind _
+  where
+    either-kind : (b : Bool) → all isByte (cond b (oldEntry e) (markedEntry e)) ≡ true
+    either-kind true = entry-bytes 3 (placeAndValue (e .term))
+    either-kind false = entry-bytes 5 (placeAndValue (e .term) ++ e .mark ∷ [])
 
 pub file-bytes : (old : Bool) (P : Plain) → all isByte (fileIn old P) ≡ true
 unfolding fileWith
