@@ -24,7 +24,7 @@ use Rattle.maps.proofs.GoodRecords.{AreMarks, plain-held}
 use Rattle.files.specs.File.{valueSize, splitEntry, TableEntry, entriesOf, valueEntry, tail, fileWith, fileIn, wordAt, splitCount, splitAt, isOld, guessed}
 use Rattle.files.specs.Calls.{readFile}
 use Rattle.files.proofs.Taking.{one-more, no-more, guessed-places, guessed-splits, guessed-values, guessed-marks}
-use Rattle.files.proofs.Words.{word-from, number-read, joined-length, past-entry, each-read}
+use Rattle.files.proofs.Words.{word-from, number-read, split-long, value-long, joined-length, past-entry, each-read}
 use Rattle.axis.proofs.Entries.{agree-same, agree-self}
 use Rattle.mesh.specs.Lines.{layout}
 
@@ -45,13 +45,6 @@ pub record Fits (P : Plain) : Type 0 where
   pub full : length (P .values) ≡ length (blends P)
   pub full-marks : length (P .marks) ≡ length (blends P)
   pub some : 0 < length (blends P)
-
-pub split-long : (s : Split) → length (splitEntry s) ≡ 12
-split-long s = refl
-
-pub value-long : (old : Bool) (e : TableEntry) → length (valueEntry old e) ≡ valueSize old
-value-long true e = refl
-value-long false e = refl
 
 -- the entries of a map's table: as many as its blends, with its values and its marks
 module _ (P : Plain) (full : length (P .values) ≡ length (blends P)) (full-marks : length (P .marks) ≡ length (blends P)) where

@@ -16,9 +16,8 @@ use Rattle.axis.proofs.Beside.{beside-length, beside-at}
 use Rattle.axis.proofs.Members.{entry}
 use Rattle.files.specs.Inner.{WellFormed, entryOf, entriesIn}
 use Rattle.files.specs.File.{valueSize, put, head, splitEntry, TableEntry, valueEntry, tail}
-use Rattle.files.proofs.Words.{joined-length}
+use Rattle.files.proofs.Words.{split-long, value-long, joined-length}
 use Rattle.files.proofs.Putting.{put-then}
-use Rattle.files.proofs.RoundTrip.{split-long, value-long}
 
 -- a table and two arrays with all their places
 pub record InHand (t : Table) (values marks : List ℕ) : Type 0 where

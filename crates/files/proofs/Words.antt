@@ -2,7 +2,7 @@
 use Prim.Native.Nat.{ℕ, zero, suc, _+_, _*_, _/_, _%_, _<_}
 use native.Mathlib.Omega.{arith}
 use mathlib.Core.Path.{_≡_, refl, ap, _∙_}
-use mathlib.Core.Bool.{Bool, true, false, cond}
+use mathlib.Core.Bool.{Bool, true, false}
 use mathlib.Core.List.{List, [], _∷_, _++_, map, append-assoc, List·Memᴰ}
 use borrow.Author.Tests.{ltb-true, lt-ltb}
 use lib.Dec.{ltb}
@@ -12,7 +12,8 @@ use Rattle.axis.specs.Range.{each, joined, all}
 use Rattle.axis.proofs.Tests.{and-both, and-of, all-append}
 use Rattle.maps.specs.Plain.{Plain, blends}
 use Rattle.maps.specs.Values.{paired}
-use Rattle.files.specs.File.{word, entry, wordAt, head, splitEntry, TableEntry, entriesOf, placeAndValue, oldEntry, markedEntry, valueEntry, tail, fileWith, fileIn}
+use Rattle.mesh.specs.declared.Split.{Split}
+use Rattle.files.specs.File.{valueSize, word, entry, wordAt, head, splitEntry, TableEntry, entriesOf, placeAndValue, valueEntry, tail, fileWith, fileIn}
 
 little : (n : ℕ) → n < 65536 → wordAt (word n) 0 ≡ n
 little n lt = omega arith
@@ -27,6 +28,14 @@ word-from bytes at k =
 pub number-read : (bytes : List ℕ) (at : ℕ) (front : List ℕ) → drop at bytes ≡ front → (k n : ℕ) →
     wordAt front k ≡ wordAt (word n) 0 → n < 65536 → wordAt bytes (at + k) ≡ n
 number-read bytes at front e k n q lt = word-from bytes at k ∙ ap (λ (l : List ℕ). wordAt l k) e ∙ q ∙ little n lt
+
+-- The entries of splits have one length, and in a file of one form those of values have.
+pub split-long : (s : Split) → length (splitEntry s) ≡ 12
+split-long s = refl
+
+pub value-long : (old : Bool) (e : TableEntry) → length (valueEntry old e) ≡ valueSize old
+value-long true e = refl
+value-long false e = refl
 
 -- Entries of one length in a row:
 module _ {A : Type 0} (entry : A → List ℕ) (size : ℕ) (long : (x : A) → length (entry x) ≡ size) where
@@ -73,11 +82,8 @@ entry-bytes kind payload =
     (joined-bytes word word-bytes payload)
 
 value-bytes : (old : Bool) (e : TableEntry) → all isByte (valueEntry old e) ≡ true
-value-bytes old e = either-kind _
-  where
-    either-kind : (b : Bool) → all isByte (cond b (oldEntry e) (markedEntry e)) ≡ true
-    either-kind true = entry-bytes 3 (placeAndValue (e .term))
-    either-kind false = entry-bytes 5 (placeAndValue (e .term) ++ e .mark ∷ [])
+value-bytes true e = entry-bytes 3 (placeAndValue (e .term))
+value-bytes false e = entry-bytes 5 (placeAndValue (e .term) ++ e .mark ∷ [])
 
 pub file-bytes : (old : Bool) (P : Plain) → all isByte (fileIn old P) ≡ true
 unfolding fileWith

@@ -13,7 +13,7 @@ use Rattle.maps.specs.Record.{noSplit}
 use Rattle.maps.proofs.Changing.{full, open-map}
 use Rattle.files.specs.File.{valueSize, put, splitEntry, TableEntry, valueEntry}
 use Rattle.files.specs.Inner.{entryOf, entriesIn}
-use Rattle.files.proofs.RoundTrip.{split-long, value-long}
+use Rattle.files.proofs.Words.{split-long, value-long}
 use Rattle.files.proofs.Terms.{InHand, no-entry, entries-length, entries-at, entries-rise, filed-put}
 use Rattle.files.proofs.Putting.{words-fit, Some, some-none, some-length, some-room, some-next, some-done}
 use Rattle.files.proofs.Filing.{Ready, ready, write-short, write-whole}
