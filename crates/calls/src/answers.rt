@@ -202,7 +202,7 @@ fn file(map: Opened, out: &mut [u8], at: &mut usize)
     requires { ⌜ Opens map ⌝ }
 {
     let mut bytes = [0u8; LARGEST_FILE];
-    let r = files::write_opened(map, false, &mut bytes);
+    let r = files::write_opened(map, &mut bytes);
     show::text(b" = ", out, at);
     let n = r.length;
     let mut i = 0;

@@ -15,8 +15,8 @@ use Rattle.maps.specs.declared.Map.{Map}
 use Rattle.maps.specs.Record.{plain, good}
 use Rattle.maps.proofs.Changing.{GoodMap, few, live-table, live-blends, live-count}
 use Rattle.files.specs.declared.Written.{Written}
-use Rattle.files.specs.File.{valueSize, fileWith, fileIn, put}
-use Rattle.files.specs.Calls.{writeNumberIn, writtenIn, afterIn}
+use Rattle.files.specs.File.{valueSize, fileWith, fileIn, fileOf, put}
+use Rattle.files.specs.Calls.{writeNumber, written, after}
 use Rattle.files.specs.Inner.{WellFormed}
 use Rattle.files.proofs.RoundTrip.{file-length}
 use Rattle.files.proofs.Terms.{filed}
@@ -47,22 +47,22 @@ ready {m} {t} g =
     }
 
 -- what `write` answers and leaves
-module _ (old : Bool) (m : Map) (buffer : List ℕ) where
+module _ (m : Map) (buffer : List ℕ) where
   abbrev outcome : ℕ → ℕ → List ℕ → Type 0
-  outcome number long left = (_≡_ {A = Written} (record { number = number; length = long }) (writtenIn old m buffer)) × (left ≡ afterIn old m buffer)
+  outcome number long left = (_≡_ {A = Written} (record { number = number; length = long }) (written m buffer)) × (left ≡ after m buffer)
 
   abbrev file : List ℕ
-  file = fileIn old (plain m)
+  file = fileOf (plain m)
 
   pub write-bad : good m ≡ false → outcome 2 0 buffer
-  unfolding writeNumberIn
+  unfolding writeNumber
   write-bad f = (rw f, rw f)
 
   module _ (t : good m ≡ true) where
     pub write-short : length buffer < length file → outcome 12 0 buffer
-    unfolding writeNumberIn
+    unfolding writeNumber
     write-short lt = let s = lt-ltb (length buffer) (length file) lt in (rw (t, s), rw (t, s))
 
     pub write-whole : length file ≤ length buffer → outcome 0 (length file) (put buffer 0 file)
-    unfolding writeNumberIn
+    unfolding writeNumber
     write-whole le = let s = le-ltb (length buffer) (length file) le in (rw (t, s), rw (t, s, zero-add))

@@ -5,6 +5,7 @@ pub mod Taking
 pub mod RoundTrip
 pub mod Terms
 pub mod Filing
+pub mod Comparing
 pub mod Reading
 pub mod ReadMaps
 pub mod GoodFiles

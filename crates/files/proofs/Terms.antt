@@ -2,7 +2,7 @@
 use Prim.Native.Nat.{ℕ, _+_, _*_, _≤_, _<_}
 use native.Mathlib.Omega.{arith}
 use mathlib.Core.Path.{_≡_, refl, sym, _∙_}
-use mathlib.Core.Bool.{Bool}
+use mathlib.Core.Bool.{Bool, false}
 use mathlib.Core.List.{List, _++_}
 use lib.ListN.{length, getD, take, length-append}
 use lib.Seq.{length-take-le, getD-take}
@@ -15,7 +15,7 @@ use Rattle.maps.specs.Values.{term, paired}
 use Rattle.axis.proofs.Beside.{beside-length, beside-at}
 use Rattle.axis.proofs.Members.{entry}
 use Rattle.files.specs.Inner.{WellFormed, entryOf, entriesIn}
-use Rattle.files.specs.File.{valueSize, put, head, splitEntry, TableEntry, valueEntry, tail}
+use Rattle.files.specs.File.{put, head, splitEntry, TableEntry, markedEntry, valueEntry, tail}
 use Rattle.files.proofs.Words.{split-long, value-long, joined-length}
 use Rattle.files.proofs.Putting.{put-then}
 
@@ -73,28 +73,28 @@ filed old m t =
     joined (valueEntry old) (entriesIn t (m .values) (m .marks)) ++ tail
 
 -- A file, put part by part: its head, the splits, the values and the end.
-module _ (old : Bool) (size : ℕ) (is-size : size ≡ valueSize old) (m : Map) (t : Table) (h : InHand t (m .values) (m .marks))
+module _ (m : Map) (t : Table) (h : InHand t (m .values) (m .marks))
     (used : length (take (m .lines .count) (m .lines .splits)) ≡ m .lines .count) where
   abbrev splits : List ℕ
   splits = joined splitEntry (take (m .lines .count) (m .lines .splits))
 
   abbrev values : List ℕ
-  values = joined (valueEntry old) (entriesIn t (m .values) (m .marks))
+  values = joined markedEntry (entriesIn t (m .values) (m .marks))
 
   splits-long : length splits ≡ 12 * m .lines .count
   splits-long = joined-length splitEntry 12 split-long (take (m .lines .count) (m .lines .splits)) ∙ rw used
 
-  values-long : length values ≡ size * t .count
-  values-long = joined-length (valueEntry old) (valueSize old) (value-long old) (entriesIn t (m .values) (m .marks)) ∙ rw (entries-length h, is-size)
+  values-long : length values ≡ 12 * t .count
+  values-long = joined-length markedEntry 12 (value-long false) (entriesIn t (m .values) (m .marks)) ∙ rw (entries-length h)
 
-  pub filed-put : (before : List ℕ) → 12 + 12 * m .lines .count + size * t .count ≤ length before →
+  pub filed-put : (before : List ℕ) → 12 + 12 * m .lines .count + 12 * t .count ≤ length before →
       {headed drawn valued after : List ℕ} → headed ≡ put before 0 (head (m .lines .w) (m .lines .h)) → drawn ≡ put headed 8 splits →
-      valued ≡ put drawn (8 + 12 * m .lines .count) values → after ≡ put valued (8 + 12 * m .lines .count + size * t .count) tail →
-      after ≡ put before 0 (filed old m t)
+      valued ≡ put drawn (8 + 12 * m .lines .count) values → after ≡ put valued (8 + 12 * m .lines .count + 12 * t .count) tail →
+      after ≡ put before 0 (filed false m t)
   filed-put before room q r s u =
       let first = head (m .lines .w) (m .lines .h) in
       let at = 8 + 12 * m .lines .count in
       let lined = put-then before 0 first splits 8 q r refl (omega arith) in
       let most = put-then before 0 (first ++ splits) values at lined s (rw (length-append, splits-long) (omega arith)) (omega arith) in
-      put-then before 0 (first ++ splits ++ values) tail (at + size * t .count) most u
+      put-then before 0 (first ++ splits ++ values) tail (at + 12 * t .count) most u
       (simp (length-append, splits-long, values-long) (omega arith)) (omega arith)

@@ -1,6 +1,6 @@
 -- Document 01, "Map file" and refusals 11 and 12: each call's whole outcome.
 use Prim.Native.Nat.{ℕ, _+_, _-_}
-use mathlib.Core.Bool.{Bool, false, cond, _&&_, not}
+use mathlib.Core.Bool.{Bool, cond, _&&_, not}
 use mathlib.Core.List.{List, [], _++_}
 use lib.Dec.{leb, ltb, eqb}
 use lib.ListN.{length, take, drop}
@@ -11,7 +11,7 @@ use Rattle.maps.specs.Plain.{freshPlain}
 use Rattle.maps.specs.Record.{recordOf, plain, good}
 use Rattle.maps.specs.Calls.{changed}
 use Rattle.files.specs.declared.Written.{Written}
-use Rattle.files.specs.File.{fileIn, isOld, guessed, wordAt}
+use Rattle.files.specs.File.{fileIn, fileOf, isOld, guessed, wordAt}
 
 -- of two things, the one that stays after a refusal, and the one that an accepted call gives
 abbrev pub ifRefused {ℓ} : {A : Type ℓ} → ℕ → A → A → A
@@ -29,25 +29,15 @@ answered number answer bytes = ifRefused number bytes (answer ++ drop (length an
 abbrev pub counted : ℕ → List ℕ → Written
 counted number answer = record { number = number; length = ifRefused number 0 (length answer) }
 
--- Write: 2 for a record that is not good, 12 where the buffer is shorter than the file. In the form of an old file or, as every call of the library writes,
--- in that of document 02, L5.
-unfoldable pub writeNumberIn : Bool → Map → List ℕ → ℕ
-writeNumberIn old m buffer = cond (not (good m)) 2 (shortOf (length (fileIn old (plain m))) buffer)
-
-abbrev pub writtenIn : Bool → Map → List ℕ → Written
-writtenIn old m buffer = counted (writeNumberIn old m buffer) (fileIn old (plain m))
-
-abbrev pub afterIn : Bool → Map → List ℕ → List ℕ
-afterIn old m buffer = answered (writeNumberIn old m buffer) (fileIn old (plain m)) buffer
-
-abbrev pub writeNumber : Map → List ℕ → ℕ
-writeNumber m buffer = writeNumberIn false m buffer
+-- Write: 2 for a record that is not good, 12 where the buffer is shorter than the file.
+unfoldable pub writeNumber : Map → List ℕ → ℕ
+writeNumber m buffer = cond (not (good m)) 2 (shortOf (length (fileOf (plain m))) buffer)
 
 abbrev pub written : Map → List ℕ → Written
-written m buffer = writtenIn false m buffer
+written m buffer = counted (writeNumber m buffer) (fileOf (plain m))
 
 abbrev pub after : Map → List ℕ → List ℕ
-after m buffer = afterIn false m buffer
+after m buffer = answered (writeNumber m buffer) (fileOf (plain m)) buffer
 
 -- Read: the map whose file, or old file, the bytes are, with 0; else 11 with the fresh 1 by 1 map.
 unfoldable pub readFile : List ℕ → Changed

@@ -1,7 +1,8 @@
 -- What the functions that put and take a file work on. Only contracts of functions that the crate keeps to itself cite this file.
 use Prim.Native.Nat.{ℕ, _+_, _≤_}
 use mathlib.Core.Path.{_≡_}
-use mathlib.Core.Bool.{Bool, cond}
+use mathlib.Core.Bool.{Bool, true, false, cond, _&&_}
+use lib.Dec.{eqb}
 use mathlib.Core.List.{List, [], _∷_, _++_}
 use lib.ListN.{length, take}
 use Rattle.axis.specs.Limits.{mostBlends}
@@ -12,6 +13,12 @@ use Rattle.mesh.specs.Sound.{blendsOf, AllProper}
 use Rattle.maps.specs.Values.{term, paired}
 use Rattle.files.specs.File.{entry, TableEntry, entriesOf, put}
 use Rattle.files.specs.Listing.{numberLine, line}
+
+-- whether bytes begin with others
+abbrev pub begins : List ℕ → List ℕ → Bool
+begins zs [] = true
+begins [] (x ∷ xs) = false
+begins (z ∷ zs) (x ∷ xs) = eqb z x && begins zs xs
 
 -- the entry of a value at an anchor, by its numbers
 abbrev pub valueNumbers : Bool → ℕ → ℕ → ℕ → ℕ → List ℕ

@@ -1,7 +1,9 @@
 // Numbers of 16 bits in bytes, and the walk from record to record.
 ghost use mathlib.Core.Path.{_≡_};
 ghost use Prim.Native.Nat.{_+_, _≤_, _<_};
-ghost use lib.ListN.{length};
+ghost use lib.ListN.{length, drop};
+ghost use Rattle.axis.specs.Range.{joined};
+ghost use Rattle.files.specs.Inner.{begins};
 ghost use Rattle.files.specs.File.{word, wordAt, put, putWords};
 ghost use mathlib.Core.Bool.{cond};
 ghost use Rattle.files.specs.Calls.{whole, payloadNumber, payloadAt};
@@ -18,6 +20,37 @@ pub(crate) fn wide(x: u8) -> usize
     ensures { λ r. ⌜ (r ≡ x) × (r < 256) ⌝ }
 {
     x as usize
+}
+
+// Whether a number stands at a byte place.
+fn has_word(bytes: &[u8], at: usize, n: usize) -> bool
+    requires { ⌜ at + 2 ≤ length (now bytes) ⌝ }
+    ensures { λ r. ⌜ r ≡ begins (drop at (now (bytes .entry))) (word n) ⌝ }
+{
+    if wide(bytes[at]) != n % 256 {
+        return false;
+    }
+    wide(bytes[at + 1]) == n / 256 % 256
+}
+
+// Whether numbers stand in a row from a byte place on.
+pub(crate) fn has_words(bytes: &[u8], at: usize, words: &[usize]) -> bool
+    requires { ⌜ at ≤ length (now bytes) ⌝ }
+    ensures { λ r. ⌜ r ≡ begins (drop at (now (bytes .entry))) (joined word (now (words .entry))) ⌝ }
+{
+    let count = words.len();
+    if (bytes.len() - at) / 2 < count {
+        return false;
+    }
+    let mut i = 0;
+    while i < count {
+        let n = words[i];
+        if !has_word(bytes, at + 2 * i, n) {
+            return false;
+        }
+        i += 1;
+    }
+    true
 }
 
 // Puts a number at a byte place.

@@ -1,15 +1,16 @@
 // Map files: the third of the three layers.
 pub mod bytes;
+mod compare;
 pub mod listing;
 mod put;
 mod take;
 
 use crate::bytes::put_words;
 use crate::bytes::wide;
+use crate::compare::is_file;
 use crate::put::put_split;
 use crate::put::put_value;
 use crate::take::count_splits;
-use crate::take::equal;
 use crate::take::is_old;
 use crate::take::taken;
 use maps::Changed;
@@ -25,7 +26,7 @@ ghost use Rattle.maps.specs.Calls.{changed};
 ghost use Rattle.maps.specs.Opened.{withTable, Opens};
 ghost use mathlib.Core.Bool.{cond};
 ghost use Rattle.files.specs.File.{valueSize};
-ghost use Rattle.files.specs.Calls.{written, after, writtenIn, afterIn, readFile};
+ghost use Rattle.files.specs.Calls.{written, after, readFile};
 
 // The bytes of a record of each kind, its length and kind among them, of a value with its mark and, in an old file, without; of the head and the tail
 // together; and of the largest file.
@@ -37,7 +38,9 @@ pub(crate) const VALUE: usize = 12;
 
 pub(crate) const OLD_VALUE: usize = 10;
 
-pub(crate) const ENDS: usize = HEAD + 4;
+pub(crate) const TAIL: usize = 4;
+
+pub(crate) const ENDS: usize = HEAD + TAIL;
 
 pub const LARGEST_FILE: usize = ENDS + SPLIT * Map::MOST_SPLITS + VALUE * Table::MOST_BLENDS;
 
@@ -58,17 +61,17 @@ pub fn write(map: Map, buffer: &mut [u8]) -> Written
             length: 0,
         };
     }
-    write_opened(opened, false, buffer)
+    write_opened(opened, buffer)
 }
 
-fn litres(x: u16) -> usize
+pub(crate) fn litres(x: u16) -> usize
     ensures { λ r. ⌜ r ≡ x ⌝ }
 {
     x as usize
 }
 
 // The bytes of a value's record in an old file, or in another.
-fn value_size(old: bool) -> usize
+pub(crate) fn value_size(old: bool) -> usize
     ensures { λ r. ⌜ r ≡ valueSize old ⌝ }
 {
     if old {
@@ -77,14 +80,12 @@ fn value_size(old: bool) -> usize
     VALUE
 }
 
-// The rest of `write`, after the record is opened; in the form of an old file only for who compares with one. It takes `o` apart itself: each array that is
-// passed on by value is copied again.
-pub fn write_opened(o: Opened, old: bool, buffer: &mut [u8]) -> Written
+// The rest of `write`, after the record is opened. It takes `o` apart itself: each array that is passed on by value is copied again.
+pub fn write_opened(o: Opened, buffer: &mut [u8]) -> Written
     requires { ⌜ Opens o ⌝ }
-    ensures { λ r. ⌜ (r ≡ writtenIn old (o .map) (now (buffer .entry))) × (now (buffer .exit) ≡ afterIn old (o .map) (now (buffer .entry))) ⌝ }
+    ensures { λ r. ⌜ (r ≡ written (o .map) (now (buffer .entry))) × (now (buffer .exit) ≡ after (o .map) (now (buffer .entry))) ⌝ }
 {
-    let size = value_size(old);
-    let length = ENDS + SPLIT * o.map.lines.count + size * o.table.count;
+    let length = ENDS + SPLIT * o.map.lines.count + VALUE * o.table.count;
     if buffer.len() < length {
         return Written {
             number: 12,
@@ -112,8 +113,7 @@ pub fn write_opened(o: Opened, old: bool, buffer: &mut [u8]) -> Written
         let mark = wide(marks[j]);
         put_value(
             buffer,
-            at + size * j,
-            old,
+            at + VALUE * j,
             blend.across.m - 1,
             blend.up.m - 1,
             value,
@@ -121,7 +121,7 @@ pub fn write_opened(o: Opened, old: bool, buffer: &mut [u8]) -> Written
         );
         j += 1;
     }
-    let end = at + size * table.count;
+    let end = at + VALUE * table.count;
     let last = [2, 4];
     put_words(buffer, end, &last);
     Written {
@@ -152,7 +152,7 @@ pub fn read(bytes: &[u8]) -> Changed
 }
 
 // `read`, with the map opened, so that its record is not replayed again for a call on it. The numbers at a file's places make a
-// map; the bytes are its file where writing it, in the form that their first value has, gives the same bytes.
+// map; the bytes are its file, in the form that their first value has, where they agree with it entry by entry.
 pub fn read_opened(bytes: &[u8]) -> Opened
     ensures { λ r. ⌜ r ≡ withTable (readFile (now (bytes .entry))) ⌝ }
 {
@@ -176,13 +176,7 @@ pub fn read_opened(bytes: &[u8]) -> Opened
     if opened.number != 0 {
         return refused();
     }
-    let mut buffer = [0u8; LARGEST_FILE];
-    let file = write_opened(opened, old, &mut buffer);
-    if file.number != 0 {
-        return refused();
-    }
-    let size = file.length;
-    if !equal(bytes, &buffer[..size]) {
+    if !is_file(bytes, opened, old) {
         return refused();
     }
     opened

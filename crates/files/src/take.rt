@@ -11,10 +11,9 @@ ghost use mathlib.Core.Path.{_≡_};
 ghost use mathlib.Core.List.{[], _∷_, _++_};
 ghost use mathlib.Core.Bool.{cond};
 ghost use Prim.Native.Nat.{_+_, _-_, _*_, _/_, _≤_};
-ghost use lib.Dec.{eqb};
 ghost use lib.ListN.{length, getD, replicate};
 ghost use Rattle.axis.specs.Limits.{mostSplits, mostBlends};
-ghost use Rattle.axis.specs.Range.{each, agree};
+ghost use Rattle.axis.specs.Range.{each};
 ghost use Rattle.maps.specs.Record.{noSplit, recordOf};
 ghost use Rattle.files.specs.File.{headSize, splitSize, valueSize, endsSize, wordAt, splitCount, splitAt, isOld, guessed};
 
@@ -132,22 +131,4 @@ pub(crate) fn taken(bytes: &[u8], count: usize, places: usize, old: bool, size: 
         values: values,
         marks: marks,
     }
-}
-
-// Whether two parts are the same bytes.
-pub(crate) fn equal<'a>(left: &'a [u8], right: &'a [u8]) -> bool
-    ensures { λ r. ⌜ r ≡ agree eqb (now (left .entry)) (now (right .entry)) ⌝ }
-{
-    let length = left.len();
-    if right.len() != length {
-        return false;
-    }
-    let mut i = 0;
-    while i < length {
-        if left[i] != right[i] {
-            return false;
-        }
-        i += 1;
-    }
-    true
 }

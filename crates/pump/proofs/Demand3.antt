@@ -22,7 +22,7 @@ use Rattle.maps.proofs.Reached.{Reached, fresh-reached, step-leads}
 use Rattle.maps.proofs.Rebuilding.{ending-join}
 use Rattle.maps.proofs.Demand3.{reached-demand}
 use Rattle.files.specs.File.{fileOf}
-use Rattle.files.specs.Calls.{ifRefused, writeNumberIn, readFile}
+use Rattle.files.specs.Calls.{ifRefused, writeNumber, readFile}
 use Rattle.files.specs.FromFile.{readPlain}
 use Rattle.files.proofs.RoundTrip.{is-refused}
 use Rattle.files.proofs.Reading.{file-lengths}
@@ -139,7 +139,7 @@ border-from (c ∷ cs) t d l =
 
 -- Demand 3 at the border: from an accepted `pump_fresh`.
 pub border-demand : (w h : ℕ) (start : Buffer) → freshNumber w h (start .bytes) ≡ 0 → (cs : List PumpCall) → BorderDemand w h start cs
-unfolding freshMap newNumber newBytes newUsed writeNumberIn
+unfolding freshMap newNumber newBytes newUsed writeNumber
 border-demand w h start e cs =
     ⊎-elim (λ (y : allowedSide w && allowedSide h ≡ true). accepted y) (λ (f : allowedSide w && allowedSide h ≡ false). absurd (omega (arith, rw f at e)))
     (either (allowedSide w && allowedSide h))

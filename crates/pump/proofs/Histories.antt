@@ -28,7 +28,7 @@ use Rattle.maps.proofs.Reached.{Reached, fresh-reached, step-leads}
 use Rattle.maps.proofs.Following.{step-follows}
 use Rattle.maps.proofs.PairsTold.{Nothing, row-nothing, column-nothing}
 use Rattle.files.specs.File.{fileOf}
-use Rattle.files.specs.Calls.{ifRefused, writeNumberIn, readFile}
+use Rattle.files.specs.Calls.{ifRefused, writeNumber, readFile}
 use Rattle.files.specs.Listing.{textNumber}
 use Rattle.files.proofs.GoodFiles.{plain-reads-back}
 use Rattle.files.proofs.ReadMaps.{read-good}
@@ -65,7 +65,7 @@ module _ (d : Desk) where
   new-shown : (n : ℕ) (Q : Plain) → Reached Q → (r : Changed) → r ≡ changed n (recordOf Q) →
       outcome (says (newNumber 0 r (d .bytes)) [] []) (buffer (newBytes 0 r (d .bytes)) (newUsed 0 r (d .bytes) (length (d .file)))) ≡
       shown (ifRefused n (refuses d n) (puts d Q))
-  unfolding newNumber newBytes newUsed writeNumberIn
+  unfolding newNumber newBytes newUsed writeNumber
   new-shown n Q at r is =
       let g = record-good (at .holds) in
       ⊎-elim (λ (t : leb 1 n ≡ true). rw (is, t, t))

@@ -35,7 +35,7 @@ fn replace(buffer: &mut [u8], used: &mut usize, refused: usize, next: Opened) ->
     if number != 0 {
         return number;
     }
-    let file = write_opened(next, false, buffer);
+    let file = write_opened(next, buffer);
     *used = if_refused(file.number, *used, file.length);
     file.number
 }

@@ -1,20 +1,21 @@
--- `read_opened` meets its contract: no file has the lengths that are refused, and the map that the bytes tell is written again, in their form, and compared.
+-- `read_opened` meets its contract: no file has the lengths that are refused, and the file of the map that the bytes tell, in their form, is compared with them.
 use borrow.Author.Needs.{needs}
 use native.Mathlib.Omega.{arith}
 use borrow.Author.Tests.{not-true, not-false}
 use Prim.Native.Nat.{ℕ, _+_, _*_, _-_, _/_, _≤_, _<_}
-use mathlib.Core.Path.{_≡_, refl, sym, ap, _∙_}
+use mathlib.Core.Path.{_≡_, sym, ap, _∙_}
 use mathlib.Core.Bool.{Bool, true, false}
 use mathlib.Core.List.{List}
 use Rattle.maps.specs.Opened.{withTable}
 use Rattle.maps.proofs.Changing.{same-map, not-good, is-opened, opened-as}
-use lib.ListN.{length, replicate}
-use lib.Seq.{length-take-le}
-use Rattle.files.specs.File.{valueSize, isOld}
-use Rattle.files.specs.Calls.{writtenIn, afterIn}
+use lib.ListN.{length}
+use lib.Dec.{eqb}
+use Rattle.axis.specs.Range.{agree}
+use Rattle.maps.specs.Record.{plain}
+use Rattle.files.specs.File.{valueSize, fileIn, isOld}
 use Rattle.files.proofs.RoundTrip.{is-refused}
 use Rattle.files.proofs.Taking.{count-few}
-use Rattle.files.proofs.Reading.{size-least, Wrote, wrote, file-lengths, not-opened, not-written, not-same, all-same}
+use Rattle.files.proofs.Reading.{size-least, file-lengths, not-opened, not-same, all-same}
 use Rattle.files.proofs.read_opened.Statement.{statement}
 use Rattle.files.proofs.read_opened.Tie as tie
 
@@ -85,63 +86,36 @@ returns-4 c =
     sym (ap withTable (not-opened (given (sized taken)) (taken .taken .result) (taken .taken .ensures)
     (not-good _ (o .«open» .result) (o .«open» .ensures) (c .before .if4 .taken))))
 
-write-opened-requires : tie.Need-write-opened-requires
-write-opened-requires c κs =
-    let else = c .before in
-    let o = else .before .before .«open» in
-    is-opened _ (o .result) (o .ensures) (else .if4 .left)
+is-file-requires : tie.Need-is-file-requires
+is-file-requires c κs = let o = c .before .before .«open» in is-opened _ (o .result) (o .ensures) (c .if4 .left)
 
--- the map that was opened is the one that was taken
-wrote-opened : (c : tie.After-write-opened) →
-    let taken = c .before .before .before .before .before in
-    let m = taken .taken .result in
-    let old = isOld (given (sized taken)) in
-    (c .write-opened .result ≡ writtenIn old m (replicate 13020 0)) × (c .write-opened .last .1 .1 .0 ≡ afterIn old m (replicate 13020 0))
-wrote-opened c =
-    let opened = c .before .before .before .before in
+-- the file that was compared is that of the map that was taken, in the form of the bytes
+compared : (c : tie.After-is-file) →
+    let taken = c .before .before .before .before in
+    let bytes = given (sized taken) in
+    c .is-file .result ≡ agree eqb bytes (fileIn (isOld bytes) (plain (taken .taken .result)))
+compared c =
+    let opened = c .before .before .before in
     let o = opened .«open» in
-    rw (same-map _ (o .result) (o .ensures), sized (opened .before) .before .is-old .ensures) at (c .write-opened .ensures)
+    rw (same-map _ (o .result) (o .ensures), sized (opened .before) .before .is-old .ensures) at (c .is-file .ensures)
 
 returns-5 : tie.Need-returns-5
 returns-5 c =
-    let put = c .before .before .before .before in
-    let taken = put .before .before .before .before .before in
+    let is = c .before .before in
+    let taken = is .before .before .before .before in
     c .refused5 .ensures ∙
-    sym (ap withTable (not-written (given (sized taken)) (taken .taken .result) (taken .taken .ensures) _ (wrote-opened put .0) refl (c .before .if5 .taken)))
-
-filed : (c : tie.Else5) →
-    let put = c .before .before .before in
-    let taken = put .before .before .before .before .before in
-    Wrote (isOld (given (sized taken))) (taken .taken .result) (put .write-opened .result .length) (put .write-opened .last .1 .1 .0)
-filed c =
-    let put = c .before .before .before in
-    let w = wrote-opened put in
-    wrote _ _ _ (w .0) (w .1) (c .if5 .left)
-
-array-share-prefix-buffer : tie.Need-array-share-prefix-buffer
-array-share-prefix-buffer c = filed c .fits
-
-slice-aggregate-equal : tie.Need-slice-aggregate-equal
-slice-aggregate-equal c = sym (length-take-le _ _ (filed (c .before) .fits))
+    sym (ap withTable (not-same (given (sized taken)) (taken .taken .result) (taken .taken .ensures) (sym (compared is) ∙ not-true _ (c .before .if5 .taken))))
 
 returns-6 : tie.Need-returns-6
 returns-6 c =
-    let same = c .before .before in
-    let at = same .before .before in
-    let taken = at .before .before .before .before .before .before .before .before in
-    c .refused6 .ensures ∙
-    sym (ap withTable (not-same (given (sized taken)) (taken .taken .result) (taken .taken .ensures) (filed at)
-    (sym (same .equal .ensures) ∙ not-true _ (c .before .if6 .taken))))
-
-returns-7 : tie.Need-returns-7
-returns-7 c =
-    let same = c .before in
-    let at = same .before .before in
-    let o = at .before .before .before .before .before .before .before in
+    let is = c .before in
+    let o = is .before .before .before in
     let taken = o .before in
-    opened-as _ (o .«open» .result) (o .«open» .ensures) (at .before .before .before .before .before .if4 .left) ∙
-    ap withTable (all-same (given (sized taken)) (taken .taken .result) (taken .taken .ensures) (filed at)
-    (sym (same .equal .ensures) ∙ not-false _ (c .if6 .left)))
+    let number = is .before .if4 .left in
+    let opened = is-opened _ (o .«open» .result) (o .«open» .ensures) number in
+    opened-as _ (o .«open» .result) (o .«open» .ensures) number ∙
+    ap withTable (all-same (given (sized taken)) (taken .taken .result) (taken .taken .ensures)
+    (rw (same-map _ (o .«open» .result) (o .«open» .ensures)) at (opened .is-good)) (sym (compared is) ∙ not-false _ (c .if5 .left)))
 
 pub read-opened-spec : {M : Type 1} → statement M
 read-opened-spec =
@@ -163,13 +137,7 @@ read-opened-spec =
     (λ c κs. search needs)
     (λ c κs. search needs)
     returns-4
-    (λ c. search needs)
-    write-opened-requires
+    is-file-requires
     (λ c κs. search needs)
     returns-5
-    array-share-prefix-buffer
-    slice-aggregate-equal
-    (λ c κs. search needs)
-    (λ c κs. search needs)
-    returns-6
-    returns-7)
+    returns-6)

@@ -8,7 +8,7 @@ use Rattle.files.proofs.write.Tie as tie
 returns : tie.Need-returns
 returns c =
     let o = c .before .before in
-    write-bad _ _ _ (not-good _ (o .«open» .result) (o .«open» .ensures) (c .if1 .taken))
+    write-bad _ _ (not-good _ (o .«open» .result) (o .«open» .ensures) (c .if1 .taken))
 
 write-opened-requires : tie.Need-write-opened-requires
 write-opened-requires c κs = let o = c .before .before .before .«open» in is-opened _ (o .result) (o .ensures) (c .before .if1 .left)
