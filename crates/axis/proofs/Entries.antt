@@ -2,14 +2,14 @@
 use Prim.Native.Nat.{ℕ, suc, _+_, _≤_, _<_}
 use native.Mathlib.Omega.{arith}
 use native.Mathlib.Numerals.{add-one}
-use mathlib.Core.Path.{_≡_, refl, sym, ap, subst, _∙_}
-use mathlib.Core.Bool.{Bool, true, false, _&&_}
+use mathlib.Core.Path.{_≡_, refl, ap, subst, _∙_}
+use mathlib.Core.Bool.{Bool, true, _&&_}
 use mathlib.Core.List.{List, [], _∷_, List·Memᴰ, Memᴰ·append-left, Memᴰ·append-right}
 use mathlib.Core.List.List·Memᴰ.{List·Memᴰ·head}
 use lib.ListN.{length, getD, take, drop, length-take, take-append-drop, drop-of-length-le}
 use lib.Seq.{drop-cons, getD-take, length-take-le}
 use Rattle.axis.specs.Range.{all, agree}
-use Rattle.axis.proofs.Tests.{true-not-false, and-both, and-of, false-of}
+use Rattle.axis.proofs.Tests.{true-not-false, and-both, and-of}
 
 module _ {ℓ} {A : Type ℓ} (xs : List A) (n i : ℕ) where
   pub none-left : n ≤ i → drop i (take n xs) ≡ []
@@ -63,29 +63,3 @@ agree-same test says (x ∷ xs) (y ∷ ys) e =
 pub agree-self {ℓ} : {A : Type ℓ} (test : A → A → Bool) → ((x : A) → test x x ≡ true) → (xs : List A) → agree test xs xs ≡ true
 agree-self test says [] = refl
 agree-self test says (x ∷ xs) = and-of _ _ (says x) (agree-self test says xs)
-
--- two lists of one length compared entry by entry: the first i agree, so the others decide
-module _ {ℓ} {A : Type ℓ} (test : A → A → Bool) (xs ys : List A) where
-  pub record Alike (i : ℕ) : Type ℓ where
-    pub within : i ≤ length xs
-    pub is : agree test xs ys ≡ agree test (drop i xs) (drop i ys)
-
-  pub alike-none : Alike 0
-  alike-none = record { within = omega arith; is = refl }
-
-  module _ (long : length ys ≡ length xs) {i : ℕ} (a : Alike i) where
-    module _ (d : A) (lt : i < length xs) where
-      alike-turn : agree test xs ys ≡ (test (getD xs i d) (getD ys i d) && agree test (drop (suc i) xs) (drop (suc i) ys))
-      alike-turn = a .is ∙ rw (drop-cons xs i d lt, drop-cons ys i d (omega arith))
-
-      pub alike-more : test (getD xs i d) (getD ys i d) ≡ true → Alike (i + 1)
-      alike-more t = record { within = omega arith; is = alike-turn ∙ rw (t, add-one) }
-
-      pub alike-not : test (getD xs i d) (getD ys i d) ≡ false → false ≡ agree test xs ys
-      alike-not f = sym (alike-turn ∙ rw f)
-
-    pub alike-all : length xs ≤ i → true ≡ agree test xs ys
-    alike-all le = sym (a .is ∙ let more : length ys ≤ i = omega arith in rw (drop-of-length-le xs le, drop-of-length-le ys more))
-
-  pub longer-not : (length ys ≡ length xs → ⊥) → false ≡ agree test xs ys
-  longer-not ne = sym (false-of _ (λ t. ne (sym (agree-length test xs ys t))))

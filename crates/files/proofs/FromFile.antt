@@ -9,7 +9,7 @@ use Rattle.maps.specs.declared.Map.{Map}
 use Rattle.maps.specs.Plain.{Plain, freshPlain, blends}
 use Rattle.maps.specs.Values.{term, paired}
 use Rattle.maps.specs.Record.{recordOf, plain}
-use Rattle.maps.specs.Histories.{Call, exact, Outcome, byLibrary, byMachine, outcomes, ending}
+use Rattle.maps.specs.Histories.{Call, exact, Outcome, byLibrary, outcomes, ending}
 use Rattle.maps.specs.Demand.{leftBy, DemandFrom}
 use Rattle.maps.specs.ByMarks.{withoutMarks, butMarks, SameLists}
 use Rattle.axis.proofs.Padding.{copies}

@@ -1,16 +1,14 @@
 -- Bytes that are read: the map that they tell is written again, and compared.
-use Prim.Native.Nat.{ℕ, _+_, _*_, _≤_, _<_}
+use Prim.Native.Nat.{ℕ, _+_, _*_, _≤_}
 use native.Mathlib.Omega.{arith}
-use native.Mathlib.Nat.{zero-add, mul-le-mul-left}
+use native.Mathlib.Nat.{mul-le-mul-left}
 use mathlib.Core.Path.{_≡_, sym, ap, _∙_}
-use mathlib.Core.Logic.{⊎-elim}
 use mathlib.Core.Bool.{Bool, true, false}
-use mathlib.Core.List.{List, _++_}
-use borrow.Author.Tests.{ltb-true, ltb-false, eqb-true}
-use lib.Dec.{eqb, ltb}
-use lib.ListN.{length, take, drop, length-append}
-use lib.Seq.{take-append-seam}
-use Rattle.axis.proofs.Tests.{either, true-not-false}
+use mathlib.Core.List.{List}
+use borrow.Author.Tests.{eqb-true}
+use lib.Dec.{eqb}
+use lib.ListN.{length}
+use Rattle.axis.proofs.Tests.{true-not-false}
 use Rattle.maps.specs.declared.Map.{Map}
 use Rattle.maps.specs.Plain.{Plain, freshPlain, blends}
 use Rattle.maps.specs.Record.{recordOf, plain, good}
@@ -23,7 +21,7 @@ use Rattle.files.specs.File.{valueSize, fileIn, splitCount, isOld, guess
 use Rattle.files.specs.Calls.{readFile}
 use Rattle.axis.specs.Range.{agree}
 use Rattle.axis.proofs.Entries.{agree-same}
-use Rattle.files.proofs.Taking.{count-few, guessed-splits}
+use Rattle.files.proofs.Taking.{guessed-splits}
 use Rattle.files.proofs.RoundTrip.{told, toldFile, told-length, same-bytes, is-read, is-refused}
 
 -- a good record's lines, and how few blends they have
@@ -33,11 +31,6 @@ good-replays P g = layout-replay (P .lines) (good-passes (recordOf P) g .accepte
 
 pub good-short : (P : Plain) → good (recordOf P) ≡ true → length (blends P) ≤ 1024
 good-short P g = replays-short (good-replays P g)
-
--- how many bytes values take
-pub values-most : (old : Bool) (n : ℕ) → n ≤ 1024 → valueSize old * n ≤ 12288
-values-most true n le = omega arith
-values-most false n le = omega arith
 
 pub size-least : (old : Bool) → 10 ≤ valueSize old
 size-least true = omega arith

@@ -13,7 +13,7 @@ use Rattle.axis.specs.declared.Triple.{Triple}
 use Rattle.axis.specs.Range.{joined}
 use Rattle.axis.specs.Triple.{Rises}
 use Rattle.mesh.specs.declared.Table.{Table}
-use Rattle.mesh.specs.Sound.{none, Proper}
+use Rattle.mesh.specs.Sound.{Proper}
 use Rattle.axis.proofs.Tests.{either}
 use Rattle.files.specs.File.{TableEntry}
 use Rattle.files.specs.Inner.{entriesIn, textFrom, Puts}

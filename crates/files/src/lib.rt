@@ -24,7 +24,6 @@ ghost use Rattle.maps.specs.Plain.{freshPlain};
 ghost use Rattle.maps.specs.Record.{recordOf};
 ghost use Rattle.maps.specs.Calls.{changed};
 ghost use Rattle.maps.specs.Opened.{withTable, Opens};
-ghost use mathlib.Core.Bool.{cond};
 ghost use Rattle.files.specs.File.{valueSize};
 ghost use Rattle.files.specs.Calls.{written, after, readFile};
 

@@ -17,7 +17,7 @@ use Rattle.maps.specs.Values.{placeOf, drawn}
 use Rattle.maps.specs.Record.{recordOf, Held, plain, good}
 use Rattle.maps.specs.Calls.{setPlain, placeOn}
 use Rattle.maps.specs.Sameness.{samePlain, sameness}
-use Rattle.maps.specs.Histories.{Call, set, exact, lengthened, place, reads, weighs, alongRow, alongColumn, sameAs, placed, Outcome, outcome, firstDrawn, byLibrary, byMachine, outcomes, ending}
+use Rattle.maps.specs.Histories.{Call, set, exact, lengthened, place, reads, weighs, alongRow, alongColumn, sameAs, placed, Outcome, outcome, firstDrawn, byMachine, outcomes, ending}
 use Rattle.maps.specs.Demand.{recorded}
 use Rattle.maps.specs.ByMarks.{withoutMarks, unmarked, butMarks, SameLists, ByMarks}
 use Rattle.maps.proofs.GoodRecords.{good-facts}

@@ -34,7 +34,7 @@ fn with_other_marks(random: &mut Random, map: &Map) -> Vec<u8> {
 fn answer(call: &Call, outcome: &Outcome) -> (Vec<u8>, Vec<u16>) {
     let out = outcome.out();
     match call {
-        Call::Place(_) if outcome.number == 0 => (out[..14].to_vec(), vec![u16::from_ne_bytes([out[14], out[15]])]),
+        Call::Place(_) if outcome.number == 0 => (out[..14].to_vec(), vec![u16::from_le_bytes([out[14], out[15]])]),
         Call::Table if outcome.number == 0 => {
             let text = std::str::from_utf8(&out[..outcome.numbers[0]]).unwrap();
             let (first, blends) = text.split_once('\n').unwrap();

@@ -7,7 +7,6 @@ use mathlib.Core.Path.{_≡_, sym, _∙_}
 use lib.ListN.{length, length-append}
 use mir.Syntax.{w8, w16}
 use Rattle.axis.specs.Range.{joined}
-use Rattle.mesh.specs.Sound.{none}
 use Rattle.mesh.proofs.BlendTables.{table-full}
 use Rattle.files.specs.Inner.{entriesIn, textFrom}
 use Rattle.files.specs.Listing.{numberLine, line}
