@@ -22,6 +22,12 @@ pub(crate) fn wide(x: u8) -> usize
     x as usize
 }
 
+pub(crate) fn litres(x: u16) -> usize
+    ensures { λ r. ⌜ (r ≡ x) × (r < 65536) ⌝ }
+{
+    x as usize
+}
+
 // Whether a number stands at a byte place.
 fn has_word(bytes: &[u8], at: usize, n: usize) -> bool
     requires { ⌜ at + 2 ≤ length (now bytes) ⌝ }

@@ -5,6 +5,7 @@ pub mod listing;
 mod put;
 mod take;
 
+use crate::bytes::litres;
 use crate::bytes::put_words;
 use crate::bytes::wide;
 use crate::compare::is_file;
@@ -61,12 +62,6 @@ pub fn write(map: Map, buffer: &mut [u8]) -> Written
         };
     }
     write_opened(opened, buffer)
-}
-
-pub(crate) fn litres(x: u16) -> usize
-    ensures { λ r. ⌜ r ≡ x ⌝ }
-{
-    x as usize
 }
 
 // The bytes of a value's record in an old file, or in another.

@@ -1,5 +1,6 @@
 // The table of a map file as text: what the table program prints.
 use crate::Written;
+use crate::bytes::litres;
 use crate::bytes::wide;
 use crate::read_opened;
 use axis::Triple;
@@ -113,12 +114,6 @@ fn put_line(out: &mut [u8], at: usize, blend: Blend, value: usize, mark: usize) 
     let second = put_knots(out, at, across);
     let third = put_knots(out, second, up);
     put_value_line(out, third, value, mark)
-}
-
-fn litres(x: u16) -> usize
-    ensures { λ r. ⌜ (r ≡ x) × (r < 65536) ⌝ }
-{
-    x as usize
 }
 
 // Puts the number of a table's blends, then a line for each.

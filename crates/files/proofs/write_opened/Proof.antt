@@ -149,7 +149,7 @@ loop2-again c =
     let inv = in-loop .before .loop2 .inv in
     let row = inv .1 in
     let same = entries-at (hand (start (headed (in-loop .before)))) _ (in-loop .loop2-test .taken) ∙
-    ap₂ (entryOf _) (sym (litres .litres .ensures)) (sym (wide .wide .ensures .0)) in
+    ap₂ (entryOf _) (sym (litres .litres .ensures .0)) (sym (wide .wide .ensures .0)) in
     let next = some-next markedEntry 12 _ _ _ long (row .room) (row .some) no-entry _ (omega (arith, row .counted)) same (put .put-value .ensures) in
     (inv .0, record { counted = row .counted; room = row .room; some = next })
 

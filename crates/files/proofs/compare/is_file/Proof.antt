@@ -184,7 +184,7 @@ turn2 c =
     let at = in-loop .before in
     let s = start (headed (at .before)) in
     row-next (valueEntry (s .args .old)) _ (at .loop2 .j) tail no-entry (omega (arith, entries-length (hand s), in-loop .loop2-test .taken))
-    (entries-at (hand s) _ (in-loop .loop2-test .taken) ∙ ap₂ (entryOf _) (sym (litres .litres .ensures)) (sym (c .wide .ensures .0)))
+    (entries-at (hand s) _ (in-loop .loop2-test .taken) ∙ ap₂ (entryOf _) (sym (litres .litres .ensures .0)) (sym (c .wide .ensures .0)))
 
 returns-3 : tie.Need-returns-3 Inv-loop μ-loop Inv-loop2 μ-loop2
 returns-3 c =
