@@ -14,7 +14,7 @@ use Rattle.mesh.specs.Blends as Blends
 use Rattle.mesh.specs.Sound.{overSquare}
 use Rattle.mesh.specs.Sound as Sound
 use Rattle.maps.specs.Plain.{Plain, freshPlain, blends}
-use Rattle.maps.specs.Values.{readingAt, carried, keptMark, drawn}
+use Rattle.maps.specs.Values.{sumAt, readingAt, carried, keptMark, drawn}
 use Rattle.mesh.specs.Splits.{liveOf, withLine, given, exactNumber}
 use Rattle.mesh.specs.Lengthening.{containing, candidate, chosen}
 use Rattle.maps.specs.Calls.{freshMap, setPlain}
@@ -84,16 +84,16 @@ starred =
     on 8 8
     (row (exact (upright 4 0 3)) 6 4 ∷ row (exact (upright 0 0 8)) 3 4 ∷ row (exact (upright 8 0 8)) 3 4 ∷ row (exact (upright 4 0 8)) 0 6 ∷
     row (exact (upright 4 0 8)) 5 6 ∷ []) ∷
-    -- readings are rounded down
-    on 3 1 (row (set 3 0 10) 0 4 ∷ row (set 3 1 10) 0 4 ∷ row (reads 1 0) 0 3 ∷ row (reads 2 1) 0 6 ∷ []) ∷
+    -- readings, with L6 to the nearest
+    on 3 1 (row (set 3 0 10) 0 4 ∷ row (set 3 1 10) 0 4 ∷ row (reads 1 0) 0 3 ∷ row (reads 2 1) 0 7 ∷ []) ∷
     on 4 1
-    (row (set 4 0 6) 0 4 ∷ row (set 4 1 6) 0 4 ∷ row (reads 2 0) 0 3 ∷ row (exact (upright 1 0 1)) 0 6 ∷ row (reads 2 0) 0 2 ∷ []) ∷
+    (row (set 4 0 6) 0 4 ∷ row (set 4 1 6) 0 4 ∷ row (reads 2 0) 0 3 ∷ row (exact (upright 1 0 1)) 0 6 ∷ row (reads 2 0) 0 3 ∷ []) ∷
     []
 
 beside : List Case
 beside =
-    -- a new anchor takes the old map's reading there
-    on 4 1 (row (set 4 0 6) 0 4 ∷ row (exact (upright 1 0 1)) 0 6 ∷ row (reads 1 0) 0 1 ∷ row (reads 4 0) 0 6 ∷ []) ∷
+    -- a new anchor takes the old map's reading there, one and a half rounded
+    on 4 1 (row (set 4 0 6) 0 4 ∷ row (exact (upright 1 0 1)) 0 6 ∷ row (reads 1 0) 0 2 ∷ row (reads 4 0) 0 6 ∷ []) ∷
     -- points and anchors outside; far sides
     on 8 8 (row (reads 8 8) 0 0 ∷ row (reads 9 0) 10 0 ∷ row (set 1 0 7) 9 4 ∷ row (set 8 8 65535) 0 4 ∷ row (reads 8 8) 0 65535 ∷ []) ∷
     -- lines that share one step; lines that touch are one line; a line grows to the left
@@ -106,10 +106,10 @@ beside =
     on 4 3
     (row (set 0 0 40) 0 4 ∷ row (set 4 0 16) 0 4 ∷ row (set 0 3 55) 0 4 ∷ row (set 4 3 19) 0 4 ∷ row (exact (upright 2 0 3)) 0 6 ∷ row (exact (level 1 0 2)) 0 7 ∷
     row (reads 0 1) 0 45 ∷ row (reads 1 2) 0 42 ∷ row (reads 3 2) 0 26 ∷ []) ∷
-    -- L2: readings 0, 3, 6, 10 along a row of 3 by 1, and 5 to 10 up the last column; then a hill, 0, 5, 10, 5, 0, which crosses 5 once up and once down, below 5
+    -- L2: readings 0, 3, 7, 10 along a row of 3 by 1, and 5 to 10 up the last column; then a hill, 0, 5, 10, 5, 0, which crosses 5 once up and once down, below 5
     -- only at the ends; rows and columns outside, wanted flows out of range, no pair
     on 3 1
-    (row (set 3 0 5) 0 4 ∷ row (set 3 1 10) 0 4 ∷ reached (alongRow 1 6) 1 1 ∷ reached (alongRow 1 7) 1 2 ∷ reached (alongColumn 3 6) 1 0 ∷ reached (alongRow 0 1) 1 0 ∷
+    (row (set 3 0 5) 0 4 ∷ row (set 3 1 10) 0 4 ∷ reached (alongRow 1 7) 1 1 ∷ reached (alongRow 1 8) 1 2 ∷ reached (alongColumn 3 6) 1 0 ∷ reached (alongRow 0 1) 1 0 ∷
     row (alongRow 2 6) 10 0 ∷ row (alongColumn 4 0) 10 0 ∷ row (alongRow 1 11) 13 0 ∷ row (alongRow 0 0) 13 0 ∷ row (alongColumn 3 65536) 13 0 ∷ []) ∷
     on 4 1
     (row (exact (upright 2 0 1)) 0 6 ∷ row (set 2 0 10) 0 6 ∷ reached (alongRow 0 5) 2 0 ∷ reached (alongRow 0 6) 2 1 ∷ reached (alongColumn 2 10) 1 0 ∷
@@ -120,13 +120,29 @@ beside =
     row (set 2 0 7) 9 6 ∷ row (set 1 1 3) 0 6 ∷ marked (0 ∷ 0 ∷ 0 ∷ 1 ∷ 1 ∷ 0 ∷ []) ∷ []) ∷
     []
 
+-- Document 02, L6: to the nearest, halves up.
+rounding : List Case
+rounding =
+    -- 31 parts of 64 are just below a half, 32 are a half; and no reading is above 65,535
+    on 8 8
+    (row (set 8 8 31) 0 4 ∷ row (reads 1 1) 0 0 ∷ row (set 8 8 32) 0 4 ∷ row (reads 1 1) 0 1 ∷ row (set 0 0 65535) 0 4 ∷ row (set 8 0 65535) 0 4 ∷
+    row (set 0 8 65535) 0 4 ∷ row (set 8 8 65534) 0 4 ∷ row (reads 1 1) 0 65535 ∷ []) ∷
+    -- a split moves a reading up by one, from a third to a half, and down by one, from a half to a third
+    on 3 1 (row (set 3 0 1) 0 4 ∷ row (reads 1 0) 0 0 ∷ row (exact (upright 2 0 1)) 0 6 ∷ row (reads 1 0) 0 1 ∷ []) ∷
+    on 4 1 (row (set 4 0 1) 0 4 ∷ row (reads 2 0) 0 1 ∷ row (exact (upright 1 0 1)) 0 6 ∷ row (reads 2 0) 0 0 ∷ []) ∷
+    []
+
 all-starred : AllRight starred
-unfolding AllRight starred beside Right last shownBy freshMap setPlain drawn given exactNumber containing candidate chosen readingAt carried keptMark freshPlain Triple.half Triple.hat Lines.inRange Lines.draws Lines.freshMesh Lines.mesh Lines.onLine Lines.shares Lines.ended Blends.halve Nearest.below Nearest.above Nearest.nearest Blends.isCut Blends.leaves Blends.leavesOf Blends.once Blends.inTableOrder Blends.refine Blends.live Sound.fourEverywhere Sound.noneNested Sound.sound
+unfolding AllRight starred beside Right last shownBy freshMap setPlain drawn given exactNumber containing candidate chosen sumAt readingAt carried keptMark freshPlain Triple.half Triple.hat Lines.inRange Lines.draws Lines.freshMesh Lines.mesh Lines.onLine Lines.shares Lines.ended Blends.halve Nearest.below Nearest.above Nearest.nearest Blends.isCut Blends.leaves Blends.leavesOf Blends.once Blends.inTableOrder Blends.refine Blends.live Sound.fourEverywhere Sound.noneNested Sound.sound
 all-starred = (refl, (refl, (refl, (refl, (refl, (refl, (refl, (refl, refl, (refl, refl, (refl, refl, (refl, refl, (refl, (refl, refl, (refl, refl, (refl, refl, tt)))))))), (refl, (refl, refl, (refl, refl, (refl, refl, (refl, refl, tt)))), (refl, (refl, refl, (refl, refl, (refl, refl, (refl, refl, (refl, refl, tt))))), (refl, (refl, refl, (refl, refl, (refl, refl, (refl, refl, tt)))), (refl, (refl, refl, (refl, refl, (refl, refl, (refl, refl, (refl, refl, tt))))), tt)))))))))))
 
 all-beside : AllRight beside
-unfolding AllRight starred beside Right last shownBy freshMap setPlain drawn given exactNumber containing candidate chosen readingAt carried keptMark freshPlain Triple.half Triple.hat Lines.inRange Lines.draws Lines.freshMesh Lines.mesh Lines.onLine Lines.shares Lines.ended Blends.halve Nearest.below Nearest.above Nearest.nearest Blends.isCut Blends.leaves Blends.leavesOf Blends.once Blends.inTableOrder Blends.refine Blends.live Sound.fourEverywhere Sound.noneNested Sound.sound
+unfolding AllRight starred beside Right last shownBy freshMap setPlain drawn given exactNumber containing candidate chosen sumAt readingAt carried keptMark freshPlain Triple.half Triple.hat Lines.inRange Lines.draws Lines.freshMesh Lines.mesh Lines.onLine Lines.shares Lines.ended Blends.halve Nearest.below Nearest.above Nearest.nearest Blends.isCut Blends.leaves Blends.leavesOf Blends.once Blends.inTableOrder Blends.refine Blends.live Sound.fourEverywhere Sound.noneNested Sound.sound
 all-beside = (refl, (refl, refl, (refl, refl, (refl, refl, (refl, refl, tt)))), (refl, (refl, refl, (refl, refl, (refl, refl, (refl, refl, (refl, refl, tt))))), (refl, (refl, refl, (refl, refl, (refl, refl, (refl, refl, (refl, refl, (refl, refl, tt)))))), (refl, (refl, refl, (refl, refl, tt)), (refl, (refl, refl, (refl, refl, (refl, refl, (refl, refl, (refl, refl, (refl, refl, (refl, refl, (refl, refl, (refl, refl, tt))))))))), (refl, (refl, refl, (refl, refl, (refl, (refl, (refl, (refl, (refl, refl, (refl, refl, (refl, refl, (refl, refl, (refl, refl, tt))))))))))), (refl, (refl, refl, (refl, refl, (refl, (refl, (refl, (refl, refl, tt)))))), (refl, (refl, (refl, refl, (refl, (refl, refl, (refl, (refl, refl, (refl, refl, (refl, tt)))))))), tt))))))))
+
+all-rounding : AllRight rounding
+unfolding AllRight rounding Right last shownBy freshMap setPlain drawn given exactNumber containing candidate chosen sumAt readingAt carried keptMark freshPlain Triple.half Triple.hat Lines.inRange Lines.draws Lines.freshMesh Lines.mesh Lines.onLine Lines.shares Lines.ended Blends.halve Nearest.below Nearest.above Nearest.nearest Blends.isCut Blends.leaves Blends.leavesOf Blends.once Blends.inTableOrder Blends.refine Blends.live Sound.fourEverywhere Sound.noneNested Sound.sound
+all-rounding = (refl, (refl, refl, (refl, refl, (refl, refl, (refl, refl, (refl, refl, (refl, refl, (refl, refl, (refl, refl, (refl, refl, tt))))))))), (refl, (refl, refl, (refl, refl, (refl, refl, (refl, refl, tt)))), (refl, (refl, refl, (refl, refl, (refl, refl, (refl, refl, tt)))), tt)))
 
 -- that pump's flow at the last of these points
 straight-flow : flow (pos 40) (negsuc 5) (pos 5) (negsuc 0) (pos 3) (pos 2) ≡ pos 26

@@ -13,7 +13,7 @@ use Rattle.axis.specs.Fraction.{Fraction, Equal, plus, times, whole, total}
 use Rattle.axis.specs.Range.{all}
 use Rattle.axis.proofs.Tests.{either, and-both, all-at, cond-true, cond-false}
 use Rattle.axis.proofs.Scale.{total-positive}
-use Rattle.axis.proofs.Sums.{multiple-equal, plus-equal, plus-nothing, rounds-same}
+use Rattle.axis.proofs.Sums.{multiple-equal, plus-equal, plus-nothing}
 use Rattle.axis.proofs.Gaps.{End}
 use Rattle.mesh.specs.declared.Blend.{Blend}
 use Rattle.mesh.specs.declared.Table.{Table}
@@ -24,8 +24,10 @@ use Rattle.mesh.proofs.BlendTables.{proper-most}
 use Rattle.maps.specs.declared.values.Entry.{Entry}
 use Rattle.maps.specs.declared.values.Four.{Four}
 use Rattle.maps.specs.declared.values.Sum.{Sum}
-use Rattle.maps.specs.Values.{paired, rounded, weightAt}
+use Rattle.maps.specs.Rounding.{rounded}
+use Rattle.maps.specs.Values.{paired, weightAt}
 use Rattle.maps.specs.Inner.{entriesOver, entries, portion, fractionOf, SumOf}
+use Rattle.maps.proofs.Rounding.{rounded-same}
 use Rattle.maps.proofs.ExactSums.{value-positive}
 use Rattle.maps.proofs.OverSquare.{weight-shares, weight-outside, denominator-positive, entry-in}
 
@@ -83,7 +85,7 @@ module _ (x y u v : ℕ) (e : End x u) (f : End y v) (values : List ℕ) where
   unfolding weightAt
   sum-over w h hw hh bs vs ok long same =
       let most = proper-most w h bs hw hh ok in
-      rounds-same _ _ (value-positive w h bs vs (all-at (proper w h) bs ok) u v 1 (omega arith))
+      rounded-same _ _ (value-positive w h bs vs (all-at (proper w h) bs ok) u v 1 (omega arith))
       (total-positive _ (entriesOver (overSquare x y) bs 0)
       (λ a m. denominator-positive (a .blend) (proper-facts 128 128 (a .blend) (all-at (proper 128 128) bs most (a .blend) (entry-in (overSquare x y) bs 0 a m .1))) x y))
       (value-over bs vs 0 most long (λ k lt. same k lt ∙ ap (λ (j : ℕ). getD values j 0) (omega arith)))

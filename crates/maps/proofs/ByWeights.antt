@@ -23,7 +23,8 @@ use Rattle.maps.specs.declared.Placed.{Placed}
 use Rattle.maps.specs.declared.Weight.{Weight}
 use Rattle.maps.specs.declared.values.Entry.{Entry}
 use Rattle.maps.specs.Plain.{Plain, blends}
-use Rattle.maps.specs.Values.{rounded, readingAt, weightAt}
+use Rattle.maps.specs.Rounding.{rounded}
+use Rattle.maps.specs.Values.{sumAt, readingAt, weightAt}
 use Rattle.maps.specs.Record.{recordOf, Full, plain, good}
 use Rattle.maps.specs.Calls.{shape, tablePlace, weights, weightOver}
 use Rattle.maps.specs.ByWeights.{products, ByWeights}
@@ -95,7 +96,7 @@ module _ {P : Plain} (holds : Holds P) (u v : ℕ) (uw : u ≤ P .lines .w) (vh 
 
   summed : readingAt (blends P) (P .values) u v ≡
       rounded (total (parts (corner w u + 1) (corner h v + 1) (u + 1) (v + 1) (P .values) found))
-  unfolding readingAt
+  unfolding readingAt sumAt
   summed =
       let s = replays-sides (holds .taken) in
       sum-over (corner w u + 1) (corner h v + 1) (u + 1) (v + 1) (corner-end w u (corner w u) (s .0) uw refl) (corner-end h v (corner h v) (s .2) vh refl)

@@ -1,7 +1,7 @@
--- Exact readings: sums of values times weights, multiplied out to whole numbers, and what they round down to.
-use Prim.Native.Nat.{ℕ, zero, suc, _+_, _*_, _/_, _≤_, _<_}
+-- Exact readings: sums of values times weights, multiplied out to whole numbers.
+use Prim.Native.Nat.{ℕ, zero, suc, _+_, _*_, _≤_, _<_}
 use native.Mathlib.Omega.{arith}
-use native.Mathlib.Nat.{mul-comm, mul-pos, mul-div-mul-right, div-mul-le-self, lt-div-mul-add, le-div-iff-mul-le, div-lt-iff-lt-mul, mul-le-mul-right, le-of-mul-le-mul-left}
+use native.Mathlib.Nat.{mul-pos, mul-le-mul-right}
 use mathlib.Core.Path.{_≡_, refl, sym, ap, subst, _∙_}
 use mathlib.Core.Bool.{true}
 use mathlib.Core.Logic.{⊎-elim}
@@ -22,13 +22,9 @@ use Rattle.mesh.proofs.Cuts.{proper-rises}
 use Rattle.mesh.proofs.Live.{AllProper}
 use Rattle.mesh.proofs.Weights.{scaledWeight, scaled-weight, scaled-value, weight-den, Covered, terms-reproduced}
 use Rattle.mesh.proofs.SoundMaps.{live-proper, live-distinct, weights-add-up, one-at-anchor, none-at-anchor}
-use Rattle.maps.specs.Values.{paired, rounded, readingAt}
+use Rattle.maps.specs.Values.{paired, sumAt, readingAt}
 use Rattle.axis.proofs.Members.{entry}
-
--- a fraction rounds down to what its multiple, divided again, does
-pub scaled-rounded : (S : ℕ) (x : Fraction) (n : ℕ) → 0 < S → 0 < x .den → Scaled S x n → rounded x ≡ n / S
-scaled-rounded S x n s-pos d-pos e =
-    sym (mul-div-mul-right (x .num) (x .den) s-pos) ∙ rw (← e, mul-comm (x .den) S) (mul-div-mul-right n S d-pos)
+use Rattle.maps.proofs.Rounding.{nearest, rounded-same}
 
 -- sums over blends with their values, each value times some measure of its blend
 module _ (g : Blend → ℕ) where
@@ -72,37 +68,6 @@ module _ (g : Blend → ℕ) where
   paired-map f [] = refl
   paired-map f (B ∷ bs) = ap (λ (n : ℕ). f B * g B + n) (paired-map f bs)
 
--- what is at least G, and by less than the scale more, rounds down to as much as G does or to one more
-pub rounds-between : (S F G : ℕ) → 0 < S → G ≤ F → F < G + S → (G / S ≤ F / S) × (F / S ≤ G / S + 1)
-rounds-between S F G pos low high =
-    let down = div-mul-le-self G S in
-    let up : G < G / S * S + S = lt-div-mul-add {a = G} pos in
-    let less : F / S < G / S + 2 = div-lt-iff-lt-mul pos .1 (omega arith) in
-    (le-div-iff-mul-le pos .1 (omega arith), omega arith)
-
--- A sum of f times g, and the same with each f rounded down to whole scales, S at a time.
-module _ (S : ℕ) (pos : 0 < S) {A : Type 0} (f g : A → ℕ) where
-  abbrev pub roundedSum : List A → ℕ
-  roundedSum xs = sum (λ (x : A). f x / S * g x) xs
-
-  sum-down : (xs : List A) → S * roundedSum xs ≤ sum (λ (x : A). f x * g x) xs
-  sum-down [] = omega arith
-  sum-down (x ∷ xs) = omega (arith, mul-le-mul-right (g x) (div-mul-le-self (f x) S), sum-down xs)
-
-  sum-up : (xs : List A) → sum (λ (x : A). f x * g x) xs + sum g xs ≤ S * (roundedSum xs + sum g xs)
-  sum-up [] = omega arith
-  sum-up (x ∷ xs) =
-      let step : f x + 1 ≤ f x / S * S + S = omega (arith, lt-div-mul-add {a = f x} pos) in
-      omega (arith, mul-le-mul-right (g x) step, sum-up xs)
-
-  -- where the g add up to one, the mean F of the f is at least that of the f rounded down, and less than one above it
-  pub means-between : (xs : List A) (F : ℕ) → sum g xs ≡ S → S * F ≡ sum (λ (x : A). f x * g x) xs →
-      (roundedSum xs / S ≤ F / S) × (F / S ≤ roundedSum xs / S + 1)
-  means-between xs F one mean =
-      let low : roundedSum xs ≤ F = le-of-mul-le-mul-left (omega (arith, sum-down xs)) pos in
-      let high : F + 1 ≤ roundedSum xs + S = le-of-mul-le-mul-left (omega (arith, sum-up xs, ap (λ (n : ℕ). S * n) one)) pos in
-      rounds-between S F (roundedSum xs) pos low (omega arith)
-
 -- the blends of the terms are those of the table
 pub paired-of : (bs : List Blend) (vs : List ℕ) (t : Term) → List·Memᴰ t (paired bs vs) → List·Memᴰ (t .of) bs
 paired-of (B ∷ bs) (v ∷ vs) t m =
@@ -139,13 +104,14 @@ module _ (w h : ℕ) where
   unfolding scale part
   part-scaled B ok p q = scaled-weight K w h (omega arith) (omega arith) B ok p q 1
 
-  -- "exact, then rounded down"
-  pub reading-rounds : (bs : List Blend) (vs : List ℕ) → AllProper w h bs → (u v : ℕ) → readingAt bs vs u v ≡ exact bs vs (u + 1) (v + 1) / scale
-  unfolding readingAt scale part
+  -- "exact, then rounded"
+  pub reading-rounds : (bs : List Blend) (vs : List ℕ) → AllProper w h bs → (u v : ℕ) →
+      readingAt bs vs u v ≡ nearest scale (exact bs vs (u + 1) (v + 1))
+  unfolding readingAt sumAt scale part
   reading-rounds bs vs ok u v =
-      scaled-rounded scale (value (paired bs vs) (u + 1) (v + 1) 1) (exact bs vs (u + 1) (v + 1)) scale-positive
-      (value-positive w h bs vs ok (u + 1) (v + 1) 1 (omega arith))
-      (scaled-value K w h (omega arith) (omega arith) (paired bs vs) (λ t m. ok (t .of) (paired-of bs vs t m)) (u + 1) (v + 1) 1)
+      rounded-same (value (paired bs vs) (u + 1) (v + 1) 1) (record { num = exact bs vs (u + 1) (v + 1); den = scale })
+      (value-positive w h bs vs ok (u + 1) (v + 1) 1 (omega arith)) scale-positive
+      (sym (scaled-value K w h (omega arith) (omega arith) (paired bs vs) (λ t m. ok (t .of) (paired-of bs vs t m)) (u + 1) (v + 1) 1))
 
   -- The live blends of a sound map:
   module _ (hw : 1 ≤ w) (hh : 1 ≤ h) (M : Mesh) (s : sound w h (live w h M) ≡ true) where

@@ -26,10 +26,10 @@ use Rattle.maps.proofs.Readings.{drawn-reading, drawn-anchor}
 use Rattle.maps.proofs.Reached.{Reached, drawn-leads}
 use Rattle.maps.proofs.Answers.{place-listed, answers-listed, anchor-shown, anchor-in, point-answers, outside-answers}
 
--- readings of the same number, the second no higher and at most one lower
+-- readings of the same number, at most one apart
 record Near (r q : Reading) : Type 0 where
   number : q .number ≡ r .number
-  high : q .litres ≤ r .litres
+  high : q .litres ≤ r .litres + 1
   low : r .litres ≤ q .litres + 1
 
 module _ (P : Plain) (at : Reached P) (s : Split) (accepted : exactNumber (P .lines) s ≡ 0) where
@@ -79,6 +79,6 @@ module _ (P : Plain) (at : Reached P) (s : Split) (accepted : exactNumber (P .li
             let k = anchor-kept B m in
             rw (place-listed P (at .holds) i lt) (B .across .m - 1, B .up .m - 1, a .0, a .1, k .0, k .1);
         numbers = λ u v. readings-near u v .number;
-        not-raised = λ u v. readings-near u v .high;
+        raised = λ u v. readings-near u v .high;
         lowered = λ u v. readings-near u v .low;
       }

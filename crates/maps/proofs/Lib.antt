@@ -7,6 +7,7 @@ pub mod ByEnds
 pub mod ByLines
 pub mod ByMarks
 pub mod Demand3
+pub mod Rounding
 pub mod ExactSums
 pub mod Following
 pub mod Gentle

@@ -1,8 +1,7 @@
 -- Document 01, "Values, readings, splits": readings at anchors, how large readings are, and what a split and a set value do to them.
-use Prim.Native.Nat.{ℕ, suc, _+_, _-_, _*_, _/_, _≤_, _<_}
+use Prim.Native.Nat.{ℕ, suc, _+_, _-_, _*_, _≤_, _<_}
 use native.Mathlib.Omega.{arith}
 use native.Mathlib.Numerals.{add-one}
-use native.Mathlib.Nat.{mul-div-cancel, div-le-of-le-mul}
 use mathlib.Core.Path.{_≡_, sym, ap, ap₂, _∙_}
 use mathlib.Core.Logic.{⊎-elim}
 use mathlib.Core.Bool.{true, false}
@@ -30,7 +29,8 @@ use Rattle.maps.specs.Plain.{Plain, blends}
 use Rattle.maps.specs.Values.{readingAt, placeOf, carried, drawn}
 use Rattle.mesh.specs.Splits.{withLine, liveOf}
 use Rattle.maps.specs.Calls.{setPlain}
-use Rattle.maps.proofs.ExactSums.{paired-single, paired-most, paired-map, means-between, scale, scale-positive, part, exact, reading-rounds, part-own, part-other, parts-one, exact-reproduced}
+use Rattle.maps.proofs.Rounding.{nearest, nearest-whole, nearest-most, means-near}
+use Rattle.maps.proofs.ExactSums.{paired-single, paired-most, paired-map, scale, scale-positive, part, exact, reading-rounds, part-own, part-other, parts-one, exact-reproduced}
 
 -- the place of an anchor in a table, blend by blend
 module _ (B : Blend) (bs : List Blend) (m n : ℕ) where
@@ -66,7 +66,7 @@ module _ (P : Plain) (valued : Valued P) where
   -- a reading at the anchor of a proper blend, on its knots
   reading-on-knots : (B : Blend) → proper (P .lines .w) (P .lines .h) B ≡ true →
       readingAt (blends P) (P .values) (B .across .m - 1) (B .up .m - 1) ≡
-      exact (P .lines .w) (P .lines .h) (blends P) (P .values) (B .across .m) (B .up .m) / scale (P .lines .w) (P .lines .h)
+      nearest (scale (P .lines .w) (P .lines .h)) (exact (P .lines .w) (P .lines .h) (blends P) (P .values) (B .across .m) (B .up .m))
   reading-on-knots B ok =
       let p = proper-facts (P .lines .w) (P .lines .h) B ok in
       let a = p .across in
@@ -90,12 +90,12 @@ module _ (P : Plain) (valued : Valued P) where
             (λ C mC. part-other w h (valued .wide .0) (valued .tall .0) (meshOf (P .lines)) (valued .is-sound) B C m mC),
         part-own w h (valued .wide .0) (valued .tall .0) (meshOf (P .lines)) (valued .is-sound) B m,
       )
-      (mul-div-cancel (getD (P .values) i 0) (scale-positive w h))
+      (nearest-whole (scale w h) (scale-positive w h) (getD (P .values) i 0))
 
   -- "Old anchors keep their values; each new one takes the old map's reading there": either way it is the reading there.
   pub carried-reading : (B : Blend) →
       carried (blends P) (P .values) B ≡ readingAt (blends P) (P .values) (B .across .m - 1) (B .up .m - 1)
-  unfolding carried
+  unfolding carried readingAt
   carried-reading B =
       let i = placeOf (blends P) (B .across .m) (B .up .m) in
       ⊎-elim
@@ -113,7 +113,7 @@ module _ (P : Plain) (valued : Valued P) where
       let one = parts-one w h (valued .wide .0) (valued .tall .0) (meshOf (P .lines)) (valued .is-sound) u v u-in v-in in
       let most = paired-most (part w h (u + 1) (v + 1)) 65535 (blends P) (P .values) (λ x m. omega (arith, valued .small x m)) in
       rw (reading-rounds w h (blends P) (P .values) blends-proper u v)
-      (div-le-of-le-mul (scale w h) (omega (arith, most, ap (λ (n : ℕ). 65535 * n) one)))
+      (nearest-most (scale w h) (scale-positive w h) _ 65535 (omega (arith, most, ap (λ (n : ℕ). 65535 * n) one)))
 
 -- A split that leaves a sound map:
 module _ (P : Plain) (valued : Valued P) (s : Split) (still : sound (P .lines .w) (P .lines .h) (liveOf (withLine (P .lines) s)) ≡ true) where
@@ -155,9 +155,9 @@ module _ (P : Plain) (valued : Valued P) (s : Split) (still : sound (P .lines .w
         omega (arith, r .2, carried-reading P valued (r .0), most);
   }
 
-  -- a reading just after the split is never above the one just before, and at most one below;
+  -- a reading just after the split is at most one away from the one just before, up or down;
   pub drawn-reading : (u v : ℕ) → u ≤ P .lines .w → v ≤ P .lines .h →
-      (readingAt (blends (drawn P s)) (drawn P s .values) u v ≤ readingAt (blends P) (P .values) u v) ×
+      (readingAt (blends (drawn P s)) (drawn P s .values) u v ≤ readingAt (blends P) (P .values) u v + 1) ×
       (readingAt (blends P) (P .values) u v ≤ readingAt (blends (drawn P s)) (drawn P s .values) u v + 1)
   unfolding drawn
   drawn-reading u v u-in v-in =
@@ -166,11 +166,11 @@ module _ (P : Plain) (valued : Valued P) (s : Split) (still : sound (P .lines .w
       let L = liveOf (withLine (P .lines) s) in
       let old = exact w h (blends P) (P .values) in
       let g = part w h (u + 1) (v + 1) in
-      let values : exact w h L (drawn P s .values) (u + 1) (v + 1) ≡ sum (λ (C : Blend). old (C .across .m) (C .up .m) / scale w h * g C) L =
+      let values : exact w h L (drawn P s .values) (u + 1) (v + 1) ≡ sum (λ (C : Blend). nearest (scale w h) (old (C .across .m) (C .up .m)) * g C) L =
       paired-map g (carried (blends P) (P .values)) L ∙
       sum-same _ _ L (λ C m. ap (λ (n : ℕ). n * g C) (carried-reading P valued C ∙ reading-on-knots P valued C (new-proper C m))) in
       rw (reading-rounds w h L (drawn P s .values) new-proper u v, reading-rounds w h (blends P) (P .values) (blends-proper P valued) u v, values)
-      (means-between (scale w h) (scale-positive w h) (λ (C : Blend). old (C .across .m) (C .up .m)) g L (old (u + 1) (v + 1))
+      (means-near (scale w h) (scale-positive w h) (λ (C : Blend). old (C .across .m) (C .up .m)) g L (old (u + 1) (v + 1))
       (parts-one w h (valued .wide .0) (valued .tall .0) (meshOf (withLine (P .lines) s)) still u v u-in v-in)
       (exact-reproduced w h (valued .wide .0) (valued .tall .0) (meshOf (withLine (P .lines) s)) still (blends P) (P .values) old-covered (u + 1) (v + 1)))
 

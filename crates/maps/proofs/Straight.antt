@@ -1,7 +1,7 @@
 -- Document 02, L1: where the values are a straight flow at the anchors, the map reads it everywhere.
-use Prim.Native.Nat.{ℕ, suc, _+_, _-_, _*_, _/_, _≤_, _<_}
+use Prim.Native.Nat.{ℕ, suc, _+_, _-_, _*_, _≤_, _<_}
 use native.Mathlib.Omega.{arith}
-use native.Mathlib.Nat.{mul-div-cancel, le-of-mul-le-mul-right}
+use native.Mathlib.Nat.{le-of-mul-le-mul-right}
 use mathlib.Core.Path.{_≡_, refl, ap, subst, _∙_}
 use mathlib.Core.Logic.{_↔_}
 use mathlib.Core.List.{List, [], _∷_, map}
@@ -20,13 +20,14 @@ use Rattle.mesh.proofs.SoundMaps.{live-straight}
 use Rattle.maps.specs.declared.Map.{Map}
 use Rattle.maps.specs.declared.Placed.{Placed}
 use Rattle.maps.specs.Plain.{Plain, blends}
-use Rattle.maps.specs.Values.{paired, readingAt, drawn}
+use Rattle.maps.specs.Values.{paired, sumAt, readingAt, drawn}
 use Rattle.maps.specs.Record.{recordOf}
 use Rattle.maps.specs.Calls.{tablePlace}
 use Rattle.maps.specs.Straight.{flow, ValuesStraight, tableValues, ReadsStraight}
 use Rattle.maps.proofs.Integers.{Difference, as-whole, is-whole, apart}
 use Rattle.maps.proofs.Integers as Integers
 use Rattle.maps.proofs.Answers.{place-listed, answers-listed, anchor-shown, anchor-in, point-answers}
+use Rattle.maps.proofs.Rounding.{nearest, nearest-whole}
 use Rattle.maps.proofs.ExactSums.{value-positive}
 use Rattle.mesh.proofs.Passing.{exact-says}
 use Rattle.maps.proofs.Readings.{blends-proper, drawn-value}
@@ -99,12 +100,12 @@ module _ (x : Blend → Fraction) (g k : Blend → ℕ) where
           v * n * D + a * (1 * d) + (g * n * E + b * (1 * d)) ≡ k * n * F + c * (1 * d)
       added v g k n d a b c D E F e f f′ h = rw (f, f′) (omega (arith, ap (λ (i : ℕ). i * (n * E)) e, ap (λ (i : ℕ). i * d) h))
 
--- a fraction that is a whole number rounds down to it
-quotient : (s n f g : ℕ) → 0 < n → s * (1 * 1) + g * n ≡ f * n → s / n + g ≡ f
+-- a fraction that is a whole number is rounded to it
+quotient : (s n f g : ℕ) → 0 < n → s * (1 * 1) + g * n ≡ f * n → nearest n s + g ≡ f
 quotient s n f g positive e =
     let le : g ≤ f = le-of-mul-le-mul-right (omega (arith, e)) positive in
     let is : s ≡ (f - g) * n = rest (f - g) (omega arith) in
-    rw is (omega (arith, mul-div-cancel (f - g) positive))
+    rw is (omega (arith, nearest-whole n positive (f - g)))
   where
     rest : (r : ℕ) → r + g ≡ f → s ≡ r * n
     rest r q = omega (arith, e, ap (λ (i : ℕ). i * n) q)
@@ -143,7 +144,7 @@ module _ (P : Plain) (at : Reached P) (A B C D : ℤ) (given : ValuesStraight (r
 
   -- at a whole point, rounded
   reading-flows : (u v : ℕ) → u ≤ P .lines .w → v ≤ P .lines .h → pos (readingAt (blends P) (P .values) u v) ≡ flow A B C D (pos u) (pos v)
-  unfolding readingAt
+  unfolding readingAt sumAt
   reading-flows u v uw vh =
       flow-whole A B C D _ u v .1
       (quotient _ _ _ _ (sum-positive u v 1 (omega arith) (omega arith) (omega arith)) (sum-flows u v 1 (omega arith) (omega arith) (omega arith)))

@@ -1,12 +1,11 @@
--- Document 01, "Values, readings, splits": "The reading at a whole point is the sum of value times weight, exact, then rounded down", by the answers of
--- the calls.
+-- Document 01, "Values, readings, splits": "The reading at a whole point is the sum of value times weight, exact, then rounded", by the answers of the calls.
 use Prim.Native.Nat.{ℕ, _*_}
 use mathlib.Core.Path.{_≡_}
 use mathlib.Core.List.{List, [], _∷_, map, List·Memᴰ}
 use Rattle.axis.specs.Fraction.{Fraction, total}
 use Rattle.maps.specs.declared.Map.{Map}
 use Rattle.maps.specs.declared.Weight.{Weight}
-use Rattle.maps.specs.Values.{rounded}
+use Rattle.maps.specs.Rounding.{rounded}
 use Rattle.maps.specs.Calls.{tablePlace, reading, weights}
 
 -- values times weights, one by one

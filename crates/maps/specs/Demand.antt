@@ -76,13 +76,13 @@ AddUp w h bs =
     let sum = total (map (λ (B : Blend). weightThere B p q d) bs) in (sum .num ≡ sum .den) × (0 < sum .den)
 
 -- "A reading is the answer of the reading call, on the map just before the split and just after it; an old anchor is one of the map just
--- before." At an old anchor the answer stays; at no whole point is a reading raised, or lowered by more than one.
+-- before." At an old anchor the answer stays; document 02, L6: "a reading at any other whole point moves by at most one, up or down".
 pub record Gentle (before after : Map) : Type 0 where
   pub anchors : (i : ℕ) → tablePlace before i .number ≡ 0 →
       (u : ℕ) × (v : ℕ) × (tablePlace before i .blend .m ≡ pos u) × (tablePlace before i .blend .n ≡ pos v) ×
       (reading before u v .number ≡ 0) × (reading after u v ≡ reading before u v)
   pub numbers : (u v : ℕ) → reading after u v .number ≡ reading before u v .number
-  pub not-raised : (u v : ℕ) → reading after u v .litres ≤ reading before u v .litres
+  pub raised : (u v : ℕ) → reading after u v .litres ≤ reading before u v .litres + 1
   pub lowered : (u v : ℕ) → reading before u v .litres ≤ reading after u v .litres + 1
 
 pub data IsSplit : Call → Type 0 where
@@ -132,8 +132,8 @@ pub record DemandFrom (P : Plain) (cs : List Call) : Type 0 where
   pub four-in : (x y : ℕ) → x < P .lines .w → y < P .lines .h → FourIn blends x y
   -- 3. At every point of the domain with fractional coordinates, edges included, the blends that the table calls give add up to exactly one.
   pub add-up : AddUp (P .lines .w) (P .lines .h) blends
-  -- 4. Every accepted split in the list, wherever it stands, leaves the reading call's answer at every old anchor alone, raises none at a whole
-  -- point and lowers none by more than one: the map just before it against the map just after.
+  -- 4. Every accepted split in the list, wherever it stands, leaves the reading call's answer at every old anchor alone and moves none at another whole
+  -- point by more than one, up or down: the map just before it against the map just after.
   pub gentle : (earlier : List Call) (c : Call) (later : List Call) → cs ≡ earlier ++ c ∷ later → IsSplit c →
       let m = leftBy P earlier in byLibrary m c .answer ≡ number 0 → Gentle m (byLibrary m c .next)
   -- 5. Any two lists on equal sides whose lines cover the same points end with the same blends: "Two histories' lines cover the same points when

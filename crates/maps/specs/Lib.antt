@@ -1,4 +1,5 @@
 pub mod Plain
+pub mod Rounding
 pub mod Values
 pub mod Record
 pub mod Calls

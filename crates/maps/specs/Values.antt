@@ -1,5 +1,5 @@
 -- Document 01, "Values, readings, splits": readings and weights, in whole numbers.
-use Prim.Native.Nat.{ℕ, _+_, _-_, _*_, _/_}
+use Prim.Native.Nat.{ℕ, _+_, _-_, _*_}
 use mathlib.Core.Bool.{Bool, cond, _&&_}
 use mathlib.Core.List.{List, [], _∷_, map}
 use lib.Dec.{leb, ltb}
@@ -14,6 +14,7 @@ use Rattle.mesh.specs.Sound.{overSquare}
 use Rattle.mesh.specs.Splits.{withLine, liveOf}
 use Rattle.mesh.specs.Weight.{Term, value}
 use Rattle.maps.specs.Plain.{Plain, blends}
+use Rattle.maps.specs.Rounding.{rounded}
 
 -- each blend with its value: the map as a sum of multiples of its blends
 abbrev pub term : Blend → ℕ → Term
@@ -22,13 +23,13 @@ term B v = record { multiple = v; of = B }
 abbrev pub paired : List Blend → List ℕ → List Term
 paired bs vs = beside term bs vs
 
--- "rounded down"
-abbrev pub rounded : Fraction → ℕ
-rounded x = x .num / x .den
+-- "The reading at a whole point is the sum of value times weight, exact,"
+unfoldable pub sumAt : List Blend → List ℕ → ℕ → ℕ → Fraction
+sumAt bs vs u v = value (paired bs vs) (u + 1) (v + 1) 1
 
--- "The reading at a whole point is the sum of value times weight, exact, then rounded down."
+-- "then rounded", by document 02, L6, to the nearest
 unfoldable pub readingAt : List Blend → List ℕ → ℕ → ℕ → ℕ
-readingAt bs vs u v = rounded (value (paired bs vs) (u + 1) (v + 1) 1)
+readingAt bs vs u v = rounded (sumAt bs vs u v)
 
 -- "A point lies outside the domain."
 abbrev pub inDomain : Plain → ℕ → ℕ → Bool

@@ -21,7 +21,8 @@ ghost use Rattle.axis.specs.Fraction.{plus, total};
 ghost use Rattle.mesh.specs.Blends.{anchored};
 ghost use Rattle.mesh.specs.Sound.{proper, overSquare, blendsOf};
 ghost use Rattle.axis.specs.Gap.{corner};
-ghost use Rattle.maps.specs.Values.{rounded, placeOf, readingAt};
+ghost use Rattle.maps.specs.Rounding.{rounded};
+ghost use Rattle.maps.specs.Values.{placeOf, readingAt};
 ghost use Rattle.maps.specs.Calls.{shape, weightOver};
 ghost use Rattle.maps.specs.Inner.{AtPoint, entries, entriesOver, AllListed, weightOfBlend, Light, portion, fractionOf, SumOf};
 
@@ -184,7 +185,7 @@ pub(crate) fn four_over(table: Table, near: usize, x: usize, y: usize) -> Four
 }
 
 // The reading at knots (u, v), a corner of the unit square whose low corner is at knots (x, y), by the four blends over that square and their values: the
-// weights times the values, rounded down. They are added from the last to the first, as the sum over a list is.
+// weights times the values, rounded. They are added from the last to the first, as the sum over a list is.
 pub(crate) fn reading_over(
     four: Four,
     first: u16,
@@ -209,7 +210,7 @@ pub(crate) fn reading_over(
     let two = added(one, four.third.blend, third, x, y, u, v);
     let three = added(two, four.second.blend, second, x, y, u, v);
     let sum = added(three, four.first.blend, first, x, y, u, v);
-    sum.whole + sum.top / sum.bottom
+    sum.whole + (2 * sum.top + sum.bottom) / (2 * sum.bottom)
 }
 
 // The reading at the whole point (u, v).

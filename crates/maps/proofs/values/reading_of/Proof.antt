@@ -4,7 +4,7 @@ use native.Mathlib.Omega.{arith}
 use mathlib.Core.Path.{_≡_, _∙_}
 use lib.ListN.{length}
 use Rattle.mesh.proofs.BlendTables.{table-full}
-use Rattle.maps.specs.Values.{readingAt}
+use Rattle.maps.specs.Values.{sumAt, readingAt}
 use Rattle.maps.specs.Inner.{AllListed}
 use Rattle.maps.proofs.OverSquare.{all-listed}
 use Rattle.maps.proofs.Adding.{table-over}
@@ -24,7 +24,7 @@ listed c =
     all-listed (s .args .w) (s .args .h) (p .4) (p .6) (s .args .table) (p .0) (p .1) _ _ (c .four-over .result) (c .four-over .ensures)
 
 returns : tie.Need-returns
-unfolding readingAt
+unfolding readingAt sumAt
 returns c =
     let f = c .before in
     let s = f .before .before .before in

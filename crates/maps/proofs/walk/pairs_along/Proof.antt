@@ -15,7 +15,7 @@ use Rattle.mesh.specs.Sound.{overSquare, blendsOf}
 use Rattle.mesh.proofs.BlendTables.{table-full}
 use Rattle.maps.specs.declared.Pairs.{Pairs}
 use Rattle.maps.specs.declared.values.Four.{Four}
-use Rattle.maps.specs.Values.{readingAt}
+use Rattle.maps.specs.Values.{sumAt, readingAt}
 use Rattle.maps.specs.Pairs.{countedPairs}
 use Rattle.maps.specs.Inner.{AtPoint, entries, entriesOver, AllListed, withPair}
 use Rattle.maps.proofs.OldTable.{count-most, old-table, old-point}
@@ -115,7 +115,7 @@ noted-requires c κs =
     omega (arith, l .loop .inv .few, i .loop-test .taken, k .along .ensures, side-most (s .args .row) _ _ (t .sides .1) (t .sides .3))
 
 loop-again : tie.Need-loop-again Inv-loop μ-loop
-unfolding readingAt
+unfolding readingAt sumAt
 loop-again c =
     let r = c .before in
     let f = r .before in
