@@ -1,4 +1,4 @@
--- Sums of fractions: equal ones in place of others, and rounding down.
+-- Sums of fractions: equal ones in place of others, and whole parts.
 use Prim.Native.Nat.{ℕ, _*_, _/_, _<_}
 use native.Mathlib.Omega.{arith}
 use native.Mathlib.Nat.{mul-div-mul-right}
@@ -21,8 +21,8 @@ plus-equal x x′ y y′ e f =
 pub plus-nothing : (x y y′ : Fraction) → x .num ≡ 0 → Equal y y′ → Equal (plus x y) y′
 plus-nothing x y y′ z e = omega (arith, ap (λ (a : ℕ). a * (y .den * y′ .den)) z, ap (λ (a : ℕ). a * x .den) e)
 
--- equal fractions round down to the same number
-pub rounds-same : (x y : Fraction) → 0 < x .den → 0 < y .den → Equal x y → x .num / x .den ≡ y .num / y .den
-rounds-same x y px py e =
+-- equal fractions have the same whole part
+pub quotient-same : (x y : Fraction) → 0 < x .den → 0 < y .den → Equal x y → x .num / x .den ≡ y .num / y .den
+quotient-same x y px py e =
     let c : x .den * y .den ≡ y .den * x .den = omega arith in
     sym (mul-div-mul-right (x .num) (x .den) py) ∙ rw (e, c) (mul-div-mul-right (y .num) (y .den) px)

@@ -118,16 +118,11 @@ beside =
     on 4 1
     (marked (0 ∷ 0 ∷ 0 ∷ 0 ∷ []) ∷ row (set 4 0 0) 0 4 ∷ marked (0 ∷ 0 ∷ 1 ∷ 0 ∷ []) ∷ row (exact (upright 1 0 1)) 0 6 ∷ marked (0 ∷ 0 ∷ 0 ∷ 0 ∷ 1 ∷ 0 ∷ []) ∷
     row (set 2 0 7) 9 6 ∷ row (set 1 1 3) 0 6 ∷ marked (0 ∷ 0 ∷ 0 ∷ 1 ∷ 1 ∷ 0 ∷ []) ∷ []) ∷
-    []
-
--- Document 02, L6: to the nearest, halves up.
-rounding : List Case
-rounding =
-    -- 31 parts of 64 are just below a half, 32 are a half; and no reading is above 65,535
-    on 8 8
-    (row (set 8 8 31) 0 4 ∷ row (reads 1 1) 0 0 ∷ row (set 8 8 32) 0 4 ∷ row (reads 1 1) 0 1 ∷ row (set 0 0 65535) 0 4 ∷ row (set 8 0 65535) 0 4 ∷
-    row (set 0 8 65535) 0 4 ∷ row (set 8 8 65534) 0 4 ∷ row (reads 1 1) 0 65535 ∷ []) ∷
-    -- a split moves a reading up by one, from a third to a half, and down by one, from a half to a third
+    -- L6: 7 parts of 16 are just below a half, 8 are a half; and no reading is above 65,535
+    on 4 4
+    (row (set 4 4 7) 0 4 ∷ row (reads 1 1) 0 0 ∷ row (set 4 4 8) 0 4 ∷ row (reads 1 1) 0 1 ∷ row (set 0 0 65535) 0 4 ∷ row (set 4 0 65535) 0 4 ∷
+    row (set 0 4 65535) 0 4 ∷ row (set 4 4 65534) 0 4 ∷ row (reads 1 1) 0 65535 ∷ []) ∷
+    -- L6, sharp bounds: a split moves a reading up by one, from a third to a half, and down by one, from a half to a third
     on 3 1 (row (set 3 0 1) 0 4 ∷ row (reads 1 0) 0 0 ∷ row (exact (upright 2 0 1)) 0 6 ∷ row (reads 1 0) 0 1 ∷ []) ∷
     on 4 1 (row (set 4 0 1) 0 4 ∷ row (reads 2 0) 0 1 ∷ row (exact (upright 1 0 1)) 0 6 ∷ row (reads 2 0) 0 0 ∷ []) ∷
     []
@@ -138,11 +133,7 @@ all-starred = (refl, (refl, (refl, (refl, (refl, (refl, (refl, (refl, refl, (ref
 
 all-beside : AllRight beside
 unfolding AllRight starred beside Right last shownBy freshMap setPlain drawn given exactNumber containing candidate chosen sumAt readingAt carried keptMark freshPlain Triple.half Triple.hat Lines.inRange Lines.draws Lines.freshMesh Lines.mesh Lines.onLine Lines.shares Lines.ended Blends.halve Nearest.below Nearest.above Nearest.nearest Blends.isCut Blends.leaves Blends.leavesOf Blends.once Blends.inTableOrder Blends.refine Blends.live Sound.fourEverywhere Sound.noneNested Sound.sound
-all-beside = (refl, (refl, refl, (refl, refl, (refl, refl, (refl, refl, tt)))), (refl, (refl, refl, (refl, refl, (refl, refl, (refl, refl, (refl, refl, tt))))), (refl, (refl, refl, (refl, refl, (refl, refl, (refl, refl, (refl, refl, (refl, refl, tt)))))), (refl, (refl, refl, (refl, refl, tt)), (refl, (refl, refl, (refl, refl, (refl, refl, (refl, refl, (refl, refl, (refl, refl, (refl, refl, (refl, refl, (refl, refl, tt))))))))), (refl, (refl, refl, (refl, refl, (refl, (refl, (refl, (refl, (refl, refl, (refl, refl, (refl, refl, (refl, refl, (refl, refl, tt))))))))))), (refl, (refl, refl, (refl, refl, (refl, (refl, (refl, (refl, refl, tt)))))), (refl, (refl, (refl, refl, (refl, (refl, refl, (refl, (refl, refl, (refl, refl, (refl, tt)))))))), tt))))))))
-
-all-rounding : AllRight rounding
-unfolding AllRight rounding Right last shownBy freshMap setPlain drawn given exactNumber containing candidate chosen sumAt readingAt carried keptMark freshPlain Triple.half Triple.hat Lines.inRange Lines.draws Lines.freshMesh Lines.mesh Lines.onLine Lines.shares Lines.ended Blends.halve Nearest.below Nearest.above Nearest.nearest Blends.isCut Blends.leaves Blends.leavesOf Blends.once Blends.inTableOrder Blends.refine Blends.live Sound.fourEverywhere Sound.noneNested Sound.sound
-all-rounding = (refl, (refl, refl, (refl, refl, (refl, refl, (refl, refl, (refl, refl, (refl, refl, (refl, refl, (refl, refl, (refl, refl, tt))))))))), (refl, (refl, refl, (refl, refl, (refl, refl, (refl, refl, tt)))), (refl, (refl, refl, (refl, refl, (refl, refl, (refl, refl, tt)))), tt)))
+all-beside = (refl, (refl, refl, (refl, refl, (refl, refl, (refl, refl, tt)))), (refl, (refl, refl, (refl, refl, (refl, refl, (refl, refl, (refl, refl, tt))))), (refl, (refl, refl, (refl, refl, (refl, refl, (refl, refl, (refl, refl, (refl, refl, tt)))))), (refl, (refl, refl, (refl, refl, tt)), (refl, (refl, refl, (refl, refl, (refl, refl, (refl, refl, (refl, refl, (refl, refl, (refl, refl, (refl, refl, (refl, refl, tt))))))))), (refl, (refl, refl, (refl, refl, (refl, (refl, (refl, (refl, (refl, refl, (refl, refl, (refl, refl, (refl, refl, (refl, refl, tt))))))))))), (refl, (refl, refl, (refl, refl, (refl, (refl, (refl, (refl, refl, tt)))))), (refl, (refl, (refl, refl, (refl, (refl, refl, (refl, (refl, refl, (refl, refl, (refl, tt)))))))), (refl, (refl, refl, (refl, refl, (refl, refl, (refl, refl, (refl, refl, (refl, refl, (refl, refl, (refl, refl, (refl, refl, tt))))))))), (refl, (refl, refl, (refl, refl, (refl, refl, (refl, refl, tt)))), (refl, (refl, refl, (refl, refl, (refl, refl, (refl, refl, tt)))), tt)))))))))))
 
 -- that pump's flow at the last of these points
 straight-flow : flow (pos 40) (negsuc 5) (pos 5) (negsuc 0) (pos 3) (pos 2) ≡ pos 26

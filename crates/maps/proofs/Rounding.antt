@@ -6,7 +6,7 @@ use mathlib.Core.Path.{_≡_, ap}
 use mathlib.Core.List.{List, [], _∷_}
 use Rattle.axis.specs.Fraction.{Fraction, Equal}
 use Rattle.axis.proofs.Runs.{if-below, Compared, less, equal, more, compare}
-use Rattle.axis.proofs.Sums.{rounds-same}
+use Rattle.axis.proofs.Sums.{quotient-same}
 use Rattle.axis.proofs.Scale.{sum}
 use Rattle.maps.specs.Rounding.{rounded, away, Nearest}
 
@@ -72,7 +72,7 @@ module _ (S : ℕ) (pos : 0 < S) {A : Type 0} (f g : A → ℕ) where
 -- equal fractions are rounded to the same number
 pub rounded-same : (x y : Fraction) → 0 < x .den → 0 < y .den → Equal x y → rounded x ≡ rounded y
 rounded-same x y px py e =
-    rounds-same (record { num = 2 * x .num + x .den; den = 2 * x .den }) (record { num = 2 * y .num + y .den; den = 2 * y .den })
+    quotient-same (record { num = 2 * x .num + x .den; den = 2 * x .den }) (record { num = 2 * y .num + y .den; den = 2 * y .den })
     (omega arith) (omega arith) (omega (arith, e))
 
 -- "to the nearest whole number, halves up", and only one number is that

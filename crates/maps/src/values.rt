@@ -185,7 +185,8 @@ pub(crate) fn four_over(table: Table, near: usize, x: usize, y: usize) -> Four
 }
 
 // The reading at knots (u, v), a corner of the unit square whose low corner is at knots (x, y), by the four blends over that square and their values: the
-// weights times the values, rounded. They are added from the last to the first, as the sum over a list is.
+// weights times the values, rounded. They are added from the last to the first, as the sum over a list is. The rest of the sum is at most four times its
+// denominator, and that at most 16,641 to the fourth power, so what is divided at the end stays below 2 to the 60.
 pub(crate) fn reading_over(
     four: Four,
     first: u16,
