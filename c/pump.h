@@ -142,10 +142,10 @@ size_t pump_set(uint8_t *buffer, size_t size, size_t *used, size_t m, size_t n, 
        PUMP_UPRIGHT at level `position` from speed `from` to speed `to`; 0 < position < w and 0 <= from < to <= h;
        PUMP_LEVEL at speed `position` from level `from` to level `to`; 0 < position < h and 0 <= from < to <= w.
    Every old anchor keeps its value and mark, and each new one gets the reading that the map had there, marked as
-   worked out. So no reading at an old anchor changes, none at a whole point rises, and none falls by more than one:
-   that one is lost in the rounding, and a later split may take one again. Nothing is lost where the pump is
-   straight: if the value at each anchor (m, n) is A + B m + C n + D m n, the four whole numbers of either sign, then
-   so it is after the split, and the reading at every whole point (u, v) is A + B u + C v + D u v, before and after.
+   worked out. So no reading at an old anchor changes, and one at any other whole point moves by at most one, up or
+   down: that one comes from the rounding, and a later split may move it again by one. A straight pump is exact: if
+   the value at each anchor (m, n) is A + B m + C n + D m n, the four whole numbers of either sign, then so it is
+   after the split, and the reading at every whole point (u, v) is A + B u + C v + D u v, before and after.
    Refused with 11, 3 to 8, or 12. */
 size_t pump_exact_split(uint8_t *buffer, size_t size, size_t *used, size_t direction, size_t position, size_t from,
                         size_t to);
@@ -162,7 +162,8 @@ size_t pump_lengthened_split(uint8_t *buffer, size_t size, size_t *used, size_t 
    The table lists the blends in the order of the file's anchors. Refused with 11, 9 or 12. */
 size_t pump_place(const uint8_t *file, size_t length, size_t place, uint8_t *out, size_t size);
 
-/* The reading at the whole point (u, v): the sum of value times weight, exact, then rounded down.
+/* The reading at the whole point (u, v): the sum of value times weight, exact, then rounded to the nearest whole
+   number, halves up.
    Refused with 11 or 10. */
 size_t pump_reading(const uint8_t *file, size_t length, size_t u, size_t v, size_t *litres);
 

@@ -442,13 +442,16 @@ impl Map {
     }
 }
 
-/// The sum of value times weight, exact, then rounded down ("Values, readings, splits").
+/// The sum of value times weight, exact, then rounded to the nearest whole number, halves up ("Values, readings,
+/// splits"; document 02, L6).
 pub fn reading(table: &[Blend], values: &[u16], u: i64, v: i64) -> i64 {
     let (numerator, denominator) = sum(table.iter().zip(values).map(|(blend, value)| {
         let (numerator, denominator) = blend.weight(u, v, 1);
         (*value as i128 * numerator, denominator)
     }));
-    (numerator / denominator) as i64
+    let (whole, left) = (numerator / denominator, numerator % denominator);
+    let rounded = if 2 * left >= denominator { whole + 1 } else { whole };
+    rounded as i64
 }
 
 /// Each pair of neighbouring points x and x + 1 where one reading is below the wanted flow and the other isn't: how many

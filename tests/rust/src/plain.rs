@@ -41,8 +41,9 @@ impl Sum {
         self.denominator *= gaps;
     }
 
-    fn rounded_down(&self) -> u16 {
-        (self.numerator / self.denominator) as u16
+    /// To the nearest whole number, halves up.
+    fn rounded(&self) -> u16 {
+        ((2 * self.numerator + self.denominator) / (2 * self.denominator)) as u16
     }
 }
 
@@ -326,7 +327,7 @@ impl Map {
         Ok((u as i16, v as i16))
     }
 
-    /// The sum of value times weight at a point, rounded down.
+    /// The sum of value times weight at a point, rounded.
     fn sum(&self, u: i16, v: i16) -> u16 {
         let mut sum = Sum::NOTHING;
         for (blend, value) in self.table.iter().zip(&self.values) {
@@ -335,7 +336,7 @@ impl Map {
                 sum.add(*value, hat((l, m, r), u), hat((b, n, t), v));
             }
         }
-        sum.rounded_down()
+        sum.rounded()
     }
 
     /// The readings at all points of the row `at` (direction 1) or of the column `at` (direction 0), in one walk over the
@@ -352,7 +353,7 @@ impl Map {
                 }
             }
         }
-        sums.iter().map(Sum::rounded_down).collect()
+        sums.iter().map(Sum::rounded).collect()
     }
 
     /// How many pairs of neighbouring points the wanted flow parts along a row (direction 1) or a column (direction 0),

@@ -1,5 +1,5 @@
 //! "Pits on paper" of document 01, with the numbers and counts that it gives, and with the marks and the file lengths
-//! of document 02, L5.
+//! of document 02, L5, and the readings of its L6.
 
 use pump_tests::calls::{compare, Call, Lent, Outcome};
 use pump_tests::LARGEST_FILE;
@@ -108,18 +108,104 @@ fn readings() {
     map.call(Call::Set(3, 0, 10));
     map.call(Call::Set(3, 1, 10));
     assert_eq!(map.reading(1, 0), Ok(3));
-    assert_eq!(map.reading(2, 1), Ok(6));
+    assert_eq!(map.reading(2, 1), Ok(7));
 
     let mut map = Editor::fresh(4, 1);
     map.call(Call::Set(4, 0, 6));
     map.call(Call::Set(4, 1, 6));
     assert_eq!(map.reading(2, 0), Ok(3));
     assert_eq!(map.exact([0, 1, 0, 1]), Ok(6));
-    assert_eq!(map.reading(2, 0), Ok(2));
+    assert_eq!(map.reading(2, 0), Ok(3));
 
     let mut map = Editor::fresh(8, 8);
     assert_eq!(map.reading(9, 0), Err(10));
     assert_eq!(map.reading(8, 8), Ok(0));
+}
+
+/// A fresh map with these values, in table order.
+fn with_values(w: usize, h: usize, values: [u16; 4]) -> Editor {
+    let mut map = Editor::fresh(w, h);
+    for ((m, n), value) in [(0, 0), (0, h), (w, 0), (w, h)].into_iter().zip(values) {
+        assert_eq!(map.call(Call::Set(m, n, value)).number, 0);
+    }
+    map
+}
+
+/// A reading is the nearest whole number, and the higher of two that are as near.
+#[test]
+fn rounding() {
+    // A value at the far corner alone: what is read of it at a point.
+    for ((w, h), value, (u, v), reading) in [
+        ((2, 1), 1, (1, 1), 1),
+        ((1, 2), 65_535, (1, 1), 32_768),
+        ((127, 1), 1, (63, 1), 0),
+        ((127, 1), 1, (64, 1), 1),
+        ((2, 2), 1, (1, 1), 0),
+        ((2, 2), 2, (1, 1), 1),
+        ((2, 2), 3, (1, 1), 1),
+        ((3, 3), 4, (1, 1), 0),
+        ((3, 3), 5, (1, 1), 1),
+        ((3, 3), 13, (1, 1), 1),
+        ((3, 3), 14, (1, 1), 2),
+        ((128, 128), 8_191, (1, 1), 0),
+        ((128, 128), 8_192, (1, 1), 1),
+        ((128, 128), 24_575, (1, 1), 1),
+        ((128, 128), 24_576, (1, 1), 2),
+        ((128, 128), 65_535, (1, 1), 4),
+    ] {
+        assert_eq!(with_values(w, h, [0, 0, 0, value]).reading(u, v), Ok(reading), "{value} on {w} by {h}");
+    }
+    // The sum is rounded, not what is added up: halves and quarters of each value.
+    for (values, side, middle) in
+        [([1, 1, 1, 1], 1, 1), ([1, 2, 2, 1], 2, 2), ([1, 0, 0, 0], 1, 0), ([2, 1, 1, 1], 2, 1)]
+    {
+        let mut map = with_values(2, 2, values);
+        assert_eq!((map.reading(1, 0), map.reading(1, 1)), (Ok(side), Ok(middle)), "{values:?}");
+    }
+}
+
+/// A new anchor takes the rounded reading: an exact half goes up, and what lies just below it goes down.
+#[test]
+fn new_anchors() {
+    // A fresh map of height 1, the values at its far side, and what an upright at a level finds there.
+    for (w, values, position, found) in [
+        (2, [1, 3], 1, [1, 2]),
+        (2, [0, 65_535], 1, [0, 32_768]),
+        (3, [4, 5], 1, [1, 2]),
+        (4, [6, 7], 1, [2, 2]),
+        (4, [2, 1], 1, [1, 0]),
+        (4, [5, 6], 3, [4, 5]),
+        (127, [1, 1], 63, [0, 0]),
+        (127, [1, 1], 64, [1, 1]),
+    ] {
+        let mut map = with_values(w, 1, [0, 0, values[0], values[1]]);
+        assert_eq!(map.exact([0, position, 0, 1]), Ok(6));
+        let value = |line: &str| line.split(' ').nth(6).unwrap().parse().unwrap();
+        let held: Vec<u16> = map.text().lines().skip(1).map(value).collect();
+        assert_eq!(held, [[0, 0], found, values].concat(), "{position} of {w}");
+        assert_eq!([0, 1].map(|v| map.reading(position, v)), found.map(|value| Ok(value as usize)));
+    }
+}
+
+/// A split moves a reading between the anchors by one, up or down, and a later split may move it again.
+#[test]
+fn moved_readings() {
+    // A map of height 1, the value at both anchors of its far side, uprights in turn, and what is read at a level before
+    // the first and after each.
+    for (w, value, uprights, u, readings) in [
+        (3, 1, 2..=2, 1, vec![0, 1]),
+        (4, 1, 1..=1, 2, vec![1, 0]),
+        (11, 8, 1..=5, 6, vec![4, 5, 5, 5, 5, 6]),
+        (12, 3, 1..=5, 6, vec![2, 1, 1, 1, 1, 0]),
+    ] {
+        let mut map = with_values(w, 1, [0, 0, value, value]);
+        let mut read = vec![map.reading(u, 0).unwrap()];
+        for position in uprights {
+            map.exact([0, position, 0, 1]).unwrap();
+            read.push(map.reading(u, 0).unwrap());
+        }
+        assert_eq!(read, readings, "{value} on {w} by 1");
+    }
 }
 
 #[test]
@@ -143,7 +229,7 @@ fn marks() {
     map.call(Call::Set(0, 1, 0));
     assert_eq!(map.text(), "4\n-1 0 4 -1 0 1 0 0\n-1 0 4 0 1 2 0 1\n0 4 5 -1 0 1 6 1\n0 4 5 0 1 2 0 0\n");
     map.exact([0, 1, 0, 1]).unwrap();
-    let (left, middle) = ("-1 0 1 -1 0 1 0 0\n-1 0 1 0 1 2 0 1\n", "0 1 4 -1 0 1 1 0\n0 1 4 0 1 2 0 0\n");
+    let (left, middle) = ("-1 0 1 -1 0 1 0 0\n-1 0 1 0 1 2 0 1\n", "0 1 4 -1 0 1 2 0\n0 1 4 0 1 2 0 0\n");
     assert_eq!(map.text(), format!("6\n{left}{middle}1 4 5 -1 0 1 6 1\n1 4 5 0 1 2 0 0\n"));
     let entry = map.call(Call::Place(4)).out()[..16].to_vec();
     assert_eq!(entry, [1, 4, 5, -1, 0, 1, 6, 1i16].map(i16::to_ne_bytes).concat());

@@ -212,10 +212,10 @@ fn by_hand() {
     let asked = |map: &Map, call: Call| answer(&call, &Lent::file(&map.write()));
     let none = (13, [0, 0]);
 
-    // Readings 0, 3, 6 and 10 in both rows.
+    // Readings 0, 3, 7 and 10 in both rows.
     let ramp = map(3, 1, [], &[0, 0, 10, 10]);
     for v in [0, 1] {
-        for (wanted, u) in [(1, 0), (3, 0), (4, 1), (6, 1), (7, 2), (10, 2)] {
+        for (wanted, u) in [(1, 0), (3, 0), (4, 1), (7, 1), (8, 2), (10, 2)] {
             assert_eq!(asked(&ramp, Call::Row(v, wanted)), (0, [1, u]));
         }
         for wanted in [0, 11, MOST, MOST + 1, MOST + 4, usize::MAX] {

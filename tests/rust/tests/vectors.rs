@@ -1,7 +1,5 @@
-//! Replays the outside vectors: the lists of calls, by document 01 and by document 02 as far as L5, and the files of
-//! the table program. The answers from before L5 know no marks, so these are left out where they are compared.
+//! Replays the outside vectors: the lists of calls, by document 02 as far as L6, and the files of the table program.
 
-use pump_tests::files::old;
 use pump_tests::model::{Blend, Map, No, Split};
 use pump_tests::{subjects, Pump, LARGEST_FILE};
 use std::fmt::Write;
@@ -116,39 +114,21 @@ fn answer_over_bytes(pump: &dyn Pump, file: &mut Vec<u8>, words: &[&str]) -> Res
     }
 }
 
-/// The lists of calls of before L5.
-const BEFORE: &str = "histories.txt";
+/// How many calls the lists have.
+const CALLS: usize = 2_435;
 
-/// An answer without marks, a file's too.
-fn without_marks(call: &str, answer: String) -> String {
-    match (call, answer.rsplit_once(' ')) {
-        ("place", Some((entry, _))) => entry.into(),
-        ("file", _) => hex(&old(&from_hex(&answer))),
-        _ => answer,
-    }
-}
-
-/// Goes through each `nth` list of calls of a file; `fresh` starts one, `answer` gives an answer. Gives the number of
-/// calls.
-fn lists_of_calls<M>(
-    file: &str,
-    nth: usize,
-    fresh: impl Fn(usize, usize) -> M,
-    answer: impl Fn(&mut M, &[&str]) -> Result<String, No>,
-) -> usize {
-    let text = std::fs::read_to_string(vectors().join(file)).unwrap();
+/// Goes through the lists of calls; `fresh` starts one, `answer` gives an answer.
+fn lists_of_calls<M>(fresh: impl Fn(usize, usize) -> M, answer: impl Fn(&mut M, &[&str]) -> Result<String, No>) {
+    let text = std::fs::read_to_string(vectors().join("L6.txt")).unwrap();
     let (mut calls, mut wrong) = (0, String::new());
-    for list in text.split("history ").skip(1).step_by(nth) {
+    for list in text.split("history ").skip(1) {
         let mut lines = list.lines();
         let sides: Vec<usize> = lines.next().unwrap().split(' ').map(|side| side.parse().unwrap()).collect();
         let mut map = fresh(sides[0], sides[1]);
         for line in lines {
             let (call, want) = line.split_once('=').unwrap();
             let call: Vec<&str> = call.split_whitespace().collect();
-            let mut got = answer(&mut map, &call).unwrap_or_else(|no| no.to_string());
-            if file == BEFORE {
-                got = without_marks(call[0], got);
-            }
+            let got = answer(&mut map, &call).unwrap_or_else(|no| no.to_string());
             calls += 1;
             if got.split_whitespace().ne(want.split_whitespace()) {
                 writeln!(wrong, "{sides:?}: {line}\n  got {got}").unwrap();
@@ -156,11 +136,11 @@ fn lists_of_calls<M>(
         }
     }
     assert!(wrong.is_empty(), "{wrong}");
-    calls
+    assert_eq!(calls, CALLS);
 }
 
-/// Goes through the map files of the table program; `text` prints the table or refuses. In those of before L5 all marks
-/// are 0.
+/// Goes through the map files of the table program; `text` prints the table or refuses. The tables of `files` are written
+/// without marks, which are all 0.
 fn tables(text: impl Fn(&[u8]) -> Result<String, No>) {
     for (folder, count) in [("files", 80), ("files5", 100)] {
         let mut files = 0;
@@ -183,9 +163,7 @@ fn tables(text: impl Fn(&[u8]) -> Result<String, No>) {
 
 #[test]
 fn model_answers_the_lists_of_calls() {
-    for (file, calls) in [(BEFORE, 9_710), ("L5.txt", 2_045)] {
-        assert_eq!(lists_of_calls(file, 1, |w, h| Map::fresh(w, h).unwrap(), answer), calls);
-    }
+    lists_of_calls(|w, h| Map::fresh(w, h).unwrap(), answer);
 }
 
 #[test]
@@ -201,10 +179,7 @@ fn subjects_answer_the_lists_of_calls() {
             assert_eq!(pump.fresh(w, h, &mut file, &mut used), 0);
             file
         };
-        // Not all of the first file's, to be quick.
-        for (file, nth, calls) in [(BEFORE, 4, 2_000), ("L5.txt", 1, 2_045)] {
-            assert!(lists_of_calls(file, nth, fresh, |file, words| answer_over_bytes(pump, file, words)) >= calls);
-        }
+        lists_of_calls(fresh, |file, words| answer_over_bytes(pump, file, words));
     }
 }
 
