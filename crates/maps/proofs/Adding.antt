@@ -6,10 +6,10 @@ use native.Mathlib.Numerals.{add-one}
 use mathlib.Core.Path.{_≡_, refl, sym, ap, subst, _∙_}
 use mathlib.Core.Logic.{⊎-elim}
 use mathlib.Core.Bool.{true}
-use mathlib.Core.List.{List, [], _∷_, map}
+use mathlib.Core.List.{List, [], _∷_}
 use lib.ListN.{length, getD, take}
 use lib.Seq.{length-take-le, getD-take}
-use Rattle.axis.specs.Fraction.{Fraction, Equal, plus, times, whole, total}
+use Rattle.axis.specs.Fraction.{Equal, plus, times, whole, total}
 use Rattle.axis.specs.Range.{all}
 use Rattle.axis.proofs.Tests.{either, and-both, all-at, cond-true, cond-false}
 use Rattle.axis.proofs.Scale.{total-positive}
@@ -26,7 +26,7 @@ use Rattle.maps.specs.declared.values.Four.{Four}
 use Rattle.maps.specs.declared.values.Sum.{Sum}
 use Rattle.maps.specs.Rounding.{rounded}
 use Rattle.maps.specs.Values.{paired, weightAt}
-use Rattle.maps.specs.Inner.{entriesOver, entries, portion, fractionOf, SumOf}
+use Rattle.maps.specs.Inner.{entriesOver, entries, portion, portions, fractionOf, SumOf}
 use Rattle.maps.proofs.Rounding.{rounded-same}
 use Rattle.maps.proofs.ExactSums.{value-positive}
 use Rattle.maps.proofs.OverSquare.{weight-shares, weight-outside, denominator-positive, entry-in}
@@ -52,15 +52,11 @@ module _ (s : Sum) (p d : ℕ) where
         most = omega (arith, sum .most, div-le-self p d);
       }
 
--- the values of some entries times their weights
-abbrev pub parts : ℕ → ℕ → ℕ → ℕ → List ℕ → List Entry → List Fraction
-parts x y u v values = map (λ (a : Entry). portion x y u v (a .blend) (getD values (a .place) 0))
-
 -- At a corner (u, v) of the square from (x, y) the sum over all blends is that over the blends over the square, since the others weigh 0 there.
 module _ (x y u v : ℕ) (e : End x u) (f : End y v) (values : List ℕ) where
   pub value-over : (bs : List Blend) (vs : List ℕ) (i : ℕ) → all (proper 128 128) bs ≡ true → length bs ≡ length vs →
       ((k : ℕ) → k < length vs → getD vs k 0 ≡ getD values (i + k) 0) →
-      Equal (value (paired bs vs) u v 1) (total (parts x y u v values (entriesOver (overSquare x y) bs i)))
+      Equal (value (paired bs vs) u v 1) (total (portions x y u v values (entriesOver (overSquare x y) bs i)))
   unfolding weightAt
   value-over [] vs i ok long same = refl
   value-over (B ∷ bs) [] i ok long same = absurd (omega arith)
@@ -69,7 +65,7 @@ module _ (x y u v : ℕ) (e : End x u) (f : End y v) (values : List ℕ) where
       let facts = proper-facts 128 128 B (p .0) in
       let here : c ≡ getD values i 0 = same 0 (omega arith) ∙ ap (λ (n : ℕ). getD values n 0) (omega arith) in
       let rest = value-over bs vs (i + 1) (p .1) (omega arith) (λ k lt. same (suc k) (omega arith) ∙ ap (λ (n : ℕ). getD values n 0) (omega arith)) in
-      let as-one : List Entry → Type 0 = λ es. Equal (value (paired (B ∷ bs) (c ∷ vs)) u v 1) (total (parts x y u v values es)) in
+      let as-one : List Entry → Type 0 = λ es. Equal (value (paired (B ∷ bs) (c ∷ vs)) u v 1) (total (portions x y u v values es)) in
       ⊎-elim
       (λ o. subst as-one (sym (cond-true _ _ _ o))
       (rw (← here) (plus-equal (times (whole c) (weight B u v 1)) (portion x y u v B c) _ _
@@ -78,10 +74,10 @@ module _ (x y u v : ℕ) (e : End x u) (f : End y v) (values : List ℕ) where
       (plus-nothing (times (whole c) (weight B u v 1)) _ _ (rw (weight-outside B facts x y u v e f o) (omega arith)) rest))
       (either (overSquare x y B))
 
-  -- so the parts of those over the square make the reading,
+  -- so the portions of those over the square make the reading,
   pub sum-over : (w h : ℕ) → w ≤ 128 → h ≤ 128 → (bs : List Blend) (vs : List ℕ) → all (proper w h) bs ≡ true → length bs ≡ length vs →
       ((k : ℕ) → k < length vs → getD vs k 0 ≡ getD values k 0) →
-      rounded (value (paired bs vs) u v 1) ≡ rounded (total (parts x y u v values (entriesOver (overSquare x y) bs 0)))
+      rounded (value (paired bs vs) u v 1) ≡ rounded (total (portions x y u v values (entriesOver (overSquare x y) bs 0)))
   unfolding weightAt
   sum-over w h hw hh bs vs ok long same =
       let most = proper-most w h bs hw hh ok in
@@ -93,9 +89,9 @@ module _ (x y u v : ℕ) (e : End x u) (f : End y v) (values : List ℕ) where
   -- and so do those of the four that are found in a table
   pub table-over : (w h : ℕ) → w ≤ 128 → h ≤ 128 → (t : Table) → t .count ≤ length (t .blends) → t .count ≤ length values →
       all (proper w h) (blendsOf t) ≡ true → (four : Four) → entries four ≡ entriesOver (overSquare x y) (blendsOf t) 0 →
-      rounded (total (parts x y u v values (entries four))) ≡ rounded (value (paired (blendsOf t) (take (t .count) values)) u v 1)
+      rounded (total (portions x y u v values (entries four))) ≡ rounded (value (paired (blendsOf t) (take (t .count) values)) u v 1)
   table-over w h hw hh t long full ok four found =
       let m = length-take-le (t .count) (t .blends) long in
       let n = length-take-le (t .count) values full in
       sym (sum-over w h hw hh (blendsOf t) (take (t .count) values) ok (omega arith) (λ k lt. getD-take (t .count) values k 0 (omega arith)) ∙
-      ap (λ (es : List Entry). rounded (total (parts x y u v values es))) (sym found))
+      ap (λ (es : List Entry). rounded (total (portions x y u v values es))) (sym found))

@@ -28,9 +28,9 @@ use Rattle.maps.specs.Values.{sumAt, readingAt, weightAt}
 use Rattle.maps.specs.Record.{recordOf, Full, plain, good}
 use Rattle.maps.specs.Calls.{shape, tablePlace, weights, weightOver}
 use Rattle.maps.specs.ByWeights.{products, ByWeights}
-use Rattle.maps.specs.Inner.{entriesOver}
+use Rattle.maps.specs.Inner.{entriesOver, portions}
 use Rattle.maps.proofs.OverSquare.{entries-only, entry-in}
-use Rattle.maps.proofs.Adding.{parts, sum-over}
+use Rattle.maps.proofs.Adding.{sum-over}
 use Rattle.maps.proofs.GoodRecords.{Holds, record-good, good-facts}
 use Rattle.mesh.proofs.Accepted.{replays-sides}
 use Rattle.maps.proofs.Answers.{place-listed, point-answers}
@@ -58,7 +58,7 @@ module _ (m : Map) (w h u v : ℕ) (values marks : List ℕ) where
 
   told-products : (es : List Entry) → ((a : Entry) → List·Memᴰ a es → Told a) →
       products (map (λ i. tablePlace m i .value) (map (λ (a : Entry). a .place) es)) (map (weightOver w h u v) (map (λ (a : Entry). a .blend) es)) ≡
-      parts (corner w u + 1) (corner h v + 1) (u + 1) (v + 1) values es
+      portions (corner w u + 1) (corner h v + 1) (u + 1) (v + 1) values es
   told-products [] told = refl
   told-products (a ∷ es) told =
       let f = weightAt (corner w u + 1) (corner h v + 1) (u + 1) (v + 1) (a .blend) in
@@ -95,7 +95,7 @@ module _ {P : Plain} (holds : Holds P) (u v : ℕ) (uw : u ≤ P .lines .w) (vh 
   the-weights = rw (record-good holds .0, record-good holds .1, in-domain, entries-only test (blends P) 0)
 
   summed : readingAt (blends P) (P .values) u v ≡
-      rounded (total (parts (corner w u + 1) (corner h v + 1) (u + 1) (v + 1) (P .values) found))
+      rounded (total (portions (corner w u + 1) (corner h v + 1) (u + 1) (v + 1) (P .values) found))
   unfolding readingAt sumAt
   summed =
       let s = replays-sides (holds .taken) in

@@ -1,5 +1,5 @@
 -- Rounding to the nearest: what it gives, of equal fractions, of whole numbers, and of numbers not far apart.
-use Prim.Native.Nat.{ℕ, _+_, _-_, _*_, _/_, _≤_, _<_}
+use Prim.Native.Nat.{ℕ, _+_, _*_, _≤_, _<_}
 use native.Mathlib.Omega.{arith}
 use native.Mathlib.Nat.{mul-le-mul-right, div-mul-le-self, lt-div-mul-add, le-div-iff-mul-le, div-lt-iff-lt-mul, le-antisymm, le-of-mul-le-mul-left}
 use mathlib.Core.Path.{_≡_, ap}

@@ -1,13 +1,13 @@
 -- A walk along a row or up a column: the four blends over one square that lie over the next are those over it, and pairs noted point by point are all pairs.
 use Prim.Native.Nat.{ℕ, _+_, _-_, _≤_, _<_}
 use native.Mathlib.Omega.{arith}
-use mathlib.Core.Path.{_≡_, refl, ap, subst, _∙_}
+use mathlib.Core.Path.{_≡_, refl, sym, ap, subst, _∙_}
 use mathlib.Core.Logic.{⊎-elim}
 use mathlib.Core.Bool.{Bool, true, false, cond}
 use mathlib.Core.List.{List, [], _∷_, map}
 use borrow.Author.Tests.{ne-eqb}
 use lib.ListN.{length}
-use Rattle.axis.specs.Range.{all, only, turns, turnsFrom}
+use Rattle.axis.specs.Range.{all, only, differ, turns, turnsFrom}
 use Rattle.axis.proofs.Tests.{either, each-turn, each-none}
 use Rattle.mesh.specs.declared.Blend.{Blend}
 use Rattle.mesh.specs.declared.Table.{Table}
@@ -57,16 +57,18 @@ noting-all (k ∷ ks) = more ks 1 k (omega arith) ∙ ap (λ (n : ℕ). record {
     more (j ∷ ks) n k lt =
         rw (ne-eqb n 0 (λ e. omega arith)) (more ks (n + 1) k (omega arith) ∙ ap (λ (m : ℕ). record { number = 0; count = m; first = k }) (omega arith))
 
-pub noted-few : (b : Bool) (p : Pairs) (k : ℕ) → p .count ≤ k → cond b (withPair p k) p .count ≤ k + 1
-noted-few true p k le = omega arith
-noted-few false p k le = omega arith
+-- Pairs noted from the j-th point to the next one: with those from there on, they are the pairs noted before with those from the j-th point on.
+module _ (p q : Pairs) (test : ℕ → Bool) (j side : ℕ) (lt : j < side) {last here : Bool} (is-last : last ≡ test j) (is-here : here ≡ test (j + 1)) where
+  pub noted-on : q ≡ cond (differ last here) (withPair p j) p → p .count ≤ j →
+      (q .count ≤ j + 1) × (noting q (turnsFrom (j + 1) (side - (j + 1)) test) ≡ noting p (turnsFrom j (side - j) test))
+  noted-on noted few =
+      let turned : q ≡ cond (turns test j) (withPair p j) p = noted ∙ rw (is-last, is-here) in
+      let less : side - (j + 1) ≡ side - j - 1 = omega arith in
+      let next = each-turn j (side - j) (λ i. cond (turns test i) (i ∷ []) []) (omega arith) in
+      rw (less, turned)
+      (⊎-elim (λ (e : turns test j ≡ true). rw e (omega arith, sym (ap (noting p) next ∙ rw e)))
+      (λ (e : turns test j ≡ false). rw e (omega arith, sym (ap (noting p) next ∙ rw e))) (either (turns test j)))
 
--- the next point, and the last one
-module _ (p : Pairs) (test : ℕ → Bool) (k n : ℕ) where
-  pub noting-turn : 0 < n → noting p (turnsFrom k n test) ≡ noting (cond (turns test k) (withPair p k) p) (turnsFrom (k + 1) (n - 1) test)
-  noting-turn lt =
-      ap (noting p) (each-turn k n (λ i. cond (turns test i) (i ∷ []) []) lt) ∙
-      ⊎-elim (λ (e : turns test k ≡ true). rw e) (λ (e : turns test k ≡ false). rw e) (either (turns test k))
-
-  pub noting-done : n ≤ 0 → noting p (turnsFrom k n test) ≡ p
-  noting-done le = ap (noting p) (each-none k n (λ i. cond (turns test i) (i ∷ []) []) le)
+-- at the last point there are no more
+pub noting-done : (p : Pairs) (test : ℕ → Bool) (k n : ℕ) → n ≤ 0 → noting p (turnsFrom k n test) ≡ p
+noting-done p test k n le = ap (noting p) (each-none k n (λ i. cond (turns test i) (i ∷ []) []) le)

@@ -4,7 +4,7 @@ use mathlib.Core.Path.{_≡_}
 use mathlib.Core.Bool.{Bool, true, cond}
 use mathlib.Core.List.{List, [], _∷_, _++_, map, List·Memᴰ}
 use lib.Dec.{eqb}
-use lib.ListN.{length, take, set, replicate}
+use lib.ListN.{length, getD, take, set, replicate}
 use Rattle.axis.specs.Limits.{largestSide, mostBlends}
 use Rattle.axis.specs.Fraction.{Fraction}
 use Rattle.axis.specs.Gap.{corner}
@@ -94,6 +94,10 @@ pub record Light (w : Weight) : Type 0 where
 -- a value times that weight
 abbrev pub portion : ℕ → ℕ → ℕ → ℕ → Blend → ℕ → Fraction
 portion x y u v B c = let f = weightAt x y u v B in record { num = f .num * c; den = f .den }
+
+-- the values of some entries times their weights
+abbrev pub portions : ℕ → ℕ → ℕ → ℕ → List ℕ → List Entry → List Fraction
+portions x y u v values = map (λ (e : Entry). portion x y u v (e .blend) (getD values (e .place) 0))
 
 -- a sum of n such numbers, with the bounds that keep its parts below 2 to the 64
 abbrev pub fractionOf : Sum → Fraction

@@ -1,5 +1,7 @@
 // Values and marks across a split: old anchors keep theirs, each new one takes the old map's reading there and the mark 0.
-use crate::values::reading_of;
+use crate::values::four_over;
+use crate::values::low_knot;
+use crate::values::reading_over;
 use axis::knots::wide;
 use mesh::Table;
 use mesh::knots;
@@ -19,7 +21,8 @@ pub(crate) struct Carried {
 }
 
 // The values and marks of the new table's blends, from the old table and its own; unused places are zero. Both tables are in table order, and the old
-// anchors are among the new ones, so the two are walked side by side and no anchor is searched for.
+// anchors are among the new ones, so the two are walked side by side and no anchor is searched for. The four blends over a new anchor's square are looked for
+// from where the last four began.
 pub(crate) fn carry(
     old: Table,
     values: [u16; Table::MOST_BLENDS],
@@ -35,6 +38,7 @@ pub(crate) fn carry(
     let mut kept = [0u8; Table::MOST_BLENDS];
     let before = old.count;
     let count = new.count;
+    let mut near = 0;
     let mut j = 0;
     let mut i = 0;
     while i < count {
@@ -51,7 +55,11 @@ pub(crate) fn carry(
         } else {
             let m = wide(x.across.m);
             let n = wide(x.up.m);
-            carried[i] = reading_of(old, values, w, h, m - 1, n - 1) as u16;
+            let a = low_knot(w, m - 1);
+            let b = low_knot(h, n - 1);
+            let four = four_over(old, near, a, b);
+            carried[i] = reading_over(four, &values, a, b, m, n) as u16;
+            near = four.first.place;
         }
         i += 1;
     }

@@ -12,7 +12,7 @@ use mesh::Blend;
 use mesh::Table;
 ghost use mathlib.Core.Path.{_≡_};
 ghost use mathlib.Core.Bool.{true};
-ghost use mathlib.Core.List.{[], _∷_, map};
+ghost use mathlib.Core.List.{map};
 ghost use Prim.Native.Nat.{ℕ, _+_, _≤_, _<_};
 ghost use lib.ListN.{length, take};
 ghost use Rattle.axis.specs.Limits.{largestSide, mostBlends};
@@ -24,7 +24,7 @@ ghost use Rattle.axis.specs.Gap.{corner};
 ghost use Rattle.maps.specs.Rounding.{rounded};
 ghost use Rattle.maps.specs.Values.{placeOf, readingAt};
 ghost use Rattle.maps.specs.Calls.{shape, weightOver};
-ghost use Rattle.maps.specs.Inner.{AtPoint, entries, entriesOver, AllListed, weightOfBlend, Light, portion, fractionOf, SumOf};
+ghost use Rattle.maps.specs.Inner.{AtPoint, entries, entriesOver, AllListed, weightOfBlend, Light, portion, portions, fractionOf, SumOf};
 
 // A blend in document 01's coordinates.
 pub(crate) fn shape_of(x: Blend) -> Shape
@@ -184,33 +184,33 @@ pub(crate) fn four_over(table: Table, near: usize, x: usize, y: usize) -> Four
     four
 }
 
-// The reading at knots (u, v), a corner of the unit square whose low corner is at knots (x, y), by the four blends over that square and their values: the
-// weights times the values, rounded. They are added from the last to the first, as the sum over a list is. The rest of the sum is at most four times its
-// denominator, and that at most 16,641 to the fourth power, so what is divided at the end stays below 2 to the 60.
+// The reading at knots (u, v), a corner of the unit square whose low corner is at knots (x, y), by the four blends over that square and the values of their
+// table: the weights times the values, rounded. They are added from the last to the first, as the sum over a list is. The rest of the sum is at most four
+// times its denominator, and that at most 16,641 to the fourth power, so what is divided at the end stays below 2 to the 60.
 pub(crate) fn reading_over(
     four: Four,
-    first: u16,
-    second: u16,
-    third: u16,
-    fourth: u16,
+    values: &[u16],
     x: usize,
     y: usize,
     u: usize,
     v: usize,
 ) -> usize
-    requires { ⌜ AllListed four × (x ≤ u) × (u ≤ x + 1) × (y ≤ v) × (v ≤ y + 1) ⌝ }
-    ensures { λ r. ⌜ r ≡ rounded (total (portion x y u v (four .first .blend) first ∷ portion x y u v (four .second .blend) second ∷
-        portion x y u v (four .third .blend) third ∷ portion x y u v (four .fourth .blend) fourth ∷ [])) ⌝ }
+    requires { ⌜ (length (now values) ≡ mostBlends) × AllListed four × (x ≤ u) × (u ≤ x + 1) × (y ≤ v) × (v ≤ y + 1) ⌝ }
+    ensures { λ r. ⌜ r ≡ rounded (total (portions x y u v (now (values .entry)) (entries four))) ⌝ }
 {
     let none = Sum {
         whole: 0,
         top: 0,
         bottom: 1,
     };
-    let one = added(none, four.fourth.blend, fourth, x, y, u, v);
-    let two = added(one, four.third.blend, third, x, y, u, v);
-    let three = added(two, four.second.blend, second, x, y, u, v);
-    let sum = added(three, four.first.blend, first, x, y, u, v);
+    let i = four.first.place;
+    let j = four.second.place;
+    let k = four.third.place;
+    let l = four.fourth.place;
+    let one = added(none, four.fourth.blend, values[l], x, y, u, v);
+    let two = added(one, four.third.blend, values[k], x, y, u, v);
+    let three = added(two, four.second.blend, values[j], x, y, u, v);
+    let sum = added(three, four.first.blend, values[i], x, y, u, v);
     sum.whole + (2 * sum.top + sum.bottom) / (2 * sum.bottom)
 }
 
@@ -229,21 +229,7 @@ pub(crate) fn reading_of(
     let x = low_knot(w, u);
     let y = low_knot(h, v);
     let four = four_over(table, 0, x, y);
-    let i = four.first.place;
-    let j = four.second.place;
-    let k = four.third.place;
-    let l = four.fourth.place;
-    reading_over(
-        four,
-        values[i],
-        values[j],
-        values[k],
-        values[l],
-        x,
-        y,
-        u + 1,
-        v + 1,
-    )
+    reading_over(four, &values, x, y, u + 1, v + 1)
 }
 
 // The weights of the four blends over the unit square at a whole point, in table order.

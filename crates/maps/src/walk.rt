@@ -5,7 +5,6 @@ use crate::values::Four;
 use crate::values::four_over;
 use crate::values::is_over;
 use crate::values::low_knot;
-use crate::values::reading_of;
 use crate::values::reading_over;
 use mesh::Table;
 ghost use mathlib.Core.Path.{_≡_};
@@ -86,41 +85,29 @@ pub(crate) fn pairs_along(
 {
     let side = along(row, w, h);
     let mut four = four_over(table, 0, 1, 1);
-    let mut here = reading_of(table, values, w, h, along(row, 0, at), along(row, at, 0)) < wanted;
+    let mut last = false;
     let mut pairs = Pairs {
         number: 13,
         count: 0,
         first: 0,
     };
     let mut k = 0;
-    while k < side {
-        let next = k + 1;
-        let u = along(row, next, at);
-        let v = along(row, at, next);
+    while k <= side {
+        let u = along(row, k, at);
+        let v = along(row, at, k);
         let x = low_knot(w, u);
         let y = low_knot(h, v);
         if !all_over(four, x, y) {
             four = four_over(table, four.first.place, x, y);
         }
-        let i = four.first.place;
-        let j = four.second.place;
-        let l = four.third.place;
-        let m = four.fourth.place;
-        let litres = reading_over(
-            four,
-            values[i],
-            values[j],
-            values[l],
-            values[m],
-            x,
-            y,
-            u + 1,
-            v + 1,
-        );
-        let there = litres < wanted;
-        pairs = noted(pairs, k, here, there);
-        here = there;
-        k = next;
+        let litres = reading_over(four, &values, x, y, u + 1, v + 1);
+        let here = litres < wanted;
+        // The first point makes no pair.
+        if 0 < k {
+            pairs = noted(pairs, k - 1, last, here);
+        }
+        last = here;
+        k += 1;
     }
     pairs
 }

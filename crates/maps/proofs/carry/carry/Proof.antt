@@ -19,21 +19,23 @@ use Rattle.mesh.proofs.BlendTables.{table-full, blends-turn, blends-end}
 use Rattle.mesh.proofs.Cuts.{proper-facts}
 use Rattle.maps.specs.Plain.{blends}
 use Rattle.maps.specs.Values as Values
-use Rattle.maps.specs.Values.{keptOr, carried, keptMark, readingAt}
-use Rattle.maps.specs.Inner.{carriedArrays}
+use Rattle.maps.specs.Values.{keptOr, carried, keptMark, sumAt, readingAt}
+use Rattle.maps.specs.Inner.{AtPoint, AllListed, carriedArrays}
 use Rattle.maps.proofs.Readings.{Valued, reading-most}
+use Rattle.maps.proofs.OverSquare.{all-listed}
+use Rattle.maps.proofs.Adding.{table-over}
 use Rattle.maps.proofs.OldTable.{old-valued, count-most, blends-of, values-of, old-table, old-point, filled, fill-more, fill-zero, fill-all}
 use Rattle.maps.proofs.SideBySide.{Walking, walking-none, walking-both, walking-new, none-old, kept-same, kept-none}
 use Rattle.maps.proofs.carry.carry.Statement.{statement}
 use Rattle.maps.proofs.carry.carry.Tie as tie
 
 abbrev Inv-loop : tie.InvT-loop
-Inv-loop w h old values marks new carried₀ kept₀ before count j₀ i₀ carried kept j i =
+Inv-loop w h old values marks new carried₀ kept₀ before count near₀ j₀ i₀ carried kept near j i =
     (i ≤ count) × (j ≤ before) × (carried ≡ filled (Values.carried (blendsOf old) (take (old .count) values)) (blendsOf new) i) ×
     (kept ≡ filled (keptMark (blendsOf old) (take (old .count) marks)) (blendsOf new) i) × Walking (blendsOf old) (blendsOf new) j i
 
 abbrev μ-loop : tie.MeasureT-loop
-μ-loop w h old values marks new carried₀ kept₀ before count j₀ i₀ carried kept j i = count - i
+μ-loop w h old values marks new carried₀ kept₀ before count near₀ j₀ i₀ carried kept near j i = count - i
 
 -- the arrays are full, and the old values fit their type
 full : (s : tie.Start Inv-loop μ-loop) →
@@ -115,34 +117,77 @@ apart c y olds e same =
 array-read-carried : tie.Need-array-read-carried Inv-loop μ-loop
 array-read-carried c = let s = c .before .before .before .before .before .before in omega (arith, met c .0, few s, full s .1)
 
-sub-reading-of : tie.Need-sub-reading-of Inv-loop μ-loop
-sub-reading-of c = omega (arith, c .before .wide .ensures, knots (c .before .before .before .before .before .before) .0)
+-- the point of the next blend's anchor, and the four old blends over its square
+point : (c : tie.After-wide2 Inv-loop μ-loop) → let a = c .before .before .before .before .before .before .before .before .args in
+    AtPoint (a .w) (a .h) (a .t1) (c .before .wide .result - 1) (c .wide2 .result - 1)
+point c =
+    let t = c .before .before .before .before .before .before in
+    let k = knots t in
+    old-point (t .before .before .pre .0) _ _ (rw (c .before .wide .ensures) (k .1)) (rw (c .wide2 .ensures) (k .3))
 
-sub-reading-of-2 : tie.Need-sub-reading-of-2 Inv-loop μ-loop
-sub-reading-of-2 c = omega (arith, c .wide2 .ensures, knots (c .before .before .before .before .before .before) .2)
+four-over-requires : tie.Need-four-over-requires Inv-loop μ-loop
+four-over-requires c κs =
+    let p = point (c .before .before) in
+    (p .0, rw (c .before .low-knot .ensures .0, c .low-knot2 .ensures .0) (p .2))
 
-reading-of-requires : tie.Need-reading-of-requires Inv-loop μ-loop
-reading-of-requires c κs =
-    let k = knots (c .before .before .before .before .before .before) in old-point
-    (c .before .before .before .before .before .before .before .before .pre .0) _ _ (rw (c .before .wide .ensures) (k .1)) (rw (c .wide2 .ensures) (k .3))
+listed : (c : tie.After-four-over Inv-loop μ-loop) → AllListed (c .four-over .result)
+listed c =
+    let e = c .before .before .before in
+    let p = point e in
+    let a = e .before .before .before .before .before .before .before .before .args in
+    all-listed (a .w) (a .h) (p .4) (p .6) (a .t1) (p .0) (p .1) _ _ (c .four-over .result) (c .four-over .ensures)
+
+reading-over-requires : tie.Need-reading-over-requires Inv-loop μ-loop
+reading-over-requires c κs =
+    let f = c .before in
+    let e = f .before .before .before in
+    let t = e .before .before .before .before .before .before in
+    let k = knots t in
+    let x = f .before .before .low-knot .ensures in
+    let y = f .before .low-knot2 .ensures in
+    let m = e .before .wide .ensures in
+    let n = e .wide2 .ensures in (
+      full (t .before .before) .1,
+      listed f,
+      omega (arith, x .1, x .2, m, k .0),
+      omega (arith, x .1, x .2, m, k .0),
+      omega (arith, y .1, y .2, n, k .2),
+      omega (arith, y .1, y .2, n, k .2),
+    )
 
 -- the reading at the next blend's anchor
-taken : (c : tie.After-reading-of Inv-loop μ-loop) →
-    let t = c .before .before .before .before .before .before .before in
+taken : (c : tie.After-reading-over Inv-loop μ-loop) →
+    let t = c .before .before .before .before .before .before .before .before .before .before .before in
     let a = t .before .before .args in
-    c .reading-of .result ≡ readingAt (blendsOf (a .t1)) (take (a .t1 .count) (a .t2)) (next t .across .m - 1) (next t .up .m - 1)
-taken c = rw (c .before .before .wide .ensures, c .before .wide2 .ensures) at (c .reading-of .ensures)
+    c .reading-over .result ≡ readingAt (blendsOf (a .t1)) (take (a .t1 .count) (a .t2)) (next t .across .m - 1) (next t .up .m - 1)
+unfolding readingAt sumAt
+taken c =
+    let f = c .before .before in
+    let e = f .before .before .before in
+    let t = e .before .before .before .before .before .before in
+    let s = t .before .before in
+    let a = s .args in
+    let p = point e in
+    let k = knots t in
+    let x = f .before .before .low-knot .ensures in
+    let y = f .before .low-knot2 .ensures in
+    let m : next t .across .m - 1 + 1 ≡ e .before .wide .result = omega (arith, e .before .wide .ensures, k .0) in
+    let n : next t .up .m - 1 + 1 ≡ e .wide2 .result = omega (arith, e .wide2 .ensures, k .2) in
+    rw (m, n)
+    (c .reading-over .ensures ∙
+    table-over _ _ _ _ (omega (arith, x .1, x .2, m)) (omega (arith, y .1, y .2, n)) (a .t2) (a .w) (a .h) (p .4) (p .6) (a .t1)
+    (omega (arith, few s, full s .0)) (omega (arith, few s, full s .1)) (p .1) (f .four-over .result) (f .four-over .ensures))
 
 cast-carried : tie.Need-cast-carried Inv-loop μ-loop
 cast-carried c =
-    let t = c .before .before .before .before .before .before .before in
+    let t = c .before .before .before .before .before .before .before .before .before .before .before in
     let s = t .before .before in
     let old = s .pre .0 in
     let k = knots t in
     let x = next t in
     let u : x .across .m - 1 ≤ old .of .lines .w = rw (old .across) (k .1) in
     let v : x .up .m - 1 ≤ old .of .lines .h = rw (old .up) (k .3) in
-    let is : c .reading-of .result ≡ readingAt (blends (old .of)) (old .of .values) (x .across .m - 1) (x .up .m - 1) = rw (blends-of old, values-of old) at
+    let is : c .reading-over .result ≡ readingAt (blends (old .of)) (old .of .values) (x .across .m - 1) (x .up .m - 1) = rw (blends-of old, values-of old) at
     (taken c) in
     omega (arith, is, reading-most (old .of) (valued s) (x .across .m - 1) (x .up .m - 1) u v)
 
@@ -186,23 +231,25 @@ loop-again c =
     kept-same old (grown .rising) xs new (next t) (knots t .4) (l .j) (next-old t) _ (omega (arith, both .0, long)) (old-turn t (both .0)) (both .1)
     (omega arith) in (
       omega arith,
-      omega (arith, w .3, both .0),
+      omega (arith, w .4, both .0),
       w .1 ∙ fill t (carried old vs) _ _ (l .inv .2) (sym (getD-take (a .t1 .count) (a .t2) (l .j) 0 (both .0)) ∙ sym (same vs _)),
       w .2 ∙ fill t (keptMark old ms) _ _ (l .inv .3) (sym (getD-take (a .t1 .count) (a .t3) (l .j) 0 (both .0)) ∙ sym (same ms 0)),
-      rw (w .3) (walking-both _ _ grown (l .inv .4) (turn t) (old-turn t (both .0)) (both .1)),
+      rw (w .4) (walking-both _ _ grown (l .inv .4) (turn t) (old-turn t (both .0)) (both .1)),
     ))
     (λ w.
     let other = apart (record { before = c .before; if2 = w .0 }) in
-    let reads = taken
-    (record { before = record { before = record { before = record { before = c .before; if2 = w .0 }; wide = w .1 }; wide2 = w .2 }; reading-of = w .3 }) in
+    let at-knots : tie.After-wide2 Inv-loop μ-loop = record { before = record { before = record { before = c .before; if2 = w .0 }; wide = w .1 }; wide2 = w .2 } in
+    let at-square : tie.After-low-knot2 Inv-loop μ-loop = record { before = record { before = at-knots; low-knot = w .3 }; low-knot2 = w .4 } in
+    let found : tie.After-four-over Inv-loop μ-loop = record { before = at-square; four-over = w .5 } in
+    let reads = taken (record { before = record { before = found; values = w .6 }; reading-over = w .7 }) in
     let none-there = none-old _ _ grown (l .inv .4) (turn t) other in
     let new : (xs : List ℕ) (v : ℕ) → keptOr v old xs (next t) ≡ v = λ xs v. kept-none old (grown .rising) xs v (next t) (knots t .4) none-there in
     let n = next-new t in (
       omega arith,
-      rw (w .6) (l .inv .1),
-      w .4 ∙ fill t (carried old vs) _ _ (l .inv .2) (reads ∙ sym (new vs _)),
-      w .5 ∙ l .inv .3 ∙ fill-zero (keptMark old ms) (blendsOf (a .t4)) (l .i) none (n .0) (n .1) (rw (n .2) (new ms 0)),
-      rw (w .6) (walking-new _ _ grown (l .inv .4) (turn t) other),
+      rw (w .11) (l .inv .1),
+      w .8 ∙ fill t (carried old vs) _ _ (l .inv .2) (reads ∙ sym (new vs _)),
+      w .9 ∙ l .inv .3 ∙ fill-zero (keptMark old ms) (blendsOf (a .t4)) (l .i) none (n .0) (n .1) (rw (n .2) (new ms 0)),
+      rw (w .11) (walking-new _ _ grown (l .inv .4) (turn t) other),
     ))
     (c .if2 .came)
 
@@ -240,20 +287,18 @@ carry-spec =
     (λ c. let s = c .before .before .before .before .before .before in omega (arith, met c .0, few s))
     (λ c κs. search needs)
     (λ c κs. search needs)
-    sub-reading-of
-    sub-reading-of-2
-    reading-of-requires
+    (λ c. omega (arith, c .before .wide .ensures, knots (c .before .before .before .before .before .before) .0))
+    (λ c κs. let p = point c in search needs)
+    (λ c. omega (arith, c .before .wide2 .ensures, knots (c .before .before .before .before .before .before .before) .2))
+    (λ c κs. let p = point (c .before) in search needs)
+    four-over-requires
+    (λ c. sym (full (c .before .before .before .before .before .before .before .before .before .before .before .before) .1))
+    reading-over-requires
     cast-carried
-    (λ c. let s = c .before .before .before .before .before .before .before .before .before in omega (
-      arith,
-      c .before .before .before .before .before .before .before .loop-test .taken,
-      s .pre .1,
-    ))
-    (λ c. let s = c .before .before .before .before .before .before .before .before .before in omega (
-      arith,
-      c .before .before .before .before .before .before .before .loop-test .taken,
-      s .pre .1,
-    ))
+    (λ c. let t = c .before .before .before .before .before .before .before .before .before .before .before in
+    omega (arith, t .loop-test .taken, t .before .before .pre .1))
+    (λ c. let t = c .before .before .before .before .before .before .before .before .before .before .before in
+    omega (arith, t .loop-test .taken, t .before .before .pre .1))
     (λ c. let s = c .before .before .before .before .before .before in omega (arith, c .before .before .before .before .loop-test .taken, s .pre .1))
     (λ c. omega (arith, c .before .before .before .before .loop-test .taken))
     loop-again

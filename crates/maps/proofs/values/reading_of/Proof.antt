@@ -1,7 +1,7 @@
 -- `maps::values::reading_of` meets its contract: the reading by the four blends that are found is the sum over all blends.
 use borrow.Author.Needs.{needs}
 use native.Mathlib.Omega.{arith}
-use mathlib.Core.Path.{_≡_, _∙_}
+use mathlib.Core.Path.{_≡_, sym, _∙_}
 use lib.ListN.{length}
 use Rattle.mesh.proofs.BlendTables.{table-full}
 use Rattle.maps.specs.Values.{sumAt, readingAt}
@@ -10,6 +10,9 @@ use Rattle.maps.proofs.OverSquare.{all-listed}
 use Rattle.maps.proofs.Adding.{table-over}
 use Rattle.maps.proofs.values.reading_of.Statement.{statement}
 use Rattle.maps.proofs.values.reading_of.Tie as tie
+
+full : (s : tie.Start) → length (s .args .t2) ≡ 1024
+full s = s .good .1 .0 .1 .0 .1
 
 four-over-requires : tie.Need-four-over-requires
 four-over-requires c κs =
@@ -26,12 +29,12 @@ listed c =
 returns : tie.Need-returns
 unfolding readingAt sumAt
 returns c =
-    let f = c .before in
+    let f = c .before .before in
     let s = f .before .before .before in
     let a = s .args in
     let p = s .pre in
     let long = table-full (a .table) (s .good .0) in
-    let full : length (a .t2) ≡ 1024 = s .good .1 .0 .1 .0 .1 in
+    let values = full s in
     c .reading-over .ensures ∙
     table-over _ _ _ _ (omega arith) (omega arith) (a .t2) (a .w) (a .h) (p .4) (p .6) (a .table) (omega arith) (omega arith) (p .1)
     (f .four-over .result) (f .four-over .ensures)
@@ -43,15 +46,8 @@ reading-of-spec =
     (λ c κs. search needs)
     (λ c κs. search needs)
     four-over-requires
-    (λ c. let l = listed c in omega arith)
-    (λ c. let l = listed c in omega arith)
-    (λ c. let l = listed c in omega arith)
-    (λ c. let l = listed c in omega arith)
-    (λ c. let l = listed c in omega arith)
-    (λ c. let l = listed c in omega arith)
-    (λ c. let l = listed c in omega arith)
-    (λ c. let l = listed c in omega arith)
+    (λ c. sym (full (c .before .before .before .before)))
     (λ c. search needs)
     (λ c. search needs)
-    (λ c κs. (listed c, omega arith, omega arith, omega arith, omega arith))
+    (λ c κs. (full (c .before .before .before .before), listed (c .before), omega arith, omega arith, omega arith, omega arith))
     returns)
