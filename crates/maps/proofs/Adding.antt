@@ -74,17 +74,22 @@ module _ (x y u v : ℕ) (e : End x u) (f : End y v) (values : List ℕ) where
       (plus-nothing (times (whole c) (weight B u v 1)) _ _ (rw (weight-outside B facts x y u v e f o) (omega arith)) rest))
       (either (overSquare x y B))
 
-  -- so the portions of those over the square make the reading,
+  -- The portions have a denominator,
+  pub portions-positive : (w h : ℕ) → w ≤ 128 → h ≤ 128 → (bs : List Blend) → all (proper w h) bs ≡ true →
+      0 < total (portions x y u v values (entriesOver (overSquare x y) bs 0)) .den
+  unfolding weightAt
+  portions-positive w h hw hh bs ok =
+      total-positive _ (entriesOver (overSquare x y) bs 0)
+      (λ a m. let in-table = all-at (proper 128 128) bs (proper-most w h bs hw hh ok) (a .blend) (entry-in (overSquare x y) bs 0 a m .1) in
+      denominator-positive (a .blend) (proper-facts 128 128 (a .blend) in-table) x y)
+
+  -- so those over the square make the reading,
   pub sum-over : (w h : ℕ) → w ≤ 128 → h ≤ 128 → (bs : List Blend) (vs : List ℕ) → all (proper w h) bs ≡ true → length bs ≡ length vs →
       ((k : ℕ) → k < length vs → getD vs k 0 ≡ getD values k 0) →
       rounded (value (paired bs vs) u v 1) ≡ rounded (total (portions x y u v values (entriesOver (overSquare x y) bs 0)))
-  unfolding weightAt
   sum-over w h hw hh bs vs ok long same =
-      let most = proper-most w h bs hw hh ok in
-      rounded-same _ _ (value-positive w h bs vs (all-at (proper w h) bs ok) u v 1 (omega arith))
-      (total-positive _ (entriesOver (overSquare x y) bs 0)
-      (λ a m. denominator-positive (a .blend) (proper-facts 128 128 (a .blend) (all-at (proper 128 128) bs most (a .blend) (entry-in (overSquare x y) bs 0 a m .1))) x y))
-      (value-over bs vs 0 most long (λ k lt. same k lt ∙ ap (λ (j : ℕ). getD values j 0) (omega arith)))
+      rounded-same _ _ (value-positive w h bs vs (all-at (proper w h) bs ok) u v 1 (omega arith)) (portions-positive w h hw hh bs ok)
+      (value-over bs vs 0 (proper-most w h bs hw hh ok) long (λ k lt. same k lt ∙ ap (λ (j : ℕ). getD values j 0) (omega arith)))
 
   -- and so do those of the four that are found in a table
   pub table-over : (w h : ℕ) → w ≤ 128 → h ≤ 128 → (t : Table) → t .count ≤ length (t .blends) → t .count ≤ length values →

@@ -12,7 +12,8 @@ use lib.ListN.{length, getD}
 use Rattle.axis.specs.Fraction.{Fraction, total}
 use Rattle.axis.specs.Gap.{corner}
 use Rattle.axis.proofs.Tests.{either, and-of, all-of}
-use Rattle.axis.proofs.Gaps.{corner-end}
+use Rattle.axis.specs.Range.{all}
+use Rattle.axis.proofs.Gaps.{End, corner-end}
 use Rattle.axis.proofs.Members.{map-mem}
 use Rattle.mesh.specs.declared.Blend.{Blend}
 use Rattle.mesh.specs.Lines.{meshOf}
@@ -20,17 +21,19 @@ use Rattle.mesh.specs.Sound.{none, proper, overSquare}
 use Rattle.mesh.proofs.SoundMaps.{live-proper}
 use Rattle.maps.specs.declared.Map.{Map}
 use Rattle.maps.specs.declared.Placed.{Placed}
+use Rattle.maps.specs.declared.Reading.{Reading}
 use Rattle.maps.specs.declared.Weight.{Weight}
 use Rattle.maps.specs.declared.values.Entry.{Entry}
 use Rattle.maps.specs.Plain.{Plain, blends}
-use Rattle.maps.specs.Rounding.{rounded}
+use Rattle.maps.specs.Rounding.{rounded, Nearest}
 use Rattle.maps.specs.Values.{sumAt, readingAt, weightAt}
 use Rattle.maps.specs.Record.{recordOf, Full, plain, good}
-use Rattle.maps.specs.Calls.{shape, tablePlace, weights, weightOver}
+use Rattle.maps.specs.Calls.{shape, tablePlace, reading, weights, weightOver}
 use Rattle.maps.specs.ByWeights.{products, ByWeights}
 use Rattle.maps.specs.Inner.{entriesOver, portions}
 use Rattle.maps.proofs.OverSquare.{entries-only, entry-in}
-use Rattle.maps.proofs.Adding.{sum-over}
+use Rattle.maps.proofs.Rounding.{rounds-nearest}
+use Rattle.maps.proofs.Adding.{portions-positive, sum-over}
 use Rattle.maps.proofs.GoodRecords.{Holds, record-good, good-facts}
 use Rattle.mesh.proofs.Accepted.{replays-sides}
 use Rattle.maps.proofs.Answers.{place-listed, point-answers}
@@ -94,14 +97,44 @@ module _ {P : Plain} (holds : Holds P) (u v : ℕ) (uw : u ≤ P .lines .w) (vh 
   unfolding weights
   the-weights = rw (record-good holds .0, record-good holds .1, in-domain, entries-only test (blends P) 0)
 
-  summed : readingAt (blends P) (P .values) u v ≡
-      rounded (total (portions (corner w u + 1) (corner h v + 1) (u + 1) (v + 1) (P .values) found))
+  abbrev sums : List Fraction
+  sums = portions (corner w u + 1) (corner h v + 1) (u + 1) (v + 1) (P .values) found
+
+  sides : (1 ≤ w) × (w ≤ 128) × (1 ≤ h) × (h ≤ 128)
+  sides = replays-sides (holds .taken)
+
+  all-proper : all (proper w h) (blends P) ≡ true
+  all-proper = all-of (proper w h) (blends P) (live-proper w h (sides .0) (sides .2) (meshOf (P .lines)))
+
+  -- the point is a corner of its square
+  across : End (corner w u + 1) (u + 1)
+  across = corner-end w u (corner w u) (sides .0) uw refl
+
+  up : End (corner h v + 1) (v + 1)
+  up = corner-end h v (corner h v) (sides .2) vh refl
+
+  summed : readingAt (blends P) (P .values) u v ≡ rounded (total sums)
   unfolding readingAt sumAt
   summed =
-      let s = replays-sides (holds .taken) in
-      sum-over (corner w u + 1) (corner h v + 1) (u + 1) (v + 1) (corner-end w u (corner w u) (s .0) uw refl) (corner-end h v (corner h v) (s .2) vh refl)
-      (P .values) w h (s .1) (s .3) (blends P) (P .values) (all-of (proper w h) (blends P) (live-proper w h (s .0) (s .2) (meshOf (P .lines))))
+      sum-over (corner w u + 1) (corner h v + 1) (u + 1) (v + 1) across up (P .values) w h (sides .1) (sides .3) (blends P) (P .values) all-proper
       (sym (holds .counted)) (λ k lt. refl)
+
+  positive : 0 < total sums .den
+  positive = portions-positive (corner w u + 1) (corner h v + 1) (u + 1) (v + 1) across up (P .values) w h (sides .1) (sides .3) (blends P) all-proper
+
+  -- the products of the two calls' answers
+  abbrev told-sums : List Fraction
+  told-sums = products (map (λ i. tablePlace (recordOf P) i .value) (map (λ (a : Entry). a .place) found)) (weights (recordOf P) u v .entries)
+
+  same-sums : sums ≡ told-sums
+  same-sums =
+      sym (ap (products (map (λ i. tablePlace (recordOf P) i .value) (map (λ (a : Entry). a .place) found))) the-weights ∙
+      told-products (recordOf P) w h u v (P .values) (P .marks) found told)
+
+  answered : reading (recordOf P) u v ≡ record { number = 0; litres = rounded (total told-sums) }
+  answered =
+      point-answers P holds u v uw vh ∙
+      ap (λ (n : ℕ). record { number = 0; litres = n }) (summed ∙ ap (λ (fs : List Fraction). rounded (total fs)) same-sums)
 
   record-weights : ByWeights (recordOf P) u v
   record-weights =
@@ -111,13 +144,9 @@ module _ {P : Plain} (holds : Holds P) (u v : ℕ) (uw : u ≤ P .lines .w) (vh 
             let r = map-mem (λ (a : Entry). a .place) found i m in
             rw (r .2) (ap (λ (p : Placed). p .number) (told (r .0) (r .1)));
         same-blends = told-blends (recordOf P) w h u v (P .values) (P .marks) found told ∙ sym (ap (map (λ (e : Weight). e .blend)) the-weights);
-        is-sum =
-            point-answers P holds u v uw vh ∙
-            ap (λ (n : ℕ). record { number = 0; litres = n })
-            (summed ∙
-            ap (λ (fs : List Fraction). rounded (total fs))
-            (sym (ap (products (map (λ i. tablePlace (recordOf P) i .value) (map (λ (a : Entry). a .place) found))) the-weights ∙
-            told-products (recordOf P) w h u v (P .values) (P .marks) found told)));
+        is-sum = answered;
+        is-nearest = subst (Nearest (total told-sums)) (sym (ap (λ (r : Reading). r .litres) answered)) (rounds-nearest (total told-sums)
+            (subst (λ (fs : List Fraction). 0 < total fs .den) same-sums positive));
       }
 
 -- of every good record

@@ -19,14 +19,14 @@ module _ (S : ℕ) (pos : 0 < S) where
   twice = omega arith
 
   -- it is off by at most one half, and by less where it is below
-  pub not-above : (n : ℕ) → nearest S n * (2 * S) ≤ 2 * n + S
+  not-above : (n : ℕ) → nearest S n * (2 * S) ≤ 2 * n + S
   not-above n = let down : nearest S n * (2 * S) ≤ _ = div-mul-le-self _ (2 * S) in omega (arith, down)
 
-  pub not-below : (n : ℕ) → 2 * n < nearest S n * (2 * S) + S
+  not-below : (n : ℕ) → 2 * n < nearest S n * (2 * S) + S
   not-below n = let up : _ < nearest S n * (2 * S) + 2 * S = lt-div-mul-add twice in omega (arith, up)
 
   -- so it is below a number from which what is rounded is more than one half away,
-  pub nearest-less : (n k : ℕ) → 2 * n + S < k * (2 * S) → nearest S n < k
+  nearest-less : (n k : ℕ) → 2 * n + S < k * (2 * S) → nearest S n < k
   nearest-less n k lt = div-lt-iff-lt-mul twice .1 lt
 
   pub nearest-most : (n k : ℕ) → n ≤ k * S → nearest S n ≤ k
@@ -39,7 +39,7 @@ module _ (S : ℕ) (pos : 0 < S) where
       omega (arith, low, nearest-most (n * S) n (omega arith))
 
   -- and two numbers at most one half apart are at most one apart when both are rounded.
-  pub nearest-near : (n k : ℕ) → 2 * n ≤ 2 * k + S → nearest S n ≤ nearest S k + 1
+  nearest-near : (n k : ℕ) → 2 * n ≤ 2 * k + S → nearest S n ≤ nearest S k + 1
   nearest-near n k le =
       let lt : nearest S n < nearest S k + 2 = nearest-less n (nearest S k + 2) (omega (arith, not-below k)) in
       omega (arith, lt)

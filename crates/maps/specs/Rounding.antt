@@ -3,11 +3,11 @@ use Prim.Native.Nat.{ℕ, _+_, _-_, _*_, _/_, _≤_}
 use mathlib.Core.Path.{_≡_}
 use Rattle.axis.specs.Fraction.{Fraction}
 
--- the whole part of the number and one half
+-- the whole part of what the number and one half come to
 abbrev pub rounded : Fraction → ℕ
 rounded x = (2 * x .num + x .den) / (2 * x .den)
 
--- how far a whole number is from the fraction, times its denominator: a difference below 0 counts as 0, so one of the two is
+-- how far a whole number is from the fraction, times its denominator; `-` stops at 0, so one of the two differences is 0
 abbrev pub away : Fraction → ℕ → ℕ
 away x n = (x .num - n * x .den) + (n * x .den - x .num)
 

@@ -237,8 +237,9 @@ loop-again c =
       rw (w .4) (walking-both _ _ grown (l .inv .4) (turn t) (old-turn t (both .0)) (both .1)),
     ))
     (λ w.
-    let other = apart (record { before = c .before; if2 = w .0 }) in
-    let at-knots : tie.After-wide2 Inv-loop μ-loop = record { before = record { before = record { before = c .before; if2 = w .0 }; wide = w .1 }; wide2 = w .2 } in
+    let new-one : tie.Else2 Inv-loop μ-loop = record { before = c .before; if2 = w .0 } in
+    let other = apart new-one in
+    let at-knots : tie.After-wide2 Inv-loop μ-loop = record { before = record { before = new-one; wide = w .1 }; wide2 = w .2 } in
     let at-square : tie.After-low-knot2 Inv-loop μ-loop = record { before = record { before = at-knots; low-knot = w .3 }; low-knot2 = w .4 } in
     let found : tie.After-four-over Inv-loop μ-loop = record { before = at-square; four-over = w .5 } in
     let reads = taken (record { before = record { before = found; values = w .6 }; reading-over = w .7 }) in
