@@ -14,7 +14,8 @@ use Rattle.axis.specs.Range.{all}
 use Rattle.axis.proofs.Tests.{either, and-both, all-at, cond-true, cond-false}
 use Rattle.axis.proofs.Scale.{total-positive}
 use Rattle.axis.proofs.Sums.{multiple-equal, plus-equal, plus-nothing}
-use Rattle.axis.proofs.Gaps.{End}
+use Rattle.axis.specs.Gap.{corner}
+use Rattle.axis.proofs.Gaps.{End, corner-end}
 use Rattle.mesh.specs.declared.Blend.{Blend}
 use Rattle.mesh.specs.declared.Table.{Table}
 use Rattle.mesh.specs.Weight.{weight, value}
@@ -25,8 +26,8 @@ use Rattle.maps.specs.declared.values.Entry.{Entry}
 use Rattle.maps.specs.declared.values.Four.{Four}
 use Rattle.maps.specs.declared.values.Sum.{Sum}
 use Rattle.maps.specs.Rounding.{rounded}
-use Rattle.maps.specs.Values.{paired, weightAt}
-use Rattle.maps.specs.Inner.{entriesOver, entries, portion, portions, fractionOf, SumOf}
+use Rattle.maps.specs.Values.{paired, sumAt, readingAt, weightAt}
+use Rattle.maps.specs.Inner.{AtPoint, entriesOver, entries, portion, portions, fractionOf, SumOf}
 use Rattle.maps.proofs.Rounding.{rounded-same}
 use Rattle.maps.proofs.ExactSums.{value-positive}
 use Rattle.maps.proofs.OverSquare.{weight-shares, weight-outside, denominator-positive, entry-in}
@@ -91,12 +92,16 @@ module _ (x y u v : ℕ) (e : End x u) (f : End y v) (values : List ℕ) where
       rounded-same _ _ (value-positive w h bs vs (all-at (proper w h) bs ok) u v 1 (omega arith)) (portions-positive w h hw hh bs ok)
       (value-over bs vs 0 (proper-most w h bs hw hh ok) long (λ k lt. same k lt ∙ ap (λ (j : ℕ). getD values j 0) (omega arith)))
 
-  -- and so do those of the four that are found in a table
-  pub table-over : (w h : ℕ) → w ≤ 128 → h ≤ 128 → (t : Table) → t .count ≤ length (t .blends) → t .count ≤ length values →
-      all (proper w h) (blendsOf t) ≡ true → (four : Four) → entries four ≡ entriesOver (overSquare x y) (blendsOf t) 0 →
-      rounded (total (portions x y u v values (entries four))) ≡ rounded (value (paired (blendsOf t) (take (t .count) values)) u v 1)
-  table-over w h hw hh t long full ok four found =
-      let m = length-take-le (t .count) (t .blends) long in
-      let n = length-take-le (t .count) values full in
-      sym (sum-over w h hw hh (blendsOf t) (take (t .count) values) ok (omega arith) (λ k lt. getD-take (t .count) values k 0 (omega arith)) ∙
-      ap (λ (es : List Entry). rounded (total (portions x y u v values es))) (sym found))
+-- At a point of the domain so do those of the four that are found in the table.
+pub four-read : (w h : ℕ) (t : Table) (values : List ℕ) (u v : ℕ) → AtPoint w h t u v → length (t .blends) ≡ 1024 → length values ≡ 1024 →
+    (x y : ℕ) → x ≡ corner w u + 1 → y ≡ corner h v + 1 → (four : Four) → entries four ≡ entriesOver (overSquare x y) (blendsOf t) 0 →
+    rounded (total (portions x y (u + 1) (v + 1) values (entries four))) ≡ readingAt (blendsOf t) (take (t .count) values) u v
+unfolding readingAt sumAt
+four-read w h t values u v p long full x y is-x is-y four found =
+    let m = length-take-le (t .count) (t .blends) (omega (arith, p .0, long)) in
+    let n = length-take-le (t .count) values (omega (arith, p .0, full)) in
+    let e : End x (u + 1) = rw is-x (corner-end w u (corner w u) (p .3) (p .7) refl) in
+    let f : End y (v + 1) = rw is-y (corner-end h v (corner h v) (p .5) (p .8) refl) in
+    sym (sum-over x y (u + 1) (v + 1) e f values w h (p .4) (p .6) (blendsOf t) (take (t .count) values) (p .1) (omega arith)
+    (λ k lt. getD-take (t .count) values k 0 (omega arith)) ∙
+    ap (λ (es : List Entry). rounded (total (portions x y (u + 1) (v + 1) values es))) (sym found))

@@ -24,7 +24,7 @@ use Rattle.axis.proofs.Sums.{times-equal}
 use Rattle.axis.proofs.Triples.{rise-of}
 use Rattle.maps.specs.declared.values.Entry.{Entry}
 use Rattle.maps.specs.declared.values.Four.{Four}
-use Rattle.maps.specs.Inner.{entriesOver, entries, Listed, AllListed}
+use Rattle.maps.specs.Inner.{AtPoint, entriesOver, entries, Listed, AllListed}
 use Rattle.axis.proofs.Gaps.{End, corner-in, gap-most, gap-positive, hat-outside-step, hat-share, share-most}
 
 -- the weight of a blend at a corner of a square, over the gaps in which the square lies: both numbers are small
@@ -162,10 +162,10 @@ module _ (test other : Blend → Bool) where
       (λ (o : other B ≡ false). rw (t, o) (entries-stay bs (i + 1) (rw t at e) (rw (t, o) at le))) (either (other B)))
       (either (test B))
 
--- each of the four that are found in a table of proper blends stands in it
-pub all-listed : (w h : ℕ) → w ≤ 128 → h ≤ 128 → (t : Table) → t .count ≤ 1024 → all (proper w h) (blendsOf t) ≡ true →
-    (x y : ℕ) (f : Four) → entries f ≡ entriesOver (overSquare x y) (blendsOf t) 0 → AllListed f
-all-listed w h hw hh t few ok x y f e = (
+-- at a point of the domain each of the four that are found in the table stands in it
+pub all-listed : (w h : ℕ) (t : Table) (u v : ℕ) → AtPoint w h t u v → (x y : ℕ) (f : Four) → entries f ≡ entriesOver (overSquare x y) (blendsOf t) 0 →
+    AllListed f
+all-listed w h t u v p x y f e = (
   listed _ (List·Memᴰ·head refl),
   listed _ (List·Memᴰ·tail (List·Memᴰ·head refl)),
   listed _ (List·Memᴰ·tail (List·Memᴰ·tail (List·Memᴰ·head refl))),
@@ -176,6 +176,6 @@ all-listed w h hw hh t few ok x y f e = (
     listed a m =
         let r = entry-in (overSquare x y) (blendsOf t) 0 a (rw e at m) in
         record {
-          inside = omega (arith, r .0, length-take (t .count) (t .blends));
-          is-proper = all-at (proper 128 128) (blendsOf t) (proper-most w h (blendsOf t) hw hh ok) (a .blend) (r .1);
+          inside = omega (arith, r .0, p .0, length-take (t .count) (t .blends));
+          is-proper = all-at (proper 128 128) (blendsOf t) (proper-most w h (blendsOf t) (p .4) (p .6) (p .1)) (a .blend) (r .1);
         }

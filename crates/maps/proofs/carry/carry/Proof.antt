@@ -19,11 +19,11 @@ use Rattle.mesh.proofs.BlendTables.{table-full, blends-turn, blends-end}
 use Rattle.mesh.proofs.Cuts.{proper-facts}
 use Rattle.maps.specs.Plain.{blends}
 use Rattle.maps.specs.Values as Values
-use Rattle.maps.specs.Values.{keptOr, carried, keptMark, sumAt, readingAt}
+use Rattle.maps.specs.Values.{keptOr, carried, keptMark, readingAt}
 use Rattle.maps.specs.Inner.{AtPoint, AllListed, carriedArrays}
 use Rattle.maps.proofs.Readings.{Valued, reading-most}
 use Rattle.maps.proofs.OverSquare.{all-listed}
-use Rattle.maps.proofs.Adding.{table-over}
+use Rattle.maps.proofs.Adding.{four-read}
 use Rattle.maps.proofs.OldTable.{old-valued, count-most, blends-of, values-of, old-table, old-point, filled, fill-more, fill-zero, fill-all}
 use Rattle.maps.proofs.SideBySide.{Walking, walking-none, walking-both, walking-new, none-old, kept-same, kept-none}
 use Rattle.maps.proofs.carry.carry.Statement.{statement}
@@ -132,10 +132,7 @@ four-over-requires c κs =
 
 listed : (c : tie.After-four-over Inv-loop μ-loop) → AllListed (c .four-over .result)
 listed c =
-    let e = c .before .before .before in
-    let p = point e in
-    let a = e .before .before .before .before .before .before .before .before .args in
-    all-listed (a .w) (a .h) (p .4) (p .6) (a .t1) (p .0) (p .1) _ _ (c .four-over .result) (c .four-over .ensures)
+    all-listed _ _ _ _ _ (point (c .before .before .before)) _ _ (c .four-over .result) (c .four-over .ensures)
 
 reading-over-requires : tie.Need-reading-over-requires Inv-loop μ-loop
 reading-over-requires c κs =
@@ -160,23 +157,18 @@ taken : (c : tie.After-reading-over Inv-loop μ-loop) →
     let t = c .before .before .before .before .before .before .before .before .before .before .before in
     let a = t .before .before .args in
     c .reading-over .result ≡ readingAt (blendsOf (a .t1)) (take (a .t1 .count) (a .t2)) (next t .across .m - 1) (next t .up .m - 1)
-unfolding readingAt sumAt
 taken c =
     let f = c .before .before in
-    let e = f .before .before .before in
+    let square = f .before in
+    let e = square .before .before in
     let t = e .before .before .before .before .before .before in
     let s = t .before .before in
-    let a = s .args in
-    let p = point e in
     let k = knots t in
-    let x = f .before .before .low-knot .ensures in
-    let y = f .before .low-knot2 .ensures in
-    let m : next t .across .m - 1 + 1 ≡ e .before .wide .result = omega (arith, e .before .wide .ensures, k .0) in
-    let n : next t .up .m - 1 + 1 ≡ e .wide2 .result = omega (arith, e .wide2 .ensures, k .2) in
-    rw (m, n)
-    (c .reading-over .ensures ∙
-    table-over _ _ _ _ (omega (arith, x .1, x .2, m)) (omega (arith, y .1, y .2, n)) (a .t2) (a .w) (a .h) (p .4) (p .6) (a .t1)
-    (omega (arith, few s, full s .0)) (omega (arith, few s, full s .1)) (p .1) (f .four-over .result) (f .four-over .ensures))
+    let m : e .before .wide .result - 1 + 1 ≡ e .before .wide .result = omega (arith, e .before .wide .ensures, k .0) in
+    let n : e .wide2 .result - 1 + 1 ≡ e .wide2 .result = omega (arith, e .wide2 .ensures, k .2) in
+    let read = four-read _ _ (s .args .t1) (s .args .t2) _ _ (point e) (full s .0) (full s .1) _ _
+    (square .before .low-knot .ensures .0) (square .low-knot2 .ensures .0) (f .four-over .result) (f .four-over .ensures) in
+    rw (e .before .wide .ensures, e .wide2 .ensures) at (c .reading-over .ensures ∙ rw (m, n) at read)
 
 cast-carried : tie.Need-cast-carried Inv-loop μ-loop
 cast-carried c =

@@ -4,10 +4,9 @@ use native.Mathlib.Omega.{arith}
 use mathlib.Core.Path.{_≡_, sym, _∙_}
 use lib.ListN.{length}
 use Rattle.mesh.proofs.BlendTables.{table-full}
-use Rattle.maps.specs.Values.{sumAt, readingAt}
 use Rattle.maps.specs.Inner.{AllListed}
 use Rattle.maps.proofs.OverSquare.{all-listed}
-use Rattle.maps.proofs.Adding.{table-over}
+use Rattle.maps.proofs.Adding.{four-read}
 use Rattle.maps.proofs.values.reading_of.Statement.{statement}
 use Rattle.maps.proofs.values.reading_of.Tie as tie
 
@@ -23,21 +22,16 @@ four-over-requires c κs =
 listed : (c : tie.After-four-over) → AllListed (c .four-over .result)
 listed c =
     let s = c .before .before .before in
-    let p = s .pre in
-    all-listed (s .args .w) (s .args .h) (p .4) (p .6) (s .args .table) (p .0) (p .1) _ _ (c .four-over .result) (c .four-over .ensures)
+    all-listed _ _ _ _ _ (s .pre) _ _ (c .four-over .result) (c .four-over .ensures)
 
 returns : tie.Need-returns
-unfolding readingAt sumAt
 returns c =
     let f = c .before .before in
-    let s = f .before .before .before in
-    let a = s .args in
-    let p = s .pre in
-    let long = table-full (a .table) (s .good .0) in
-    let values = full s in
+    let k = f .before in
+    let s = k .before .before in
     c .reading-over .ensures ∙
-    table-over _ _ _ _ (omega arith) (omega arith) (a .t2) (a .w) (a .h) (p .4) (p .6) (a .table) (omega arith) (omega arith) (p .1)
-    (f .four-over .result) (f .four-over .ensures)
+    four-read _ _ (s .args .table) (s .args .t2) _ _ (s .pre) (table-full (s .args .table) (s .good .0)) (full s) _ _
+    (k .before .low-knot .ensures .0) (k .low-knot2 .ensures .0) (f .four-over .result) (f .four-over .ensures)
 
 pub reading-of-spec : {M : Type 1} → statement M
 reading-of-spec =

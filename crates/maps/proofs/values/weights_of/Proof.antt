@@ -19,7 +19,7 @@ four-over-requires c κs =
 listed : (c : tie.After-four-over) → AllListed (c .four-over .result)
 listed c =
     let s = c .before .before .before in
-    all-listed (s .args .w) (s .args .h) (s .pre .4) (s .pre .6) (s .args .table) (s .pre .0) (s .pre .1) _ _ (c .four-over .result) (c .four-over .ensures)
+    all-listed _ _ _ _ _ (s .pre) _ _ (c .four-over .result) (c .four-over .ensures)
 
 returns : tie.Need-returns
 returns c =

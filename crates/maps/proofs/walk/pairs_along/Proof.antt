@@ -15,12 +15,12 @@ use Rattle.mesh.specs.Sound.{overSquare, blendsOf}
 use Rattle.mesh.proofs.BlendTables.{table-full}
 use Rattle.maps.specs.declared.Pairs.{Pairs}
 use Rattle.maps.specs.declared.values.Four.{Four}
-use Rattle.maps.specs.Values.{sumAt, readingAt}
+use Rattle.maps.specs.Values.{readingAt}
 use Rattle.maps.specs.Pairs.{countedPairs}
 use Rattle.maps.specs.Inner.{AtPoint, entries, entriesOver, AllListed}
 use Rattle.maps.proofs.OldTable.{count-most, old-table, old-point}
 use Rattle.maps.proofs.OverSquare.{four-over, all-listed}
-use Rattle.maps.proofs.Adding.{table-over}
+use Rattle.maps.proofs.Adding.{four-read}
 use Rattle.maps.proofs.Walking.{FourOf, four-stay, in-walk, side-most, noting, noting-all, noted-on, noting-done}
 use Rattle.maps.proofs.walk.pairs_along.Statement.{statement}
 use Rattle.maps.proofs.walk.pairs_along.Tie as tie
@@ -92,9 +92,7 @@ over c =
 listed : (c : tie.Joined1 Inv-loop μ-loop) → AllListed (c .if1 .four)
 listed c =
     let e = c .before .before .before .before in
-    let p = here e in
-    let a = e .before .before .before .before .before .before .args in
-    all-listed (a .w) (a .h) (p .4) (p .6) (a .table) (p .0) (p .1) _ _ (c .if1 .four) (over c)
+    all-listed _ _ _ _ _ (here e) _ _ (c .if1 .four) (over c)
 
 reading-over-requires : tie.Need-reading-over-requires Inv-loop μ-loop
 reading-over-requires c κs =
@@ -113,7 +111,6 @@ noted-requires c κs =
     omega (arith, i .before .loop .inv .few, c .if2 .taken, short i)
 
 loop-again : tie.Need-loop-again Inv-loop μ-loop
-unfolding readingAt sumAt
 loop-again c =
     let r = c .before in
     let f = r .before .before in
@@ -124,15 +121,12 @@ loop-again c =
     let k = i .before .before .before in
     let s = k .before in
     let a = s .args in
-    let p = here e in
-    let x = f .before .before .before .low-knot .ensures in
-    let y = f .before .before .low-knot2 .ensures in
+    let square = f .before .before in
     let test = below (a .table) (a .t2) (a .row) (a .at) (a .wanted) in
     let side = k .along .result in
-    let long = table-full (a .table) (s .good .0) in
-    let whole = full s in
     let read = r .reading-over .ensures ∙
-    table-over _ _ _ _ (omega (arith, x .1, x .2)) (omega (arith, y .1, y .2)) (a .t2) (a .w) (a .h) (p .4) (p .6) (a .table) (omega arith) (omega arith) (p .1) (f .if1 .four) (over f) in
+    four-read _ _ (a .table) (a .t2) _ _ (here e) (table-full (a .table) (s .good .0)) (full s) _ _
+    (square .before .low-knot .ensures .0) (square .low-knot2 .ensures .0) (f .if1 .four) (over f) in
     let is-here : ltb (r .reading-over .result) (a .wanted) ≡ test (l .k) = rw (read, u .along2 .ensures, e .along3 .ensures) in
     let now : l .k + 1 - 1 ≡ l .k = omega arith in
     let Noted : ℕ → Type 0 = λ j. noting (l .pairs) (turnsFrom j (side - j) test) ≡ countedPairs (turnsFrom 0 side test) in
