@@ -28,6 +28,8 @@ impl Map {
 
     pub const MOST_SPLITS: usize = Lines::MOST_SPLITS;
 
+    pub const MOST_ALLOWANCE: usize = Lines::MOST_ALLOWANCE;
+
     // The fresh map of two sides; 1 with the fresh 1 by 1 map where a side is out of range.
     pub fn fresh(w: usize, h: usize) -> Changed
         ensures { λ r. ⌜ r ≡ freshMap w h ⌝ }

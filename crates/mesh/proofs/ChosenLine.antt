@@ -1,4 +1,4 @@
--- Document 01, "Values, readings, splits": the lines that a lengthened split may take are those that an exact split would be accepted with.
+-- Document 01, "Values, readings, splits": the lines that a split may take are those that an exact split would be accepted with.
 use Prim.Native.Nat.{ℕ, _≤_}
 use native.Mathlib.Omega.{arith}
 use mathlib.Core.Path.{_≡_, refl, sym, ap, subst}
@@ -75,10 +75,10 @@ candidate-exact P hw hh s c e i = (
   λ q. let f = exact-says P c q in and-of _ _ (and-of _ _ (f .0 .ends) (ap not (f .0 .apart))) (f .1),
 )
 
--- and so does the line that a lengthened split takes.
-pub chosen-exact : (P : Layout) → 1 ≤ P .w → 1 ≤ P .h → (s c : Split) (cs : List Split) → given P s ≡ 0 → chosen P s ≡ c ∷ cs →
+-- and so does the line that a split takes.
+pub chosen-exact : (P : Layout) → 1 ≤ P .w → 1 ≤ P .h → (s c : Split) (a : ℕ) (cs : List Split) → given P s ≡ 0 → chosen P s a ≡ c ∷ cs →
     exactNumber P c ≡ 0
-chosen-exact P hw hh s c cs e first =
+chosen-exact P hw hh s c a cs e first =
     let ends = ends-in P s (given-says P s e .fits) in
-    let f = chosen-least P s (omega arith) .taken c (rw first (List·Memᴰ.List·Memᴰ·head refl)) in
+    let f = chosen-least P s a (omega arith) .taken c (rw first (List·Memᴰ.List·Memᴰ·head refl)) .0 in
     candidate-exact P hw hh s c e (f .0) .0 (f .1)

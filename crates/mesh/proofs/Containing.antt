@@ -1,16 +1,17 @@
--- The lines that contain a given one are all listed, each once, so the line that a lengthened split takes is the least candidate.
+-- The lines that contain a given one are all listed, each once, so the line that a split takes is the least candidate within its allowance.
 use Prim.Native.Nat.{ℕ, _+_, _-_, _≤_, _<_}
 use native.Mathlib.Omega.{arith}
 use mathlib.Core.Path.{_≡_, refl, sym, subst, _∙_}
 use mathlib.Core.List.{List, [], _∷_, List·Memᴰ, List·Memᴰ·eq-of-singleton, List·Memᴰ·not-nil}
 use mathlib.Core.List.List·Memᴰ.{List·Memᴰ·head}
+use borrow.Author.Tests.{le-leb, leb-true}
 use Rattle.axis.specs.Range.{each, only, least, Distinct}
 use Rattle.axis.proofs.Tests.{only-mem, mem-only, each-mem, mem-each}
 use Rattle.axis.proofs.Distinct.{only-distinct, each-distinct, singleton, nothing}
 use Rattle.axis.proofs.Least.{least-says, least-of, some-least}
 use Rattle.mesh.specs.declared.Split.{Split}
 use Rattle.mesh.specs.Lines.{Layout}
-use Rattle.mesh.specs.Lengthening.{spanning, run, containing, Contains, adds, stepsOf, candidate, chosen, Candidate, Least}
+use Rattle.mesh.specs.Lengthening.{spanning, run, containing, Contains, adds, stepsOf, candidate, candidates, within, chosen, Candidate, Allowed, Least}
 
 module _ (P : Layout) (s : Split) where
   -- the lines from a start on
@@ -48,78 +49,91 @@ module _ (P : Layout) (s : Split) where
       (λ to c m. rw (List·Memᴰ·eq-of-singleton m)))
       (λ from c m. rw (List·Memᴰ·eq-of-singleton (each-mem (s .to) (run P s + 1 - s .to) (ends from) c m .3)))
 
-  -- the candidates, and those of them that add the fewest and the shortest of these
-  abbrev candidates : List Split
-  candidates = only (candidate P) (containing P s)
-
-  abbrev few : List Split
-  few = least (adds P) candidates
-
-  abbrev short : List Split
-  short = least stepsOf few
-
-  listed : (c : Split) → Candidate P s c → List·Memᴰ c candidates
+  -- The candidates are listed, each once,
+  pub listed : (c : Split) → Candidate P s c → List·Memᴰ c (candidates P s)
+  unfolding candidates
   listed c i = mem-only (candidate P) (containing P s) c (containing-complete c .1 (i .0)) (i .1)
 
-  is-candidate : (c : Split) → List·Memᴰ c candidates → Candidate P s c
+  pub is-candidate : (c : Split) → List·Memᴰ c (candidates P s) → Candidate P s c
+  unfolding candidates
   is-candidate c m = let o = only-mem (candidate P) (containing P s) c m in (containing-complete c .0 (o .0), o .1)
 
-  -- what the line taken is least of
-  record Taken (c : Split) : Type 0 where
-    there : List·Memᴰ c candidates
-    among-few : List·Memᴰ c few
-    among-short : List·Memᴰ c short
-    fewest : (b : Split) → List·Memᴰ b candidates → adds P c ≤ adds P b
-    shortest : (b : Split) → List·Memᴰ b few → stepsOf c ≤ stepsOf b
-    lowest : (b : Split) → List·Memᴰ b short → c .from ≤ b .from
+  candidates-distinct : Distinct (candidates P s)
+  unfolding candidates
+  candidates-distinct = only-distinct (candidate P) (containing P s) containing-distinct
 
-  taken-says : (c : Split) → List·Memᴰ c (chosen P s) → Taken c
-  unfolding chosen
-  taken-says c m =
-      let low = least-says (λ (b : Split). b .from) short c m in
-      let brief = least-says stepsOf few c (low .0) in
-      let scant = least-says (adds P) candidates c (brief .0) in
-      record { there = scant .0; among-few = brief .0; among-short = low .0; fewest = scant .1; shortest = brief .1; lowest = low .1 }
+  module _ (a : ℕ) where
+    -- those within the allowance, those of them that add the fewest and the shortest of these
+    abbrev close : List Split
+    close = only (within s a) (candidates P s)
 
-  as-few : (b c : Split) → Taken c → Candidate P s b → adds P b ≡ adds P c → List·Memᴰ b few
-  as-few b c t i e = least-of (adds P) candidates b (listed b i) (λ x m. omega (arith, t .fewest x m))
+    abbrev few : List Split
+    few = least (adds P) close
 
-  as-short : (b c : Split) → Taken c → Candidate P s b → adds P b ≡ adds P c → stepsOf b ≡ stepsOf c → List·Memᴰ b short
-  as-short b c t i e f = least-of stepsOf few b (as-few b c t i e) (λ x m. omega (arith, t .shortest x m))
+    abbrev short : List Split
+    short = least stepsOf few
 
-  -- two lines taken have the same ends
-  one-taken : s .from ≤ s .to → (b c : Split) → List·Memᴰ b (chosen P s) → List·Memᴰ c (chosen P s) → b ≡ c
-  one-taken rises b c m n =
-      let t = taken-says b m in
-      let u = taken-says c n in
-      let i = is-candidate b (t .there) .0 in
-      let j = is-candidate c (u .there) .0 in
-      let from : b .from ≡ c .from = omega (arith, t .lowest c (u .among-short), u .lowest b (t .among-short)) in
-      let to : b .to ≡ c .to = omega (arith, i .begins, i .ends, j .begins, j .ends, t .shortest c (u .among-few), u .shortest b (t .among-few)) in
-      contains-spanning b i ∙ (λ k. spanning s (from k) (to k)) ∙ sym (contains-spanning c j)
+    allowed-listed : (c : Split) → Allowed P s a c → List·Memᴰ c close
+    allowed-listed c i = mem-only (within s a) (candidates P s) c (listed c (i .0)) (le-leb _ _ (i .1))
 
-  chosen-distinct : Distinct (chosen P s)
-  unfolding chosen
-  chosen-distinct =
-      only-distinct _ short (only-distinct _ few (only-distinct _ candidates (only-distinct (candidate P) (containing P s) containing-distinct)))
+    is-allowed : (c : Split) → List·Memᴰ c close → Allowed P s a c
+    is-allowed c m = let o = only-mem (within s a) (candidates P s) c m in (is-candidate c (o .0), leb-true _ _ (o .1))
 
-  pub chosen-least : s .from ≤ s .to → Least P s
-  unfolding chosen
-  chosen-least rises =
-      record {
-        taken = λ c m. is-candidate c (taken-says c m .there);
-        fewest = λ b c m i. taken-says c m .fewest b (listed b i);
-        shortest = λ b c m i e. let t = taken-says c m in t .shortest b (as-few b c t i e);
-        lowest = λ b c m i e f. let t = taken-says c m in t .lowest b (as-short b c t i e f);
-        one = λ b i. let c = some b i in (c .0, singleton (c .0) (chosen P s) chosen-distinct (λ y m. one-taken rises y (c .0) m (c .1)) (c .1));
-        none = (
-          λ e b i. let c = some b i in List·Memᴰ·not-nil (subst (List·Memᴰ (c .0)) e (c .1)),
-          λ f. nothing (chosen P s) (λ c m. f c (is-candidate c (taken-says c m .there))),
-        );
-      }
-    where
-      some : (b : Split) → Candidate P s b → (c : Split) × List·Memᴰ c (chosen P s)
-      some b i =
-          let x = some-least (adds P) candidates b (listed b i) in
-          let y = some-least stepsOf few (x .0) (x .1) in
-          some-least (λ (c : Split). c .from) short (y .0) (y .1)
+    -- what the line taken is least of
+    record Taken (c : Split) : Type 0 where
+      there : List·Memᴰ c close
+      among-few : List·Memᴰ c few
+      among-short : List·Memᴰ c short
+      fewest : (b : Split) → List·Memᴰ b close → adds P c ≤ adds P b
+      shortest : (b : Split) → List·Memᴰ b few → stepsOf c ≤ stepsOf b
+      lowest : (b : Split) → List·Memᴰ b short → c .from ≤ b .from
+
+    taken-says : (c : Split) → List·Memᴰ c (chosen P s a) → Taken c
+    unfolding chosen
+    taken-says c m =
+        let low = least-says (λ (b : Split). b .from) short c m in
+        let brief = least-says stepsOf few c (low .0) in
+        let scant = least-says (adds P) close c (brief .0) in
+        record { there = scant .0; among-few = brief .0; among-short = low .0; fewest = scant .1; shortest = brief .1; lowest = low .1 }
+
+    as-few : (b c : Split) → Taken c → Allowed P s a b → adds P b ≡ adds P c → List·Memᴰ b few
+    as-few b c t i e = least-of (adds P) close b (allowed-listed b i) (λ x m. omega (arith, t .fewest x m))
+
+    as-short : (b c : Split) → Taken c → Allowed P s a b → adds P b ≡ adds P c → stepsOf b ≡ stepsOf c → List·Memᴰ b short
+    as-short b c t i e f = least-of stepsOf few b (as-few b c t i e) (λ x m. omega (arith, t .shortest x m))
+
+    -- two lines taken have the same ends
+    one-taken : s .from ≤ s .to → (b c : Split) → List·Memᴰ b (chosen P s a) → List·Memᴰ c (chosen P s a) → b ≡ c
+    one-taken rises b c m n =
+        let t = taken-says b m in
+        let u = taken-says c n in
+        let i = is-allowed b (t .there) .0 .0 in
+        let j = is-allowed c (u .there) .0 .0 in
+        let from : b .from ≡ c .from = omega (arith, t .lowest c (u .among-short), u .lowest b (t .among-short)) in
+        let to : b .to ≡ c .to = omega (arith, i .begins, i .ends, j .begins, j .ends, t .shortest c (u .among-few), u .shortest b (t .among-few)) in
+        contains-spanning b i ∙ (λ k. spanning s (from k) (to k)) ∙ sym (contains-spanning c j)
+
+    chosen-distinct : Distinct (chosen P s a)
+    unfolding chosen
+    chosen-distinct = only-distinct _ short (only-distinct _ few (only-distinct _ close (only-distinct (within s a) (candidates P s) candidates-distinct)))
+
+    pub chosen-least : s .from ≤ s .to → Least P s a
+    unfolding chosen
+    chosen-least rises =
+        record {
+          taken = λ c m. is-allowed c (taken-says c m .there);
+          fewest = λ b c m i. taken-says c m .fewest b (allowed-listed b i);
+          shortest = λ b c m i e. let t = taken-says c m in t .shortest b (as-few b c t i e);
+          lowest = λ b c m i e f. let t = taken-says c m in t .lowest b (as-short b c t i e f);
+          one = λ b i. let c = some b i in (c .0, singleton (c .0) (chosen P s a) chosen-distinct (λ y m. one-taken rises y (c .0) m (c .1)) (c .1));
+          none = (
+            λ e b i. let c = some b i in List·Memᴰ·not-nil (subst (List·Memᴰ (c .0)) e (c .1)),
+            λ f. nothing (chosen P s a) (λ c m. f c (is-allowed c (taken-says c m .there))),
+          );
+        }
+      where
+        some : (b : Split) → Allowed P s a b → (c : Split) × List·Memᴰ c (chosen P s a)
+        some b i =
+            let x = some-least (adds P) close b (allowed-listed b i) in
+            let y = some-least stepsOf few (x .0) (x .1) in
+            some-least (λ (c : Split). c .from) short (y .0) (y .1)

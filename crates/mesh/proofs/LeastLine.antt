@@ -1,18 +1,20 @@
--- The least sound line: of the candidates one lies in all the others and adds the fewest live blends, and a lengthened split takes it.
+-- The least sound line: of the candidates one lies in all the others and adds the fewest live blends. A split takes it, or none where the allowance is less.
 use Prim.Native.Nat.{ℕ, _+_, _<_}
 use native.Mathlib.Omega.{arith}
 use mathlib.Core.Path.{_≡_, refl, sym, ap, subst, _∙_}
 use mathlib.Core.Logic.{_⊎_, inl, inr, ⊎-elim}
-use mathlib.Core.Bool.{not}
+use mathlib.Core.Bool.{cond, not}
 use mathlib.Core.List.{[], _∷_, List·Memᴰ}
 use mathlib.Core.List.List·Memᴰ.{List·Memᴰ·head}
+use borrow.Author.Tests.{le-leb, lt-leb}
 use lib.ListN.{length, length-map}
 use Rattle.axis.specs.Range.{only}
 use Rattle.axis.specs.Triple.{Side, lower, upper}
-use Rattle.axis.proofs.Runs.{if-equal}
+use Rattle.axis.proofs.Tests.{cond-true, cond-false}
+use Rattle.axis.proofs.Runs.{if-at-most, if-equal}
 use Rattle.mesh.specs.Lines.{direction, Layout}
 use Rattle.mesh.specs.Splits.{liveOf, withLine, given}
-use Rattle.mesh.specs.Lengthening.{spanning, Contains, adds, known, newAnchors, stepsOf, chosen, Candidate}
+use Rattle.mesh.specs.Lengthening.{spanning, Contains, adds, known, newAnchors, stepsOf, within, chosen, Candidate, Allowed, Least}
 use Rattle.mesh.specs.Crossings.{anchor}
 use Rattle.mesh.specs.Ends.{nearestGood, LeastSoundLine}
 use Rattle.mesh.specs.declared.Split.{Split}
@@ -81,16 +83,30 @@ module _ (P : Layout) (built : Built P) (s : Split) (passes : given P s ≡ 0) w
       inl ((λ k. spanning n (from k) (to k)) ∙ sym (contains-spanning P n c o)))
       (λ ne. inr (omega (arith, own .begins, own .ends, o .begins, o .ends)))
 
-  -- and it is the line taken.
-  is-taken : chosen P s ≡ nearestGood P s ∷ []
-  is-taken =
-      let least = chosen-least P s (omega (arith, ends-in P s (g .fits))) in
-      let own = nearest-candidate P built s passes in
-      let f = least .one (nearestGood P s) own in
-      let there : List·Memᴰ (f .0) (chosen P s) = subst (List·Memᴰ (f .0)) (sym (f .1)) (List·Memᴰ·head refl) in
-      let is : nearestGood P s ≡ f .0 =
-      ⊎-elim (λ q. q) (λ lt. absurd (omega (arith, least .fewest (nearestGood P s) (f .0) there own))) (fewest-alone (f .0) (least .taken (f .0) there)) in
-      f .1 ∙ ap (λ (c : Split). c ∷ []) (sym is)
+  -- and within an allowance it is the line taken, or none is.
+  is-taken : (a : ℕ) → chosen P s a ≡ cond (within s a (nearestGood P s)) (nearestGood P s ∷ []) []
+  is-taken a =
+      if-at-most (stepsOf n) (stepsOf s + a)
+      (λ le. let f = least .one n (own, le) in
+      let there : List·Memᴰ (f .0) (chosen P s a) = subst (List·Memᴰ (f .0)) (sym (f .1)) (List·Memᴰ·head refl) in
+      let is : n ≡ f .0 =
+      ⊎-elim (λ q. q) (λ lt. absurd (omega (arith, least .fewest n (f .0) there (own, le)))) (fewest-alone (f .0) (least .taken (f .0) there .0)) in
+      f .1 ∙ ap (λ (c : Split). c ∷ []) (sym is) ∙ sym (cond-true _ _ _ (le-leb _ _ le)))
+      (λ gt. least .none .1 (too-long gt) ∙ sym (cond-false _ _ _ (lt-leb _ _ gt)))
+    where
+      n : Split
+      n = nearestGood P s
+
+      own : Candidate P s (nearestGood P s)
+      own = nearest-candidate P built s passes
+
+      least : Least P s a
+      least = chosen-least P s a (omega (arith, ends-in P s (g .fits)))
+
+      too-long : stepsOf s + a < stepsOf (nearestGood P s) → (b : Split) → Allowed P s a b → ⊥
+      too-long gt b i =
+          let shorter = shortest-alone b (i .0) in
+          ⊎-elim (λ q. omega (arith, i .1, ap stepsOf q)) (λ lt. omega (arith, i .1)) shorter
 
   pub least-sound-line : LeastSoundLine P s
   least-sound-line =

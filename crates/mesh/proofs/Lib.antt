@@ -32,6 +32,7 @@ pub mod TwoLooks
 pub mod MoreBlends
 pub mod LeastLine
 pub mod Accepted
+pub mod Allowance
 pub mod Holding
 pub mod Reaching
 pub mod Noting

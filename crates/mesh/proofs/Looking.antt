@@ -1,24 +1,25 @@
--- Two looks at the notes tell whether an end is good; and the search of a lengthened split, which has not passed the line between the nearest good ends.
+-- Two looks at the notes tell whether an end is good; and the search of a split, which has not passed the line between the nearest good ends.
 use Prim.Native.Nat.{ℕ, _+_, _-_, _≤_, _<_}
 use native.Mathlib.Omega.{arith}
 use mathlib.Core.Path.{_≡_, refl, sym, ap, subst, _∙_}
 use mathlib.Core.Logic.{_⊎_, inl, inr, ⊎-elim}
 use mathlib.Core.Bool.{Bool, true, false, _&&_, _||_}
 use mathlib.Core.List.{List}
+use borrow.Author.Tests.{le-leb, lt-leb}
 use lib.ListN.{length, getD}
 use Rattle.axis.specs.Range.{any}
 use Rattle.axis.specs.Triple.{Side, lower, upper}
-use Rattle.axis.proofs.Tests.{true-not-false, and-both, and-of}
+use Rattle.axis.proofs.Tests.{true-not-false, and-both, and-of, cond-true, cond-false}
 use Rattle.axis.proofs.Runs.{if-at-most, if-equal}
-use Rattle.mesh.specs.Lines.{Direction, upright, level, direction, other, side, mesh, Layout, layout}
+use Rattle.mesh.specs.Lines.{Direction, direction, other, side, mesh, Layout, layout}
 use Rattle.mesh.specs.Blends.{live}
 use Rattle.mesh.specs.Lengthening.{spanning, stepsOf}
 use Rattle.mesh.specs.Ends.{gapEnds, abreast, goodEnd, goodEnds, nearestGood}
 use Rattle.mesh.specs.Replay.{Replays}
 use Rattle.mesh.specs.Bytes.{Rows, bytesMesh}
-use Rattle.mesh.specs.Carried.{Noted, Searches, alike, looksGood, looksSound}
+use Rattle.mesh.specs.Carried.{Noted, Searches, alike, looksGood, looksSound, toldOf, foundBy}
 use Rattle.mesh.specs.declared.Split.{Split}
-use Rattle.mesh.proofs.Ranges.{in-range-small, in-range-rows}
+use Rattle.mesh.proofs.Ranges.{side-most, in-range-small, in-range-rows}
 use Rattle.mesh.proofs.Passing.{Given, given-says, ends-in}
 use Rattle.mesh.proofs.GoodEnds.{gap-good}
 use Rattle.mesh.proofs.TwoLooks.{low-end, high-end}
@@ -58,15 +59,11 @@ module _ {w h : ℕ} {ss : List Split} (taken : Replays (layout w h ss)) (s : Sp
   unfolding goodEnds
   looks-sound c way place = rw (way, place, looks-good lower (c .from + 1), looks-good upper (c .to + 1))
 
-side-small : (d : Direction) (w h : ℕ) → w ≤ 128 → h ≤ 128 → side d w h ≤ 128
-side-small upright w h wide high = wide
-side-small level w h wide high = high
-
 -- the lines of so many unit steps from a start on are not past a line, by length and then by start
 abbrev pub Ahead : Split → ℕ → ℕ → Type 0
 Ahead c steps from = (steps < stepsOf c) ⊎ ((steps ≡ stepsOf c) × (from ≤ c .from))
 
--- a lengthened split's search
+-- a split's search
 module _ {uprights levels lows highs : List ℕ} {run : ℕ} {s : Split} (i : Searches uprights levels lows highs run s) where
   abbrev P : Layout
   P = layout (i .w) (i .h) (i .splits)
@@ -86,7 +83,7 @@ module _ {uprights levels lows highs : List ℕ} {run : ℕ} {s : Split} (i : Se
       let small = in-range-small (i .w) (i .h) s (g .fits) (a .1) (a .3) in
       let ends = ends-in P s (g .fits) in
       let along = i .along in
-      (small .position, ends .0, omega arith, omega (arith, side-small (other (direction (s .direction))) (i .w) (i .h) (a .1) (a .3)))
+      (small .position, ends .0, omega arith, omega (arith, side-most (other (direction (s .direction))) (a .1) (a .3)))
 
   pub search-rows : Rows (s .position + 2) uprights × Rows (s .position + 2) levels
   search-rows =
@@ -156,15 +153,21 @@ module _ {uprights levels lows highs : List ℕ} {run : ℕ} {s : Split} (i : Se
   pub search-leaves : (steps from : ℕ) → Ahead nearest steps from → s .from < from → steps + 1 ≤ stepsOf nearest
   search-leaves steps from ahead past = ⊎-elim (λ lt. omega arith) (λ r. absurd (omega (arith, nearest-low .0))) ahead
 
-  -- a line between good ends is the one, and the search does not end without it
-  pub search-finds : (steps from : ℕ) → Ahead nearest steps from → from ≤ s .from → s .to ≤ from + steps → looks (spanning s from (from + steps)) ≡ true →
+  -- a line between good ends is the one, and where the search ends without it, it is too long
+  is-found : (steps from : ℕ) → Ahead nearest steps from → from ≤ s .from → s .to ≤ from + steps → looks (spanning s from (from + steps)) ≡ true →
       spanning s from (from + steps) ≡ nearest
-  search-finds steps from ahead begins ends t =
+  is-found steps from ahead begins ends t =
       let r = reaches (spanning s from (from + steps)) refl refl begins ends t in
       let low = nearest-low .0 in
       let high = nearest-high .0 in
       let sizes = search-sizes in
       ⊎-elim (λ lt. absurd (omega arith)) (λ f. is-nearest steps from (f .0) (omega arith)) ahead
 
-  pub search-ends : (steps : ℕ) → steps ≤ stepsOf nearest → run < steps → ⊥
-  search-ends steps le past = omega (arith, nearest-high .1)
+  pub search-finds : (steps longest from : ℕ) → Ahead nearest steps from → from ≤ s .from → s .to ≤ from + steps → steps ≤ longest →
+      looks (spanning s from (from + steps)) ≡ true → toldOf 0 (spanning s from (from + steps)) ≡ foundBy s longest nearest
+  search-finds steps longest from ahead begins ends le t =
+      let is = is-found steps from ahead begins ends t in
+      ap (toldOf 0) is ∙ sym (cond-true _ _ _ (le-leb (stepsOf nearest) longest (omega (arith, ap stepsOf is))))
+
+  pub search-ends : (steps longest : ℕ) → steps ≤ stepsOf nearest → longest < steps → toldOf 8 s ≡ foundBy s longest nearest
+  search-ends steps longest le past = sym (cond-false _ _ _ (lt-leb (stepsOf nearest) longest (omega arith)))

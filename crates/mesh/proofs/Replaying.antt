@@ -1,24 +1,27 @@
--- The splits of lines, one step after the other; and one split more, as given or lengthened.
+-- The splits of lines, one step after the other; and one split more, within an allowance.
 use Prim.Native.Nat.{ℕ, _+_, _*_, _≤_, _<_}
 use native.Mathlib.Omega.{arith}
 use native.Mathlib.Numerals.{add-one}
 use mathlib.Core.Path.{_≡_, refl, sym, ap, _∙_}
+use mathlib.Core.Logic.{⊎-elim}
 use mathlib.Core.Bool.{Bool, true, false, cond, _&&_}
 use mathlib.Core.List.{List, [], _∷_, _++_}
-use borrow.Author.Tests.{le-leb, lt-leb, eq-eqb, ne-eqb}
+use borrow.Author.Tests.{le-leb, lt-leb, le-ltb, lt-ltb, eq-eqb, ne-eqb}
 use lib.Dec.{eqb, leb}
 use lib.ListN.{length, getD, take, drop, replicate, length-replicate}
 use lib.Seq.{take-suc, length-take-le}
-use Rattle.axis.proofs.Tests.{and-first, and-last, cond-false}
+use Rattle.axis.specs.Limits.{mostAllowance}
+use Rattle.axis.proofs.Tests.{either, and-first, and-last, cond-true, cond-false}
+use Rattle.axis.proofs.Runs.{if-at-most, if-equal}
 use Rattle.axis.proofs.Entries.{left-turn, left-none}
 use Rattle.mesh.specs.Lines.{direction, other, side, allowedSide, Layout, layout, splitsOf, layoutOf}
 use Rattle.mesh.specs.Sound.{table}
-use Rattle.mesh.specs.Splits.{given, exactNumber, accepted}
-use Rattle.mesh.specs.Lengthening.{chosen}
-use Rattle.mesh.specs.Ends.{nearestGood}
-use Rattle.mesh.specs.Replay.{replays, Replays, replayed, notReplayed, refusedStep, drawnStep, exactStep, lengthenedStep}
+use Rattle.mesh.specs.Splits.{given, asked, exactNumber, accepted}
+use Rattle.mesh.specs.Lengthening.{stepsOf}
+use Rattle.mesh.specs.Ends.{goodEnds, nearestGood}
+use Rattle.mesh.specs.Replay.{replays, Replays, replayed, notReplayed, refusedStep, splitStep}
 use Rattle.mesh.specs.Bytes.{Tall, Zeros, walk}
-use Rattle.mesh.specs.Carried.{Carried, Cleared, unlinked, Noted, Searches, verdict}
+use Rattle.mesh.specs.Carried.{Carried, Cleared, unlinked, Noted, Searches, toldOf, foundBy, verdict}
 use Rattle.mesh.specs.declared.Split.{Split}
 use Rattle.mesh.specs.declared.Lines.{Lines}
 use Rattle.mesh.specs.declared.Table.{Table}
@@ -26,8 +29,10 @@ use Rattle.mesh.specs.declared.Step.{Step}
 use Rattle.mesh.specs.declared.splits.Verdict.{Verdict}
 use Rattle.mesh.proofs.Drawing.{blank}
 use Rattle.mesh.proofs.ChosenLine.{chosen-exact}
+use Rattle.mesh.proofs.TwoLooks.{two-looks}
 use Rattle.mesh.proofs.LeastLine.{least-sound-line}
 use Rattle.mesh.proofs.Accepted.{replays-stands, replays-sides}
+use Rattle.mesh.proofs.Allowance.{exact-nearest, nearest-exact}
 use Rattle.mesh.proofs.Stepping.{carried-walk}
 
 -- tables of n zeros are cleared, where n entries are the rows of both sides
@@ -41,6 +46,59 @@ cleared w h n lw lh =
       tall = tall;
       no-place = none;
     }
+
+-- What a split comes to: refused with 3 to 7, or found within the allowance.
+module _ (P : Layout) (s : Split) where
+  pub verdict-refused : (a : ℕ) {n : ℕ} → n ≡ given P s → (n ≡ 0 → ⊥) → toldOf n s ≡ verdict P s a
+  verdict-refused a e ne = rw (← e, ne-eqb _ 0 ne)
+
+  pub verdict-found : (a : ℕ) → given P s ≡ 0 → {v : Verdict} → v ≡ foundBy s (stepsOf s + a) (nearestGood P s) → v ≡ verdict P s a
+  verdict-found a e is = is ∙ sym (cond-true _ _ _ (eq-eqb _ _ e))
+
+  -- an accepted one has passed, and draws the line between the nearest good ends, which is not too long
+  pub verdict-says : (a : ℕ) {v : Verdict} → v ≡ verdict P s a → v .number ≡ 0 →
+      (given P s ≡ 0) × (stepsOf (nearestGood P s) ≤ stepsOf s + a) × (v ≡ toldOf 0 (nearestGood P s))
+  verdict-says a {v} is none =
+      if-equal (given P s) 0
+      (λ e. let found = is ∙ cond-true _ _ _ (eq-eqb _ _ e) in
+      if-at-most (stepsOf (nearestGood P s)) (stepsOf s + a) (λ le. (e, le, found ∙ cond-true _ _ _ (le-leb _ _ le)))
+      (λ gt. absurd (omega (arith, none, ap (λ (u : Verdict). u .number) (found ∙ cond-false _ _ _ (lt-leb _ _ gt))))))
+      (λ ne. absurd (ne (sym (ap (λ (u : Verdict). u .number) (is ∙ cond-false _ _ _ (ne-eqb _ 0 ne))) ∙ none)))
+
+  not-given : (given P s ≡ 0 → ⊥) → exactNumber P s ≡ given P s
+  unfolding exactNumber
+  not-given ne = cond-false _ _ _ (ne-eqb _ 0 ne)
+
+  module _ (taken : Replays P) where
+    not-exact : given P s ≡ 0 → (exactNumber P s ≡ 0 → ⊥) → exactNumber P s ≡ 8
+    not-exact e ne =
+        let is = two-looks P (replays-stands taken .built) s e .refused in
+        ⊎-elim (λ t. absurd (ne (is ∙ rw t))) (λ f. is ∙ rw f) (either (goodEnds P s))
+
+    -- with no allowance it is the exact split,
+    pub verdict-exact : verdict P s 0 .number ≡ exactNumber P s
+    verdict-exact =
+        if-equal (given P s) 0
+        (λ e. ap (λ (v : Verdict). v .number) (cond-true _ _ _ (eq-eqb _ _ e)) ∙
+        if-at-most (stepsOf (nearestGood P s)) (stepsOf s)
+        (λ le. ap (λ (v : Verdict). v .number) (cond-true _ _ _ (le-leb (stepsOf (nearestGood P s)) (stepsOf s + 0) (omega arith))) ∙ sym (nearest-exact P taken s e le))
+        (λ gt. ap (λ (v : Verdict). v .number) (cond-false _ _ _ (lt-leb (stepsOf (nearestGood P s)) (stepsOf s + 0) (omega arith))) ∙
+        sym (not-exact e (λ z. omega (arith, ap stepsOf (exact-nearest P taken s e z))))))
+        (λ ne. ap (λ (v : Verdict). v .number) (cond-false _ _ _ (ne-eqb _ 0 ne)) ∙ sym (not-given ne))
+
+    pub verdict-line : {v : Verdict} → v ≡ verdict P s 0 → v .number ≡ 0 → v .line ≡ s
+    verdict-line is none =
+        let f = verdict-says 0 is none in
+        ap (λ (u : Verdict). u .line) (f .2) ∙ exact-nearest P taken s (f .0) (nearest-exact P taken s (f .0) (omega (arith, f .1)))
+
+    -- and its line is accepted as one
+    pub verdict-accepted : (a : ℕ) {v : Verdict} → v ≡ verdict P s a → v .number ≡ 0 → exactNumber P (v .line) ≡ 0
+    verdict-accepted a is none =
+        let f = verdict-says a is none in
+        let sides = replays-sides taken in
+        rw (f .2)
+        (chosen-exact P (sides .0) (sides .2) s (nearestGood P s) a [] (f .0)
+        (least-sound-line P (replays-stands taken .built) s (f .0) .taken a ∙ cond-true _ _ _ (le-leb _ _ (f .1))))
 
 -- Part of the way through: the map of the first i splits is carried, and the splits that are left decide.
 pub record Replaying (L : Lines) (i : ℕ) (ups lvs cols rows places : List ℕ) : Type 0 where
@@ -88,9 +146,9 @@ module _ {L : Lines} {i : ℕ} {ups lvs cols rows places : List ℕ} (r : Replay
         r .decides ∙ rw (left-turn (L .splits) (L .count) i (omega arith) blank lt)
 
     -- a split is refused, or one more is taken
-    module _ {v : Verdict} (is : v ≡ verdict false (layout (L .w) (L .h) (take i (L .splits))) this) where
+    module _ {v : Verdict} (is : v ≡ verdict (layout (L .w) (L .h) (take i (L .splits))) this 0) where
       by-number : v .number ≡ exactNumber (layout (L .w) (L .h) (take i (L .splits))) this
-      by-number = ap (λ (u : Verdict). u .number) is
+      by-number = ap (λ (u : Verdict). u .number) is ∙ verdict-exact _ this (r .carried .taken)
 
       pub replay-stop : (v .number ≡ 0 → ⊥) → notReplayed ≡ replayed L
       replay-stop ne =
@@ -103,7 +161,7 @@ module _ {L : Lines} {i : ℕ} {ups lvs cols rows places : List ℕ} (r : Replay
             within = omega arith;
             few = r .few;
             room = r .room;
-            carried = rw (is, longer) at next;
+            carried = rw (verdict-line _ this (r .carried .taken) is z, longer) at next;
             decides = turn ∙ rw (eq-eqb _ 0 (sym by-number ∙ z), longer);
           }
 
@@ -124,62 +182,46 @@ abbrev pub searches : {w h : ℕ} {ss : List Split} {ups lvs cols rows places lo
 searches {w} {h} {ss} {ups} {lvs} {cols} {rows} {places} now n e along =
     record { w = w; h = h; splits = ss; columns = cols; rows = rows; places = places; carried = now; noted = n; passes = e; along = along }
 
--- What a split comes to: refused with 3 to 7; lengthened; or as given.
-module _ (P : Layout) (s : Split) where
-  pub verdict-refused : (lengthen : Bool) {n : ℕ} → n ≡ given P s → (n ≡ 0 → ⊥) → _≡_ {A = Verdict} (record { number = n; line = s }) (verdict lengthen P s)
-  unfolding exactNumber
-  verdict-refused true e ne = rw (← e, ne-eqb _ 0 ne)
-  verdict-refused false e ne = rw (← e, ne-eqb _ 0 ne)
-
-  pub verdict-longer : {lengthen : Bool} → lengthen ≡ true → given P s ≡ 0 → {line : Split} → line ≡ nearestGood P s →
-      _≡_ {A = Verdict} (record { number = 0; line = line }) (verdict lengthen P s)
-  verdict-longer on e is = rw (on, e, is)
-
-  pub verdict-exact : {lengthen : Bool} → lengthen ≡ false → {n : ℕ} → exactNumber P s ≡ n →
-      _≡_ {A = Verdict} (record { number = n; line = s }) (verdict lengthen P s)
-  verdict-exact off e = rw (off, e)
-
-  module _ (taken : Replays P) where
-    -- a lengthened split that passes takes the line between the nearest good ends, which is accepted as an exact split
-    is-chosen : given P s ≡ 0 → chosen P s ≡ nearestGood P s ∷ []
-    is-chosen e = least-sound-line P (replays-stands taken .built) s e .taken
-
-    accepted-line : (lengthen : Bool) → verdict lengthen P s .number ≡ 0 → exactNumber P (verdict lengthen P s .line) ≡ 0
-    accepted-line true e = let a = replays-sides taken in rw e (chosen-exact P (a .0) (a .2) s (nearestGood P s) [] e (is-chosen e))
-    accepted-line false e = e
-
-    pub verdict-accepted : (lengthen : Bool) {v : Verdict} → v ≡ verdict lengthen P s → v .number ≡ 0 → exactNumber P (v .line) ≡ 0
-    verdict-accepted lengthen is none = rw is (accepted-line lengthen (rw is at none))
-
--- the notes for the split are those for its line, and for the one between the nearest good ends
+-- the notes for the split are those for the line between the nearest good ends
 module _ {w h : ℕ} {ss : List Split} {s : Split} {lows highs : List ℕ} (n : Noted w h ss s lows highs) {line : Split} where
-  pub noted-line : line ≡ s → Noted w h ss line lows highs
-  noted-line is = rw is n
-
   pub noted-nearest : line ≡ nearestGood (layout w h ss) s → Noted w h ss line lows highs
   unfolding nearestGood
   noted-nearest is = rw is (record { is-low = n .is-low; is-high = n .is-high })
 
 -- One split more, on lines that were replayed: what a refusal and a drawn line come to.
 module _ (L : Lines) (t : Table) (s : Split) where
-  pub verdict-told : (lengthen : Bool) {v : Verdict} → v ≡ verdict lengthen (layoutOf L) s → (v .number ≡ 0 → ⊥) →
-      refusedStep t (v .number) s ≡ cond lengthen (lengthenedStep L t s) (exactStep L t s)
-  unfolding exactStep lengthenedStep
-  verdict-told true {v} is ne = let e : v .number ≡ given (layoutOf L) s = ap (λ (u : Verdict). u .number) is in rw (← e, ne-eqb _ 0 ne)
-  verdict-told false {v} is ne = let e : v .number ≡ exactNumber (layoutOf L) s = ap (λ (u : Verdict). u .number) is in rw (← e, ne-eqb _ 0 ne)
+  pub split-beyond : (a : ℕ) → mostAllowance < a → refusedStep t 3 s ≡ splitStep L t s a
+  unfolding splitStep asked
+  split-beyond a lt = rw (lt-ltb _ _ lt)
 
-  pub verdict-drawn : Replays (layoutOf L) → (lengthen : Bool) {v : Verdict} → v ≡ verdict lengthen (layoutOf L) s → v .number ≡ 0 →
-      {ups lvs cols rows places : List ℕ} {new : Table} → Carried (L .w) (L .h) (splitsOf L ++ v .line ∷ []) ups lvs cols rows places →
-      new ≡ table (walk (L .w) (L .h) places) →
-      _≡_ {A = Step} (record { number = 0; split = v .line; table = new }) (cond lengthen (lengthenedStep L t s) (exactStep L t s))
-  unfolding exactStep lengthenedStep
-  verdict-drawn taken lengthen {v} is none now e =
-      ap (λ (x : Table). record { number = 0; split = v .line; table = x }) (e ∙ ap table (carried-walk now)) ∙ by lengthen is
-    where
-      by : (lengthen : Bool) → v ≡ verdict lengthen (layoutOf L) s → drawnStep L (v .line) ≡ cond lengthen (lengthenedStep L t s) (exactStep L t s)
-      by true is =
-          let passes : given (layoutOf L) s ≡ 0 = sym (ap (λ (u : Verdict). u .number) is) ∙ none in
-          rw (is, passes, is-chosen (layoutOf L) s taken passes)
-      by false is =
-          let ok : exactNumber (layoutOf L) s ≡ 0 = sym (ap (λ (u : Verdict). u .number) is) ∙ none in
-          rw (is, ok)
+  module _ (a : ℕ) (few : a ≤ mostAllowance) where
+    asked-given : asked (layoutOf L) s a ≡ given (layoutOf L) s
+    unfolding asked
+    asked-given = cond-false _ _ _ (le-ltb _ _ few)
+
+    pub verdict-told : Replays (layoutOf L) → {v : Verdict} → v ≡ verdict (layoutOf L) s a → (v .number ≡ 0 → ⊥) →
+        refusedStep t (v .number) s ≡ splitStep L t s a
+    unfolding splitStep
+    verdict-told taken {v} is ne =
+        if-equal (given (layoutOf L) s) 0
+        (λ e. let n = nearestGood (layoutOf L) s in
+        let found = is ∙ cond-true _ _ _ (eq-eqb _ _ e) in
+        if-at-most (stepsOf n) (stepsOf s + a)
+        (λ le. absurd (ne (ap (λ (u : Verdict). u .number) (found ∙ cond-true _ _ _ (le-leb _ _ le)))))
+        (λ gt. rw (
+          asked-given,
+          e,
+          found,
+          least-sound-line (layoutOf L) (replays-stands taken .built) s e .taken a,
+          lt-leb _ _ gt,
+        )))
+        (λ no. rw (asked-given, is, ne-eqb (given (layoutOf L) s) 0 no))
+
+    pub verdict-drawn : Replays (layoutOf L) → {v : Verdict} → v ≡ verdict (layoutOf L) s a → v .number ≡ 0 →
+        {ups lvs cols rows places : List ℕ} {new : Table} → Carried (L .w) (L .h) (splitsOf L ++ v .line ∷ []) ups lvs cols rows places →
+        new ≡ table (walk (L .w) (L .h) places) → _≡_ {A = Step} (record { number = 0; split = v .line; table = new }) (splitStep L t s a)
+    unfolding splitStep
+    verdict-drawn taken {v} is none now e =
+        let f = verdict-says (layoutOf L) s a is none in
+        ap (λ (x : Table). record { number = 0; split = v .line; table = x }) (e ∙ ap table (carried-walk now)) ∙
+        rw (asked-given, f .0, f .2, least-sound-line (layoutOf L) (replays-stands taken .built) s (f .0) .taken a, le-leb _ _ (f .1))

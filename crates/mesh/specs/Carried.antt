@@ -11,7 +11,8 @@ use Rattle.axis.specs.Range.{each, only}
 use Rattle.axis.specs.Triple.{Side, lower, upper, knotIn}
 use Rattle.mesh.specs.Lines.{Direction, upright, level, direction, other, side, Mesh, mesh, Layout, layout}
 use Rattle.mesh.specs.Blends.{crossed, along, anchored, at, live}
-use Rattle.mesh.specs.Splits.{given, exactNumber}
+use Rattle.mesh.specs.Splits.{given}
+use Rattle.mesh.specs.Lengthening.{stepsOf}
 use Rattle.mesh.specs.Replay.{Replays}
 use Rattle.mesh.specs.Ends.{back, nearestGood}
 use Rattle.mesh.specs.Bytes.{Rows, Tall, Zeros, bytesMesh, packed, unpacked, kept}
@@ -153,7 +154,14 @@ pub record Searches (uprights levels lows highs : List ℕ) (run : ℕ) (s : Spl
   pub passes : given (layout w h splits) s ≡ 0
   pub along : run ≡ side (other (direction (s .direction))) w h
 
--- What a split comes to: its number, and the line that is drawn, as given or between the nearest good ends; on a refusal the split as it came.
-abbrev pub verdict : Bool → Layout → Split → Verdict
-verdict false P s = record { number = exactNumber P s; line = s }
-verdict true P s = record { number = given P s; line = cond (eqb (given P s) 0) (nearestGood P s) s }
+-- A verdict on a split: a number, and the line that is drawn; on a refusal the split as it came.
+abbrev pub toldOf : ℕ → Split → Verdict
+toldOf n line = record { number = n; line = line }
+
+-- the verdict of a search that goes as far as some length, where the line sought is this one
+abbrev pub foundBy : Split → ℕ → Split → Verdict
+foundBy s longest line = cond (leb (stepsOf line) longest) (toldOf 0 line) (toldOf 8 s)
+
+-- what a split comes to: refused with 3 to 7, or searched for within the allowance between the nearest good ends
+abbrev pub verdict : Layout → Split → ℕ → Verdict
+verdict P s allowance = cond (eqb (given P s) 0) (foundBy s (stepsOf s + allowance) (nearestGood P s)) (toldOf (given P s) s)

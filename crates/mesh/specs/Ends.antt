@@ -1,11 +1,12 @@
--- Which ends a split may have: what refusal 8 comes to (document 01, "When a call says no"), and which line a lengthened split takes.
-use Prim.Native.Nat.{ℕ, _+_, _-_, _<_}
+-- Which ends a split may have: what refusal 8 comes to (document 01, "When a call says no"), and which line a split takes within an allowance.
+use Prim.Native.Nat.{ℕ, _+_, _-_, _≤_, _<_}
 use mathlib.Core.Path.{_≡_}
 use mathlib.Core.Logic.{_↔_, _⊎_}
 use mathlib.Core.Bool.{Bool, true, cond, _&&_, _||_}
-use mathlib.Core.List.{[], _∷_}
+use mathlib.Core.List.{[], _∷_, List·Memᴰ}
 use lib.Dec.{eqb}
 use lib.ListN.{length}
+use Rattle.axis.specs.Limits.{mostAllowance}
 use Rattle.axis.specs.Range.{any}
 use Rattle.axis.specs.Triple.{Side, lower, upper, knotIn}
 use Rattle.axis.specs.Nearest.{below, above}
@@ -13,7 +14,7 @@ use Rattle.axis.specs.declared.Triple.{Triple}
 use Rattle.mesh.specs.Lines.{Direction, direction, other, side, Layout, meshOf}
 use Rattle.mesh.specs.Blends.{crossed, along}
 use Rattle.mesh.specs.Splits.{liveOf, withLine, soundWith, exactNumber}
-use Rattle.mesh.specs.Lengthening.{run, spanning, Contains, candidate, adds, newAnchors, stepsOf, chosen, Candidate}
+use Rattle.mesh.specs.Lengthening.{run, spanning, Contains, candidate, adds, newAnchors, stepsOf, candidates, leastOf, within, chosen, Candidate}
 use Rattle.mesh.specs.declared.Split.{Split}
 use Rattle.mesh.specs.declared.Blend.{Blend}
 
@@ -73,7 +74,19 @@ pub record LeastSoundLine (P : Layout) (s : Split) : Type 0 where
   -- A candidate adds as many live blends as it makes new anchors, and fewer than every other one that it lies in;
   pub new-anchors : (c : Split) → Candidate P s c → length (liveOf (withLine P c)) ≡ length (liveOf P) + length (newAnchors P c)
   pub longer-adds : (b c : Split) → Candidate P s b → Candidate P s c → Contains P b c → (b ≡ c) ⊎ (adds P b < adds P c)
-  -- so "the fewest" names that line alone, as "the shortest" does: a lengthened split always takes it.
-  pub taken : chosen P s ≡ nearestGood P s ∷ []
+  -- so "the fewest" names that line alone, as "the shortest" does: within an allowance a split takes it or none.
+  pub taken : (allowance : ℕ) → chosen P s allowance ≡ cond (within s allowance (nearestGood P s)) (nearestGood P s ∷ []) []
   pub fewest-alone : (c : Split) → Candidate P s c → (nearestGood P s ≡ c) ⊎ (adds P (nearestGood P s) < adds P c)
   pub shortest-alone : (c : Split) → Candidate P s c → (nearestGood P s ≡ c) ⊎ (stepsOf (nearestGood P s) < stepsOf c)
+
+-- What an allowance comes to (document 02, L7). What `by-allowance` shows of such a split:
+pub record ByAllowance (P : Layout) (s : Split) : Type 0 where
+  -- "Allowance 0 is the exact split."
+  pub none : chosen P s 0 ≡ cond (eqb (exactNumber P s) 0) (s ∷ []) []
+  -- The largest is L4's lengthened split: no candidate is too long, so there always is a line.
+  pub largest : chosen P s mostAllowance ≡ leastOf P (candidates P s)
+  pub always : chosen P s mostAllowance ≡ nearestGood P s ∷ []
+  -- "the given line among them if it leaves a sound map"
+  pub given-line : soundWith P s ≡ true → List·Memᴰ s (candidates P s)
+  -- Where an allowance accepts, every larger one takes the same line.
+  pub more : (a b : ℕ) (c : Split) → a ≤ b → chosen P s a ≡ c ∷ [] → chosen P s b ≡ c ∷ []

@@ -1,9 +1,10 @@
--- Document 01, "Values, readings, splits", and document 02, L4, on lines alone: which line a lengthened split takes.
+-- Document 01, "Values, readings, splits", and document 02, L4 and L7, on lines alone: which line a split takes.
 use Prim.Native.Nat.{ℕ, _+_, _-_, _≤_}
 use mathlib.Core.Path.{_≡_}
 use mathlib.Core.Logic.{_↔_}
 use mathlib.Core.Bool.{Bool, true, _&&_, not}
 use mathlib.Core.List.{List, [], _∷_, List·Memᴰ}
+use lib.Dec.{leb}
 use lib.ListN.{length}
 use Rattle.axis.specs.Range.{each, any, only, least}
 use Rattle.mesh.specs.Lines.{Layout, meshOf, side, other, direction, shares, ended}
@@ -53,21 +54,35 @@ newAnchors P c = anchors (only (λ B. not (known (liveOf P) B)) (liveOf (withLin
 abbrev pub stepsOf : Split → ℕ
 stepsOf c = c .to - c .from
 
--- The line that a lengthened split takes, if there is one (document 02, L4): "Of the sound candidates that document 01 lists … the one that adds the
--- fewest live blends, then the shortest, then the one that starts lowest".
-unfoldable pub chosen : Layout → Split → List Split
-chosen P s = least (λ c. c .from) (least stepsOf (least (adds P) (only (candidate P) (containing P s))))
+-- "the sound candidates that document 01 lists", of a given line; it is one of them if it leaves a sound map (`given-line`)
+unfoldable pub candidates : Layout → Split → List Split
+candidates P s = only (candidate P) (containing P s)
 
--- a line that contains the given one and is a candidate
+-- Document 02, L4: of some lines "the one that adds the fewest live blends, then the shortest, then the one that starts lowest".
+abbrev pub leastOf : Layout → List Split → List Split
+leastOf P cs = least (λ c. c .from) (least stepsOf (least (adds P) cs))
+
+-- document 02, L7: a line "whose length is at most the given line's plus the allowance"
+abbrev pub within : Split → ℕ → Split → Bool
+within s allowance c = leb (stepsOf c) (stepsOf s + allowance)
+
+-- The line that a split takes, if there is one (document 02, L7): of the candidates within the allowance, the one by that rule.
+unfoldable pub chosen : Layout → Split → ℕ → List Split
+chosen P s allowance = leastOf P (only (within s allowance) (candidates P s))
+
+-- a line that contains the given one and is a candidate; and one within the allowance
 abbrev pub Candidate : Layout → Split → Split → Type 0
 Candidate P s c = Contains P s c × (candidate P c ≡ true)
 
--- What `chosen-least` shows of it: the line taken is a candidate; every candidate adds at least as many; of those that add as few none is shorter; of
--- those as short none starts lower. It is one line, and there is none exactly where there is no candidate.
-pub record Least (P : Layout) (s : Split) : Type 0 where
-  pub taken : (c : Split) → List·Memᴰ c (chosen P s) → Candidate P s c
-  pub fewest : (b c : Split) → List·Memᴰ c (chosen P s) → Candidate P s b → adds P c ≤ adds P b
-  pub shortest : (b c : Split) → List·Memᴰ c (chosen P s) → Candidate P s b → adds P b ≡ adds P c → stepsOf c ≤ stepsOf b
-  pub lowest : (b c : Split) → List·Memᴰ c (chosen P s) → Candidate P s b → adds P b ≡ adds P c → stepsOf b ≡ stepsOf c → c .from ≤ b .from
-  pub one : (b : Split) → Candidate P s b → (c : Split) × (chosen P s ≡ c ∷ [])
-  pub none : chosen P s ≡ [] ↔ ((b : Split) → Candidate P s b → ⊥)
+abbrev pub Allowed : Layout → Split → ℕ → Split → Type 0
+Allowed P s allowance c = Candidate P s c × (stepsOf c ≤ stepsOf s + allowance)
+
+-- What `chosen-least` shows of it: the line taken is a candidate within the allowance; every other one adds at least as many; of those that add as few
+-- none is shorter; of those as short none starts lower. It is one line, and there is none exactly where there is no such candidate.
+pub record Least (P : Layout) (s : Split) (a : ℕ) : Type 0 where
+  pub taken : (c : Split) → List·Memᴰ c (chosen P s a) → Allowed P s a c
+  pub fewest : (b c : Split) → List·Memᴰ c (chosen P s a) → Allowed P s a b → adds P c ≤ adds P b
+  pub shortest : (b c : Split) → List·Memᴰ c (chosen P s a) → Allowed P s a b → adds P b ≡ adds P c → stepsOf c ≤ stepsOf b
+  pub lowest : (b c : Split) → List·Memᴰ c (chosen P s a) → Allowed P s a b → adds P b ≡ adds P c → stepsOf b ≡ stepsOf c → c .from ≤ b .from
+  pub one : (b : Split) → Allowed P s a b → (c : Split) × (chosen P s a ≡ c ∷ [])
+  pub none : chosen P s a ≡ [] ↔ ((b : Split) → Allowed P s a b → ⊥)

@@ -9,7 +9,7 @@ use lib.ListN.{length}
 use Rattle.axis.specs.Limits.{mostSplits}
 use Rattle.mesh.specs.Lines.{allowedSide, Layout, layout, splitsOf, layoutOf}
 use Rattle.mesh.specs.Sound.{table}
-use Rattle.mesh.specs.Splits.{accepted, liveOf, withLine, given, exactNumber}
+use Rattle.mesh.specs.Splits.{accepted, liveOf, withLine, asked}
 use Rattle.mesh.specs.Lengthening.{chosen}
 use Rattle.mesh.specs.declared.Split.{Split}
 use Rattle.mesh.specs.declared.Lines.{Lines}
@@ -47,15 +47,11 @@ refusedStep t n s = record { number = n; split = s; table = t }
 abbrev pub drawnStep : Lines → Split → Step
 drawnStep L s = record { number = 0; split = s; table = table (liveOf (withLine (layoutOf L) s)) }
 
--- an exact split
-unfoldable pub exactStep : Lines → Table → Split → Step
-exactStep L t s = let n = exactNumber (layoutOf L) s in cond (eqb n 0) (drawnStep L s) (refusedStep t n s)
-
--- a lengthened split, by the line that it takes
+-- the split call, by the line that it takes
 abbrev pub firstStep : Lines → Table → Split → List Split → Step
 firstStep L t s [] = refusedStep t 8 s
 firstStep L t s (c ∷ cs) = drawnStep L c
 
-unfoldable pub lengthenedStep : Lines → Table → Split → Step
-lengthenedStep L t s =
-    let n = given (layoutOf L) s in cond (eqb n 0) (firstStep L t s (chosen (layoutOf L) s)) (refusedStep t n s)
+unfoldable pub splitStep : Lines → Table → Split → ℕ → Step
+splitStep L t s allowance =
+    let n = asked (layoutOf L) s allowance in cond (eqb n 0) (firstStep L t s (chosen (layoutOf L) s allowance)) (refusedStep t n s)

@@ -2,9 +2,9 @@
 use Prim.Native.Nat.{ℕ}
 use mathlib.Core.Bool.{Bool, true, cond, _&&_, not}
 use mathlib.Core.List.{List, [], _∷_, _++_}
-use lib.Dec.{leb, eqb}
+use lib.Dec.{leb, ltb, eqb}
 use lib.ListN.{length}
-use Rattle.axis.specs.Limits.{mostSplits}
+use Rattle.axis.specs.Limits.{mostSplits, mostAllowance}
 use Rattle.axis.specs.Range.{any}
 use Rattle.mesh.specs.Lines.{Layout, meshOf, inRange, shares, ended}
 use Rattle.mesh.specs.Blends.{isCut, live}
@@ -33,7 +33,11 @@ given P s =
     (cond (not (any (isCut (meshOf (withLine P s))) (liveOf P))) 7
     0))))
 
--- the number of an exact split: those, then 8, "The exact split leaves a map that is not sound"
+-- the same of the split call; document 02, L7: "Refusal 3 covers an allowance above 128"
+unfoldable pub asked : Layout → Split → ℕ → ℕ
+asked P s allowance = cond (ltb mostAllowance allowance) 3 (given P s)
+
+-- The exact split, by which records and files are built: its number is one of those, then 8, "The exact split leaves a map that is not sound".
 unfoldable pub exactNumber : Layout → Split → ℕ
 exactNumber P s =
     let g = given P s in

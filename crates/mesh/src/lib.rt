@@ -40,6 +40,9 @@ impl Lines {
     pub const LARGEST_SIDE: usize = 128;
 
     pub const MOST_SPLITS: usize = 60;
+
+    // How far a split may be lengthened.
+    pub const MOST_ALLOWANCE: usize = 128;
 }
 
 // Blends in table order; places from `count` on are zero.

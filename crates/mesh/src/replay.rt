@@ -34,7 +34,7 @@ fn replay_in(
     let mut i = 0;
     while i < count {
         let s = lines.splits[i];
-        let found = step(w, h, i, s, false, uprights, levels, columns, rows, places);
+        let found = step(w, h, i, s, 0, uprights, levels, columns, rows, places);
         let number = found.number;
         if number != 0 {
             return refusal();

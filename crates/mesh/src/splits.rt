@@ -1,4 +1,4 @@
-// A split, as given or lengthened: one step on what is carried; and on lines that were replayed, whose table is in hand.
+// A split within an allowance: one step on what is carried; and on lines that were replayed, whose table is in hand.
 use crate::Lines;
 use crate::Split;
 use crate::Step;
@@ -10,13 +10,14 @@ use crate::exact::look;
 use crate::exact::run_of;
 use crate::read::read_out;
 ghost use mathlib.Core.Path.{_≡_};
-ghost use mathlib.Core.Bool.{cond};
 ghost use mathlib.Core.List.{List, [], _∷_, _++_};
+ghost use Prim.Native.Nat.{_*_, _≤_};
 ghost use lib.ListN.{length};
+ghost use Rattle.axis.specs.Limits.{largestSide, mostAllowance};
 ghost use Rattle.mesh.specs.Lines.{layout};
 ghost use Rattle.mesh.specs.Ends.{nearestGood};
-ghost use Rattle.mesh.specs.Replay.{HasTable, exactStep, lengthenedStep};
-ghost use Rattle.mesh.specs.Carried.{Carried, Carries, Cleared, Noted, Searches, blank, verdict};
+ghost use Rattle.mesh.specs.Replay.{HasTable, splitStep};
+ghost use Rattle.mesh.specs.Carried.{Carried, Carries, Cleared, Noted, Searches, blank, toldOf, foundBy, verdict};
 
 // What a refused split gives: the split and the table as they came.
 fn refused(number: usize, s: Split, table: Table) -> Step
@@ -29,23 +30,39 @@ fn refused(number: usize, s: Split, table: Table) -> Step
     }
 }
 
-// The line that a lengthened split takes: nested loops over length and start, left with the first line between good ends. Every other one contains it and
-// so adds more live blends.
-fn longer_line(
+// What a split comes to: its number, and the line that it draws; on a refusal the split as it came.
+pub(crate) struct Verdict {
+    pub number: usize,
+    pub line: Split,
+}
+
+fn told(number: usize, line: Split) -> Verdict
+    ensures { λ r. ⌜ r ≡ toldOf number line ⌝ }
+{
+    Verdict {
+        number: number,
+        line: line,
+    }
+}
+
+// The line that a split takes, or 8: nested loops over length and start, left with the first line between good ends. Every other one contains it and so
+// adds more live blends. The search stops at the longest allowed length; with none to spare it looks at the given line alone.
+fn least_line(
     uprights: &[u8],
     levels: &[u8],
     lows: &[usize],
     highs: &[usize],
     run: usize,
+    longest: usize,
     s: Split,
-) -> Split
-    requires { ⌜ Searches (now uprights) (now levels) (now lows) (now highs) run s ⌝ }
+) -> Verdict
+    requires { ⌜ Searches (now uprights) (now levels) (now lows) (now highs) run s × (longest ≤ 2 * largestSide) ⌝ }
     ensures { λ r. ⌜ ((i : Searches (now (uprights .entry)) (now (levels .entry)) (now (lows .entry)) (now (highs .entry)) run s) →
-        r ≡ nearestGood (layout (i .w) (i .h) (i .splits)) s) ⌝ }
+        r ≡ foundBy s longest (nearestGood (layout (i .w) (i .h) (i .splits)) s)) ⌝ }
 {
-    let mut found = s;
+    let mut found = told(8, s);
     let mut length = s.to - s.from;
-    'search: while length <= run {
+    'search: while length <= longest {
         let mut from = 0;
         if length < s.to {
             from = s.to - length;
@@ -60,7 +77,7 @@ fn longer_line(
             // A line that would reach past the side is no line.
             if c.to <= run {
                 if good_ends(uprights, levels, lows, highs, run, c) {
-                    found = c;
+                    found = told(0, c);
                     break 'search;
                 }
             }
@@ -71,28 +88,13 @@ fn longer_line(
     found
 }
 
-// What a split comes to: its number, and the line that it draws; on a refusal the split as it came.
-pub(crate) struct Verdict {
-    pub number: usize,
-    pub line: Split,
-}
-
-fn told(number: usize, line: Split) -> Verdict
-    ensures { λ r. ⌜ r ≡ record { number = number; line = line } ⌝ }
-{
-    Verdict {
-        number: number,
-        line: line,
-    }
-}
-
-// The number of a split, 3 to 8 in their order, and the line that it draws, as given or lengthened, with the notes for its position.
+// The number of a split, 3 to 8 in their order, and the line that it draws, with the notes for its position.
 fn find(
     w: usize,
     h: usize,
     count: usize,
     s: Split,
-    lengthen: bool,
+    allowance: usize,
     uprights: &[u8],
     levels: &[u8],
     columns: &[u8],
@@ -101,10 +103,11 @@ fn find(
     lows: &mut [usize],
     highs: &mut [usize],
 ) -> Verdict
-    requires { ⌜ Carries w h count (now uprights) (now levels) (now columns) (now rows) (now places) × (now lows ≡ blank) × (now highs ≡ blank) ⌝ }
+    requires { ⌜ (allowance ≤ mostAllowance) × Carries w h count (now uprights) (now levels) (now columns) (now rows) (now places) ×
+        (now lows ≡ blank) × (now highs ≡ blank) ⌝ }
     ensures { λ r. ⌜ ((ss : List Split) → count ≡ length ss →
         Carried w h ss (now (uprights .entry)) (now (levels .entry)) (now (columns .entry)) (now (rows .entry)) (now (places .entry)) →
-        (r ≡ verdict lengthen (layout w h ss) s) × (r .number ≡ 0 → Noted w h ss (r .line) (now (lows .exit)) (now (highs .exit)))) ⌝ }
+        (r ≡ verdict (layout w h ss) s allowance) × (r .number ≡ 0 → Noted w h ss (r .line) (now (lows .exit)) (now (highs .exit)))) ⌝ }
 {
     let number = look(
         w,
@@ -123,13 +126,8 @@ fn find(
         return told(number, s);
     }
     let run = run_of(w, h, s.direction);
-    if lengthen {
-        return told(0, longer_line(uprights, levels, lows, highs, run, s));
-    }
-    if !good_ends(uprights, levels, lows, highs, run, s) {
-        return told(8, s);
-    }
-    told(0, s)
+    let longest = s.to - s.from + allowance;
+    least_line(uprights, levels, lows, highs, run, longest, s)
 }
 
 // Takes a split. Accepted, its line is drawn and cut with; refused, it leaves all as it was.
@@ -138,17 +136,17 @@ pub(crate) fn step(
     h: usize,
     count: usize,
     s: Split,
-    lengthen: bool,
+    allowance: usize,
     uprights: &mut [u8],
     levels: &mut [u8],
     columns: &mut [u8],
     rows: &mut [u8],
     places: &mut [u32],
 ) -> Verdict
-    requires { ⌜ Carries w h count (now uprights) (now levels) (now columns) (now rows) (now places) ⌝ }
+    requires { ⌜ (allowance ≤ mostAllowance) × Carries w h count (now uprights) (now levels) (now columns) (now rows) (now places) ⌝ }
     ensures { λ r. ⌜ ((ss : List Split) → count ≡ length ss →
         Carried w h ss (now (uprights .entry)) (now (levels .entry)) (now (columns .entry)) (now (rows .entry)) (now (places .entry)) →
-        (r ≡ verdict lengthen (layout w h ss) s) ×
+        (r ≡ verdict (layout w h ss) s allowance) ×
         (r .number ≡ 0 → Carried w h (ss ++ r .line ∷ []) (now (uprights .exit)) (now (levels .exit)) (now (columns .exit)) (now (rows .exit))
         (now (places .exit)))) × ((r .number ≡ 0 → ⊥) → (now (uprights .exit) ≡ now (uprights .entry)) × (now (levels .exit) ≡ now (levels .entry)) ×
         (now (columns .exit) ≡ now (columns .entry)) × (now (rows .exit) ≡ now (rows .entry)) × (now (places .exit) ≡ now (places .entry))) ⌝ }
@@ -160,7 +158,7 @@ pub(crate) fn step(
         h,
         count,
         s,
-        lengthen,
+        allowance,
         uprights,
         levels,
         columns,
@@ -194,15 +192,15 @@ fn split_in(
     lines: Lines,
     table: Table,
     s: Split,
-    lengthen: bool,
+    allowance: usize,
     uprights: &mut [u8],
     levels: &mut [u8],
     columns: &mut [u8],
     rows: &mut [u8],
     places: &mut [u32],
 ) -> Step
-    requires { ⌜ HasTable lines table × Cleared (lines .w) (lines .h) (now uprights) (now levels) (now columns) (now rows) (now places) ⌝ }
-    ensures { λ r. ⌜ r ≡ cond lengthen (lengthenedStep lines table s) (exactStep lines table s) ⌝ }
+    requires { ⌜ (allowance ≤ mostAllowance) × HasTable lines table × Cleared (lines .w) (lines .h) (now uprights) (now levels) (now columns) (now rows) (now places) ⌝ }
+    ensures { λ r. ⌜ r ≡ splitStep lines table s allowance ⌝ }
 {
     let w = lines.w;
     let h = lines.h;
@@ -213,7 +211,7 @@ fn split_in(
         h,
         count,
         s,
-        lengthen,
+        allowance,
         uprights,
         levels,
         columns,
@@ -233,10 +231,13 @@ fn split_in(
     }
 }
 
-pub fn split(lines: Lines, table: Table, s: Split, lengthen: bool) -> Step
+pub fn split(lines: Lines, table: Table, s: Split, allowance: usize) -> Step
     requires { ⌜ HasTable lines table ⌝ }
-    ensures { λ r. ⌜ r ≡ cond lengthen (lengthenedStep lines table s) (exactStep lines table s) ⌝ }
+    ensures { λ r. ⌜ r ≡ splitStep lines table s allowance ⌝ }
 {
+    if Lines::MOST_ALLOWANCE < allowance {
+        return refused(3, s, table);
+    }
     let mut columns = [131u8; 131];
     let mut rows = [131u8; 131];
     // A small map has few rows of knots, so its tables are short and soon cleared.
@@ -249,7 +250,7 @@ pub fn split(lines: Lines, table: Table, s: Split, lengthen: bool) -> Step
                 lines,
                 table,
                 s,
-                lengthen,
+                allowance,
                 &mut uprights,
                 &mut levels,
                 &mut columns,
@@ -265,7 +266,7 @@ pub fn split(lines: Lines, table: Table, s: Split, lengthen: bool) -> Step
         lines,
         table,
         s,
-        lengthen,
+        allowance,
         &mut uprights,
         &mut levels,
         &mut columns,

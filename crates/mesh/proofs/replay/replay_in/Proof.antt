@@ -28,7 +28,7 @@ loop-holds c =
     (replay-none (s .args .t1) (s .pre .2) (lines-full (s .args .t1) (s .good .0)) (k .load-fresh .ensures), refl, refl, refl, refl, refl)
 
 step-requires : tie.Need-step-requires Inv-loop μ-loop
-step-requires c κs = let r = c .before .before .before .before .before .before .before .loop .inv .0 in (_, replay-long r, r .carried)
+step-requires c κs = let r = c .before .before .before .before .before .before .before .loop .inv .0 in (omega arith, (_, replay-long r, r .carried))
 
 -- the way back from a step to its turn of the loop
 abbrev turn : tie.After-step Inv-loop μ-loop → tie.In-loop Inv-loop μ-loop

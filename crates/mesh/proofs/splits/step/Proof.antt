@@ -35,12 +35,12 @@ accepted : (c : tie.Else1) (ss : List Split) → let a = start (found c) .args i
     exactNumber (layout (a .w) (a .h) ss) (found c .find .result .line) ≡ 0
 accepted c ss e now =
     let a = start (found c) .args in
-    verdict-accepted (layout (a .w) (a .h) ss) (a .s) (now .taken) (a .lengthen) (found c .find .ensures ss e now .0) (c .if1 .left)
+    verdict-accepted (layout (a .w) (a .h) ss) (a .s) (now .taken) (a .allowance) (found c .find .ensures ss e now .0) (c .if1 .left)
 
 draw-requires : tie.Need-draw-requires
 draw-requires c κs =
     let k = c .before .before .before .before .before .before .before .before in
-    let pre = start (found k) .pre in
+    let pre = start (found k) .pre .1 in
     (pre .0, pre .2, found k .find .ensures (pre .0) (pre .1) (pre .2) .1 (k .if1 .left), accepted k (pre .0) (pre .1) (pre .2))
 
 returns-2 : tie.Need-returns-2
