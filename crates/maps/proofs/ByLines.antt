@@ -6,14 +6,14 @@ use mathlib.Core.List.{List, [], _∷_}
 use lib.Dec.{eqb}
 use Rattle.mesh.specs.declared.Split.{Split}
 use Rattle.mesh.specs.Lines.{Layout}
-use Rattle.mesh.specs.Splits.{given, exactNumber}
+use Rattle.mesh.specs.Splits.{asked}
 use Rattle.mesh.specs.Lengthening.{chosen}
 use Rattle.maps.specs.declared.Map.{Map}
 use Rattle.maps.specs.declared.Changed.{Changed}
 use Rattle.maps.specs.Values.{drawn}
 use Rattle.maps.specs.Record.{recordOf, plain, good}
-use Rattle.maps.specs.Calls.{changed, drawnFirst, exactSplit, lengthenedSplit}
-use Rattle.maps.specs.ByLines.{SameButValues, ByLines}
+use Rattle.maps.specs.Calls.{changed, drawnFirst, splitWithin}
+use Rattle.maps.specs.ByLines.{SameButValues}
 
 -- one of two outcomes, by equal numbers
 by-number : {k l : ℕ} → k ≡ l → {x y u v : Changed} → SameButValues x u → SameButValues y v → SameButValues (cond (eqb k 0) x y) (cond (eqb l 0) u v)
@@ -42,12 +42,8 @@ module _ (m n : Map) (gm : good m ≡ true) (gn : good n ≡ true) (same : m .li
       by [] = refused-alike refl
       by (c ∷ cs) = drawn-alike c
 
-  pub by-lines : (s : Split) → ByLines m n s
-  unfolding exactSplit lengthenedSplit
-  by-lines s =
-      let number = ap (λ (P : Layout). exactNumber P s) same-layout in
-      let first = ap (λ (P : Layout). given P s) same-layout in
-      record {
-        exact = rw (gm, gn) (by-number number (drawn-alike s) (refused-alike number));
-        lengthened = rw (gm, gn) (by-number first (first-alike (ap (λ (P : Layout). chosen P s) same-layout)) (refused-alike first));
-      }
+  pub by-lines : (s : Split) (a : ℕ) → SameButValues (splitWithin m s a) (splitWithin n s a)
+  unfolding splitWithin
+  by-lines s a =
+      let first = ap (λ (P : Layout). asked P s a) same-layout in
+      rw (gm, gn) (by-number first (first-alike (ap (λ (P : Layout). chosen P s a) same-layout)) (refused-alike first))

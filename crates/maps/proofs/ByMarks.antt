@@ -9,7 +9,7 @@ use lib.ListN.{length, take}
 use Rattle.axis.proofs.Tests.{either}
 use Rattle.mesh.specs.declared.Split.{Split}
 use Rattle.mesh.specs.Lines.{layoutOf}
-use Rattle.mesh.specs.Splits.{liveOf, given, exactNumber}
+use Rattle.mesh.specs.Splits.{liveOf, asked}
 use Rattle.mesh.specs.Lengthening.{chosen}
 use Rattle.maps.specs.declared.Map.{Map}
 use Rattle.maps.specs.Plain.{Plain, blends}
@@ -17,7 +17,7 @@ use Rattle.maps.specs.Values.{placeOf, drawn}
 use Rattle.maps.specs.Record.{recordOf, Held, plain, good}
 use Rattle.maps.specs.Calls.{setPlain, placeOn}
 use Rattle.maps.specs.Sameness.{samePlain, sameness}
-use Rattle.maps.specs.Histories.{Call, set, exact, lengthened, place, reads, weighs, alongRow, alongColumn, sameAs, placed, Outcome, outcome, firstDrawn, byMachine, outcomes, ending}
+use Rattle.maps.specs.Histories.{Call, set, split, place, reads, weighs, alongRow, alongColumn, sameAs, placed, Outcome, outcome, firstDrawn, byMachine, outcomes, ending}
 use Rattle.maps.specs.Demand.{recorded}
 use Rattle.maps.specs.ByMarks.{withoutMarks, unmarked, butMarks, SameLists, ByMarks}
 use Rattle.maps.proofs.GoodRecords.{good-facts}
@@ -50,8 +50,7 @@ module _ (P : Plain) (marks : List ℕ) where
   unfolding setPlain drawn samePlain
   step-alike (set i j v) =
       by-test (ltb (placeOf (blends P) (i + 1) (j + 1)) (length (blends P))) (record { answers = refl; next = refl }) (record { answers = refl; next = refl })
-  step-alike (exact s) = by-test (eqb (exactNumber (P .lines) s) 0) (record { answers = refl; next = refl }) (record { answers = refl; next = refl })
-  step-alike (lengthened s) = by-test (eqb (given (P .lines) s) 0) (first-alike (chosen (P .lines) s)) (record { answers = refl; next = refl })
+  step-alike (split s a) = by-test (eqb (asked (P .lines) s a) 0) (first-alike (chosen (P .lines) s a)) (record { answers = refl; next = refl })
   step-alike (place i) = record { answers = place-alike i; next = refl }
   step-alike (reads u v) = record { answers = refl; next = refl }
   step-alike (weighs u v) = record { answers = refl; next = refl }

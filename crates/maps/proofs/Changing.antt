@@ -20,7 +20,7 @@ use Rattle.mesh.specs.declared.Split.{Split}
 use Rattle.mesh.specs.declared.Table.{Table}
 use Rattle.mesh.specs.Lines.{meshOf}
 use Rattle.mesh.specs.Sound.{none, proper, table, blendsOf}
-use Rattle.mesh.specs.Splits.{liveOf, withLine, given, exactNumber}
+use Rattle.mesh.specs.Splits.{liveOf, withLine, given, asked, exactNumber}
 use Rattle.mesh.specs.Lengthening.{chosen}
 use Rattle.mesh.proofs.SoundMaps.{live-proper}
 use Rattle.mesh.proofs.Cuts.{proper-facts}
@@ -29,12 +29,12 @@ use Rattle.maps.specs.declared.Map.{Map}
 use Rattle.maps.specs.declared.Changed.{Changed}
 use Rattle.maps.specs.declared.carry.Carried.{Carried}
 use Rattle.mesh.specs.declared.Step.{Step}
-use Rattle.mesh.specs.Replay.{HasTable, refusedStep, drawnStep, exactStep, firstStep, lengthenedStep}
+use Rattle.mesh.specs.Replay.{HasTable, refusedStep, firstStep, splitStep}
 use Rattle.maps.specs.declared.opened.Opened.{Opened}
 use Rattle.maps.specs.Plain.{Plain, blends}
 use Rattle.maps.specs.Values.{placeOf, carried, keptMark, drawn}
 use Rattle.maps.specs.Record.{noSplit, linesOf, recordOf, Full, plain, good}
-use Rattle.maps.specs.Calls.{changed, drawnFirst, setPlain, setValue, exactSplit, lengthenedSplit}
+use Rattle.maps.specs.Calls.{changed, drawnFirst, setPlain, setValue, splitWithin}
 use Rattle.maps.specs.Opened.{withTable, opened, IsTable, Opens}
 use Rattle.maps.specs.Inner.{withSplit, inArray, InTable, Grown, carriedArrays}
 use Rattle.maps.proofs.Map.{the-type}
@@ -42,7 +42,7 @@ use Rattle.maps.proofs.opened.Opened as opened
 use Rattle.maps.proofs.Readings.{place-found}
 use Rattle.maps.proofs.Opening.{good-table}
 use Rattle.maps.proofs.GoodRecords.{Holds, record-good, GoodFacts, good-facts, set-holds, drawn-holds}
-use Rattle.mesh.proofs.Passing.{exact-says}
+use Rattle.mesh.proofs.Passing.{asked-says, exact-says}
 use Rattle.mesh.proofs.OneLineMore.{more-finer}
 use Rattle.maps.proofs.SideBySide.{live-grown}
 use Rattle.mesh.proofs.ChosenLine.{chosen-exact}
@@ -313,34 +313,28 @@ module _ {m : Map} {t : Table} (g : GoodMap m t) {r : Step} {c : Changed} where
       ⊎-elim (λ y. let d = of .0 (eqb-true _ _ y) in rw (← d .is-drawn) (record-good (drawn-stays d) .0))
       (λ n. rw (← of .1 (eqb-false _ _ n)) (g .is-good)) (either (eqb (r .number) 0))
 
--- The steps of the two splits are those of the calls:
-module _ {m : Map} {t : Table} (g : GoodMap m t) (s : Split) where
+-- The step of a split is that of the call:
+module _ {m : Map} {t : Table} (g : GoodMap m t) (s : Split) (a : ℕ) where
   refused-step : (n : ℕ) → (n ≡ 0 → ⊥) → StepOf m (refusedStep t n s) (changed n m)
   refused-step n ne = (λ z. absurd (ne z), λ q. refl)
 
-  drawn-step : (c : Split) → exactNumber (plain m .lines) c ≡ 0 → StepOf m (drawnStep (m .lines) c) (changed 0 (recordOf (drawn (plain m) c)))
-  unfolding plain drawn
-  drawn-step c z = (λ q. record { accepted = z; is-new = refl; is-drawn = refl }, λ ne. absurd (ne refl))
-
-  -- a lengthened one by the line that it takes,
-  first-step : given (plain m .lines) s ≡ 0 → (cs : List Split) → chosen (plain m .lines) s ≡ cs →
+  -- by the line that it takes,
+  first-step : given (plain m .lines) s ≡ 0 → (cs : List Split) → chosen (plain m .lines) s a ≡ cs →
       StepOf m (firstStep (m .lines) t s cs) (drawnFirst m (plain m) cs)
-  unfolding plain
+  unfolding plain drawn
   first-step z [] e = refused-step 8 (λ q. omega arith)
-  first-step z (c ∷ cs) e = drawn-step c (chosen-exact (plain m .lines) (g .facts .across .0) (g .facts .up .0) s c cs z e)
+  first-step z (c ∷ cs) e =
+      let accepts = chosen-exact (plain m .lines) (g .facts .across .0) (g .facts .up .0) s c a cs z e in
+      (λ q. record { accepted = accepts; is-new = refl; is-drawn = refl }, λ ne. absurd (ne refl))
 
-  -- and each after the numbers that refuse it.
-  tested-step : (n : ℕ) (r : Step) (c : Changed) → (n ≡ 0 → StepOf m r c) →
-      StepOf m (cond (eqb n 0) r (refusedStep t n s)) (cond (not (good m)) (changed 2 m) (cond (eqb n 0) c (changed n m)))
-  tested-step n r c of =
+  -- after the numbers that refuse it.
+  pub split-step : StepOf m (splitStep (m .lines) t s a) (splitWithin m s a)
+  unfolding splitStep splitWithin plain
+  split-step =
+      let n = asked (plain m .lines) s a in
       rw (g .is-good)
-      (⊎-elim (λ (e : eqb n 0 ≡ true). rw e (of (eqb-true n 0 e))) (λ (e : eqb n 0 ≡ false). rw e (refused-step n (eqb-false n 0 e))) (either (eqb n 0)))
-
-  pub split-step : (lengthen : Bool) →
-      StepOf m (cond lengthen (lengthenedStep (m .lines) t s) (exactStep (m .lines) t s)) (cond lengthen (lengthenedSplit m s) (exactSplit m s))
-  unfolding exactStep exactSplit lengthenedStep lengthenedSplit plain
-  split-step true = tested-step (given (plain m .lines) s) _ _ (λ z. first-step z (chosen (plain m .lines) s) refl)
-  split-step false = tested-step (exactNumber (plain m .lines) s) _ _ (drawn-step s)
+      (⊎-elim (λ (e : eqb n 0 ≡ true). rw e (first-step (asked-says (plain m .lines) s a (eqb-true n 0 e) .1) (chosen (plain m .lines) s a) refl))
+      (λ (e : eqb n 0 ≡ false). rw e (refused-step n (eqb-false n 0 e))) (either (eqb n 0)))
 
 -- A changing call on a good record leaves a good one.
 module _ {m : Map} {t : Table} (g : GoodMap m t) where
@@ -351,5 +345,5 @@ module _ {m : Map} {t : Table} (g : GoodMap m t) where
       (⊎-elim (λ y. rw y (record-good (set-holds (g .facts .holds) i j v) .0)) (λ n. rw n (g .is-good))
       (either (ltb (placeOf (blends (plain m)) (i + 1) (j + 1)) (length (blends (plain m))))))
 
-  pub split-good : (s : Split) (lengthen : Bool) → good (cond lengthen (lengthenedSplit m s) (exactSplit m s) .map) ≡ true
-  split-good s lengthen = step-good g (split-step g s lengthen)
+  pub split-good : (s : Split) (a : ℕ) → good (splitWithin m s a .map) ≡ true
+  split-good s a = step-good g (split-step g s a)

@@ -20,23 +20,24 @@ use Rattle.mesh.proofs.TightMaps.{Built}
 use Rattle.mesh.proofs.CrossingList.{anchors-are-crossings, lines-are-grids, blends-tell-lines}
 use Rattle.maps.specs.declared.Map.{Map}
 use Rattle.maps.specs.Plain.{Plain, freshPlain, blends}
-use Rattle.mesh.specs.Splits.{given, exactNumber}
-use Rattle.mesh.specs.Lengthening.{chosen}
+use Rattle.mesh.specs.Splits.{exactNumber}
+use Rattle.mesh.specs.Ends.{nearestGood}
 use Rattle.maps.specs.Values.{drawn}
 use Rattle.maps.specs.Record.{recordOf, plain}
 use Rattle.maps.specs.Calls.{freshMap}
 use Rattle.maps.specs.Histories.{Call, number, Outcome, outcome, firstDrawn, byLibrary, byMachine, ending}
 use Rattle.maps.specs.Straight.{ValuesStraight}
-use Rattle.maps.specs.Demand.{leftBy, Tabled, Gentle, IsSplit, exact-split, lengthened-split, linesBy, meshBy, DemandFrom, Demand3}
+use Rattle.maps.specs.Demand.{leftBy, Tabled, Gentle, IsSplit, is-split, linesBy, meshBy, DemandFrom, Demand3}
 use Rattle.maps.proofs.GoodRecords.{record-good}
 use Rattle.mesh.proofs.Accepted.{replays-stands}
-use Rattle.mesh.proofs.ChosenLine.{chosen-exact}
+use Rattle.mesh.proofs.Allowance.{nearest-accepted}
 use Rattle.maps.proofs.Reached.{Reached, fresh-reached, start-reached, ending-leads}
 use Rattle.maps.proofs.Following.{step-follows, outcomes-follow, ending-follows}
 use Rattle.maps.proofs.Tabled.{tabled-once, holds-tabled}
 use Rattle.maps.proofs.Squares.{valued-four, valued-sum}
 use Rattle.maps.proofs.Gentle.{split-gentle}
-use Rattle.maps.proofs.ByEnds.{built, ends-tell}
+use Rattle.maps.proofs.ByEnds.{built, accepted-given, split-draws, ends-tell}
+use Rattle.maps.proofs.Allowance.{reached-allowance}
 use Rattle.maps.proofs.Straight.{reads-straight, carried-straight}
 
 -- The blends after a list of calls are those of its lines.
@@ -45,25 +46,13 @@ ending-blends cs P at = let l = ending-leads cs P at in rw (l .wide, l .tall, l 
 
 -- An accepted split draws a line that is accepted as an exact split,
 module _ (P : Plain) (at : Reached P) where
-  number-zero : (n : ℕ) (x : Outcome Plain) → let o = cond (eqb n 0) x (outcome (number n) P) in o .answer ≡ number 0 → (n ≡ 0) × (o ≡ x)
-  number-zero n x e =
-      ⊎-elim (λ t. (eqb-true n 0 t, cond-true _ _ _ t)) (λ f. let q : number n ≡ number 0 = rw f at e in absurd (eqb-false n 0 f (cc)))
-      (either (eqb n 0))
-
   abbrev Accepts : Outcome Plain → Type 0
   Accepts o = (s : Split) × (exactNumber (P .lines) s ≡ 0) × (o .next ≡ drawn P s)
 
-  first-accepts : (s : Split) → given (P .lines) s ≡ 0 → (cs : List Split) → chosen (P .lines) s ≡ cs → firstDrawn P cs .answer ≡ number 0 → Accepts (firstDrawn P cs)
-  first-accepts s e [] q a = absurd (let z : _≡_ {A = ℕ} 8 0 = cc in omega arith)
-  first-accepts s e (c ∷ cs) q a = (c, chosen-exact (P .lines) (at .valued .wide .0) (at .valued .tall .0) s c cs e q, refl)
-
   split-accepts : (c : Call) → IsSplit c → byMachine P c .answer ≡ number 0 → Accepts (byMachine P c)
-  split-accepts c (exact-split s) e =
-      let r = number-zero (exactNumber (P .lines) s) (outcome (number 0) (drawn P s)) e in (s, r .0, ap (λ (o : Outcome Plain). o .next) (r .1))
-  split-accepts c (lengthened-split s) e =
-      let r = number-zero (given (P .lines) s) (firstDrawn P (chosen (P .lines) s)) e in
-      let f = first-accepts s (r .0) (chosen (P .lines) s) refl (sym (ap (λ (o : Outcome Plain). o .answer) (r .1)) ∙ e) in
-      (f .0, f .1, ap (λ (o : Outcome Plain). o .next) (r .1) ∙ f .2)
+  split-accepts c (is-split s a) e =
+      let passes = accepted-given P at s a e in
+      (nearestGood (P .lines) s, nearest-accepted (P .lines) (at .holds .taken) s passes, ap (λ (o : Outcome Plain). o .next) (split-draws P at s passes a e))
 
   -- and so does to the map what such a split does.
   accepted-does : (Does : Map → Map → Type 0) → ((s : Split) → exactNumber (P .lines) s ≡ 0 → Does (recordOf P) (recordOf (drawn P s))) →
@@ -159,6 +148,7 @@ reached-demand P at cs =
       are-grids = grids-after P at cs;
       same-lines = λ R start wide tall ds tabled. both-lined P R at (start-reached R start) wide tall cs ds (blends Q) (end-tabled P at cs) tabled;
       by-ends = rw (ending-follows cs P at) (ends-tell Q (leads .reached));
+      by-allowance = rw (ending-follows cs P at) (reached-allowance Q (leads .reached));
       straight = reads-straight Q (leads .reached) (leftBy P cs) (P .lines .w) (P .lines .h) (ending-follows cs P at) (leads .wide) (leads .tall);
       stays-straight = λ earlier c later e.
           any-split P at earlier (λ m n. (A B C D : ℤ) → ValuesStraight m A B C D → ValuesStraight n A B C D) carried-straight c;

@@ -12,13 +12,13 @@ use Rattle.maps.specs.declared.Map.{Map}
 use Rattle.maps.specs.declared.Changed.{Changed}
 use Rattle.maps.specs.Plain.{Plain, blends}
 use Rattle.maps.specs.Values.{placeOf}
-use Rattle.mesh.specs.Splits.{given, exactNumber}
+use Rattle.mesh.specs.Splits.{asked}
 use Rattle.mesh.specs.Lengthening.{chosen}
 use Rattle.maps.specs.Record.{recordOf, plain, good}
-use Rattle.maps.specs.Calls.{setValue, tablePlace, reading, weights, exactSplit, drawnFirst, lengthenedSplit}
+use Rattle.maps.specs.Calls.{setValue, tablePlace, reading, weights, drawnFirst, splitWithin}
 use Rattle.maps.specs.Pairs.{rowPairs, columnPairs}
 use Rattle.maps.specs.Sameness.{sameness}
-use Rattle.maps.specs.Histories.{Call, set, exact, lengthened, place, reads, weighs, alongRow, alongColumn, sameAs, number, Outcome, outcome, byLibrary, firstDrawn, byMachine, outcomes, ending}
+use Rattle.maps.specs.Histories.{Call, set, split, place, reads, weighs, alongRow, alongColumn, sameAs, number, Outcome, outcome, byLibrary, firstDrawn, byMachine, outcomes, ending}
 use Rattle.maps.specs.Demand.{leftBy, recorded}
 use Rattle.axis.proofs.Tests.{either}
 use Rattle.maps.proofs.GoodRecords.{record-good}
@@ -43,10 +43,9 @@ module _ (P : Plain) (at : Reached P) where
   first-follows (c ∷ cs) = refl
 
   pub step-follows : (c : Call) → byLibrary (recordOf P) c ≡ recorded (byMachine P c)
-  unfolding setValue exactSplit lengthenedSplit tablePlace reading weights rowPairs columnPairs sameness
+  unfolding setValue splitWithin tablePlace reading weights rowPairs columnPairs sameness
   step-follows (set i j v) = rw (is-good, is-held) (changed-by (ltb (placeOf (blends P) (i + 1) (j + 1)) (length (blends P))) _ _ _ _ refl refl)
-  step-follows (exact s) = rw (is-good, is-held) (changed-by (eqb (exactNumber (P .lines) s) 0) _ _ _ _ refl refl)
-  step-follows (lengthened s) = rw (is-good, is-held) (changed-by (eqb (given (P .lines) s) 0) _ _ _ _ (first-follows (chosen (P .lines) s)) refl)
+  step-follows (split s a) = rw (is-good, is-held) (changed-by (eqb (asked (P .lines) s a) 0) _ _ _ _ (first-follows (chosen (P .lines) s a)) refl)
   step-follows (place i) = rw (is-good, is-held)
   step-follows (reads u v) = rw (is-good, is-held)
   step-follows (weighs u v) = rw (is-good, is-held)

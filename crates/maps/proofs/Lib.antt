@@ -4,6 +4,7 @@ pub mod Asking
 pub mod Walking
 pub mod PairsTold
 pub mod ByEnds
+pub mod Allowance
 pub mod ByLines
 pub mod ByMarks
 pub mod Demand3

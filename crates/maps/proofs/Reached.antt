@@ -13,21 +13,21 @@ use Rattle.mesh.specs.Lines.{allowedSide, layoutOf}
 use Rattle.maps.specs.declared.Map.{Map}
 use Rattle.maps.specs.Plain.{Plain, freshPlain, blends}
 use Rattle.maps.specs.Values.{placeOf, drawn}
-use Rattle.mesh.specs.Splits.{given, liveOf, exactNumber}
-use Rattle.mesh.specs.Lengthening.{chosen}
+use Rattle.mesh.specs.Splits.{given, asked, liveOf, exactNumber}
+use Rattle.mesh.specs.Lengthening.{within, chosen}
+use Rattle.mesh.specs.Ends.{nearestGood}
 use Rattle.maps.specs.Record.{Held, plain, good}
 use Rattle.maps.specs.Calls.{setPlain}
-use Rattle.maps.specs.Histories.{Call, set, exact, lengthened, place, reads, weighs, alongRow, alongColumn, sameAs, Outcome, firstDrawn, byMachine, ending}
+use Rattle.maps.specs.Histories.{Call, set, split, place, reads, weighs, alongRow, alongColumn, sameAs, Outcome, firstDrawn, byMachine, ending}
 use Rattle.maps.specs.Demand.{Start, fresh, lineBy, linesBy}
 use Rattle.axis.proofs.Entries.{taken-mem}
 use Rattle.axis.proofs.Members.{placed}
 use Rattle.axis.proofs.Padding.{copies}
-use Rattle.mesh.proofs.Passing.{exact-says}
+use Rattle.mesh.proofs.Passing.{asked-says, exact-says}
 use Rattle.maps.proofs.GoodRecords.{Holds, good-facts, fresh-holds, set-holds, drawn-holds}
-use Rattle.mesh.proofs.Accepted.{replays-sides, replays-stands, replays-sound}
+use Rattle.mesh.proofs.Accepted.{replays-sides, replays-sound}
 use Rattle.maps.proofs.Readings.{Valued, set-valued, drawn-valued}
-use Rattle.mesh.proofs.ChosenLine.{chosen-exact}
-use Rattle.mesh.proofs.LeastLine.{least-sound-line}
+use Rattle.mesh.proofs.Allowance.{least, nearest-accepted}
 
 -- The splits are accepted in order from the fresh map, the map is sound, and each live blend has a 16-bit value.
 pub record Reached (P : Plain) : Type 0 where
@@ -100,11 +100,16 @@ module _ (P : Plain) (at : Reached P) where
         more = refl;
       }
 
-  -- a lengthened split takes one line, and draws it
-  one-leads : (s : Split) → given (P .lines) s ≡ 0 → Leads P (chosen (P .lines) s) (firstDrawn P (chosen (P .lines) s) .next)
-  one-leads s e =
-      let only-one = least-sound-line (P .lines) (replays-stands (at .holds .taken) .built) s e .taken in
-      rw only-one (drawn-leads _ (chosen-exact (P .lines) (at .valued .wide .0) (at .valued .tall .0) s _ [] e only-one))
+  -- a split takes one line, if any, and draws it
+  one-leads : (s : Split) (a : ℕ) → given (P .lines) s ≡ 0 → Leads P (chosen (P .lines) s a) (firstDrawn P (chosen (P .lines) s a) .next)
+  one-leads s a e = rw (least (P .lines) (at .holds .taken) s e .taken a) (by (within s a (nearestGood (P .lines) s)))
+    where
+      n : List Split
+      n = nearestGood (P .lines) s ∷ []
+
+      by : (b : Bool) → Leads P (cond b n []) (firstDrawn P (cond b n []) .next)
+      by true = drawn-leads _ (nearest-accepted (P .lines) (at .holds .taken) s e)
+      by false = leads-nowhere
 
   by-test : (lines : List Split) (b : Bool) (x y : Outcome Plain) → (b ≡ true → Leads P lines (x .next)) → (b ≡ false → Leads P lines (y .next)) →
       Leads P lines (cond b x y .next)
@@ -115,9 +120,8 @@ module _ (P : Plain) (at : Reached P) where
   step-leads (set i j v) =
       by-test [] (ltb (placeOf (blends P) (i + 1) (j + 1)) (length (blends P))) _ _ (λ e. set-leads i j (v % 65536) (mod-lt v (omega arith)))
       (λ e. leads-nowhere)
-  step-leads (exact s) = by-test _ (eqb (exactNumber (P .lines) s) 0) _ _ (λ e. rw e (drawn-leads s (eqb-true _ _ e))) (λ e. rw e leads-nowhere)
-  step-leads (lengthened s) =
-      by-test _ (eqb (given (P .lines) s) 0) _ _ (λ e. rw e (one-leads s (eqb-true _ _ e))) (λ e. rw e leads-nowhere)
+  step-leads (split s a) =
+      by-test _ (eqb (asked (P .lines) s a) 0) _ _ (λ e. rw e (one-leads s a (asked-says (P .lines) s a (eqb-true _ _ e) .1))) (λ e. rw e leads-nowhere)
   step-leads (place i) = leads-nowhere
   step-leads (reads u v) = leads-nowhere
   step-leads (weighs u v) = leads-nowhere

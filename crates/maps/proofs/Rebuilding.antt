@@ -27,8 +27,11 @@ use Rattle.mesh.specs.Lines.{meshOf}
 use Rattle.maps.specs.Values.{placeOf, drawn}
 use Rattle.maps.specs.Calls.{setPlain}
 use Rattle.mesh.specs.Splits.{exactNumber, withLine, accepted}
+use Rattle.mesh.specs.Replay.{Replays}
+use Rattle.mesh.proofs.Accepted.{replays-more}
+use Rattle.mesh.proofs.Allowance.{exact-taken}
 use Rattle.maps.specs.Record.{recordOf}
-use Rattle.maps.specs.Histories.{Call, set, exact, number, Outcome, outcome, byLibrary, byMachine, outcomes, ending}
+use Rattle.maps.specs.Histories.{Call, set, exactly, number, Outcome, outcome, byLibrary, byMachine, outcomes, ending}
 use Rattle.maps.specs.Demand.{recorded, linesBy}
 use Rattle.maps.proofs.Readings.{Valued, blends-proper}
 use Rattle.maps.proofs.Reached.{Reached}
@@ -76,17 +79,19 @@ pub accepted-more : (c : Call) (cs : List Call) (P Q R : Plain) → byMachine P 
 accepted-more c cs P Q R e a = rw e (refl, a)
 
 -- Splits that a record may have are accepted as calls, and are the lines of those calls.
-pub splits-drawn : (ss : List Split) (P : Plain) → accepted (P .lines) ss ≡ true →
-    (Q : Plain) × AcceptedTo P (map exact ss) Q × (linesBy P (map exact ss) ≡ ss)
+pub splits-drawn : (ss : List Split) (P : Plain) → Replays (P .lines) → accepted (P .lines) ss ≡ true →
+    (Q : Plain) × AcceptedTo P (map exactly ss) Q × (linesBy P (map exactly ss) ≡ ss)
 unfolding accepted drawn
-splits-drawn [] P e = (P, refl, refl)
-splits-drawn (s ∷ ss) P e =
+splits-drawn [] P taken e = (P, refl, refl)
+splits-drawn (s ∷ ss) P taken e =
     let a = and-both (eqb (exactNumber (P .lines) s) 0) (accepted (withLine (P .lines) s) ss) e in
-    let step : byMachine P (exact s) ≡ outcome (number 0) (drawn P s) = cond-true _ _ _ (a .0) in
-    let rest = splits-drawn ss (drawn P s) (a .1) in (
+    let z = eqb-true _ _ (a .0) in
+    let one = exact-taken (P .lines) taken s z in
+    let step : byMachine P (exactly s) ≡ outcome (number 0) (drawn P s) = rw (one .0, one .1) in
+    let rest = splits-drawn ss (drawn P s) (replays-more taken s z) (a .1) in (
       rest .0,
-      accepted-more (exact s) (map exact ss) P (drawn P s) (rest .0) step (rest .1),
-      rw (a .0) (ap (λ (l : List Split). s ∷ l) (rest .2)),
+      accepted-more (exactly s) (map exactly ss) P (drawn P s) (rest .0) step (rest .1),
+      rw (one .0, one .1) (ap (λ (l : List Split). s ∷ l) (rest .2)),
     )
 
 -- The place of a blend's own anchor is where the blend stands in the table,

@@ -2,7 +2,7 @@
 use Prim.Native.Nat.{ℕ}
 use mathlib.Core.Path.{_≡_, refl}
 use mathlib.Core.Logic.{⊎-elim}
-use mathlib.Core.Bool.{Bool, true, cond, _&&_}
+use mathlib.Core.Bool.{true, _&&_}
 use Rattle.axis.proofs.Tests.{either, and-both}
 use Rattle.mesh.specs.declared.Split.{Split}
 use Rattle.mesh.specs.declared.Table.{Table}
@@ -11,7 +11,7 @@ use Rattle.maps.specs.declared.Map.{Map}
 use Rattle.maps.specs.declared.Changed.{Changed}
 use Rattle.maps.specs.declared.opened.Opened.{Opened}
 use Rattle.maps.specs.Record.{good}
-use Rattle.maps.specs.Calls.{freshMap, setValue, exactSplit, lengthenedSplit}
+use Rattle.maps.specs.Calls.{freshMap, setValue, splitWithin}
 use Rattle.maps.specs.Opened.{withTable, Opens}
 use Rattle.maps.proofs.GoodRecords.{record-good, fresh-holds}
 use Rattle.maps.proofs.Changing.{GoodMap, set-good, split-good}
@@ -33,5 +33,5 @@ module _ {m : Map} {t : Table} {next : Opened} (g : GoodMap m t) where
   pub set-opens : (i j v : ℕ) → next ≡ withTable (setValue m i j v) → Opens next
   set-opens i j v e = opens e (set-good g i j v)
 
-  pub split-opens : (s : Split) (lengthen : Bool) → next ≡ withTable (cond lengthen (lengthenedSplit m s) (exactSplit m s)) → Opens next
-  split-opens s lengthen e = opens e (split-good g s lengthen)
+  pub split-opens : (s : Split) (a : ℕ) → next ≡ withTable (splitWithin m s a) → Opens next
+  split-opens s a e = opens e (split-good g s a)

@@ -10,7 +10,7 @@ use Rattle.mesh.specs.declared.Split.{Split}
 use Rattle.mesh.specs.declared.Blend.{Blend}
 use Rattle.mesh.specs.Lines.{allowedSide}
 use Rattle.mesh.specs.Sound.{none}
-use Rattle.mesh.specs.Splits.{exactNumber, given}
+use Rattle.mesh.specs.Splits.{asked}
 use Rattle.mesh.specs.Lengthening.{chosen}
 use Rattle.maps.specs.declared.Map.{Map}
 use Rattle.maps.specs.declared.Shape.{Shape}
@@ -102,24 +102,16 @@ weightsOn P u v =
 unfoldable pub weights : Map → ℕ → ℕ → Weights
 weights m u v = cond (not (good m)) (noWeights 2) (weightsOn (plain m) u v)
 
--- The exact split.
-unfoldable pub exactSplit : Map → Split → Changed
-exactSplit old s =
-    let P = plain old in
-    let n = exactNumber (P .lines) s in
-    cond (not (good old)) (changed 2 old)
-    (cond (eqb n 0) (changed 0 (recordOf (drawn P s)))
-    (changed n old))
-
--- The lengthened split: refusals 3 to 7 look at the split as given; 8 where no lengthened line exists.
+-- The split call (document 02, L7), with the extra length that it may add: refusals 3 to 7 look at the split and the allowance as given; 8 where no candidate
+-- is within the allowance.
 abbrev pub drawnFirst : Map → Plain → List Split → Changed
 drawnFirst old P [] = changed 8 old
 drawnFirst old P (c ∷ cs) = changed 0 (recordOf (drawn P c))
 
-unfoldable pub lengthenedSplit : Map → Split → Changed
-lengthenedSplit old s =
+unfoldable pub splitWithin : Map → Split → ℕ → Changed
+splitWithin old s allowance =
     let P = plain old in
-    let n = given (P .lines) s in
+    let n = asked (P .lines) s allowance in
     cond (not (good old)) (changed 2 old)
-    (cond (eqb n 0) (drawnFirst old P (chosen (P .lines) s))
+    (cond (eqb n 0) (drawnFirst old P (chosen (P .lines) s allowance))
     (changed n old))

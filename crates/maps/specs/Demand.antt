@@ -8,6 +8,7 @@ use lib.IntN.{ℤ, pos}
 use lib.ListN.{length, getD}
 use Rattle.mesh.specs.declared.Split.{Split}
 use Rattle.mesh.specs.declared.Blend.{Blend}
+use Rattle.axis.specs.Limits.{mostAllowance}
 use Rattle.axis.specs.Fraction.{Fraction, total}
 use Rattle.mesh.specs.Lines.{Mesh, mesh, allowedSide}
 use Rattle.mesh.specs.Order.{Coarser}
@@ -15,13 +16,14 @@ use Rattle.mesh.specs.Sound.{none}
 use Rattle.mesh.specs.Weight.{weight}
 use Rattle.maps.specs.declared.Map.{Map}
 use Rattle.maps.specs.Plain.{Plain, freshPlain}
-use Rattle.mesh.specs.Splits.{given, exactNumber}
-use Rattle.mesh.specs.Lengthening.{chosen}
+use Rattle.mesh.specs.Splits.{given, asked}
+use Rattle.mesh.specs.Lengthening.{within, chosen}
 use Rattle.mesh.specs.Crossings.{anchors, crossings, Tight}
-use Rattle.mesh.specs.Ends.{goodEnds, nearestGood, TwoLooks, LeastSoundLine}
+use Rattle.mesh.specs.Ends.{goodEnds, nearestGood, TwoLooks, LeastSoundLine, Allowances}
 use Rattle.maps.specs.Record.{recordOf, plain}
 use Rattle.maps.specs.Calls.{changed, freshMap, shape, tablePlace, reading}
-use Rattle.maps.specs.Histories.{Call, set, exact, lengthened, place, reads, weighs, alongRow, alongColumn, sameAs, number, Outcome, outcome, byLibrary, byMachine, outcomes, ending}
+use Rattle.maps.specs.Histories.{Call, set, split, place, reads, weighs, alongRow, alongColumn, sameAs, number, Outcome, outcome, byLibrary, byMachine, outcomes, ending}
+use Rattle.maps.specs.Allowance.{ByAllowance}
 use Rattle.maps.specs.Straight.{ValuesStraight, ReadsStraight}
 use Rattle.axis.specs.Range.{Distinct}
 
@@ -86,13 +88,11 @@ pub record Gentle (before after : Map) : Type 0 where
   pub lowered : (u v : ℕ) → reading before u v .litres ≤ reading after u v .litres + 1
 
 pub data IsSplit : Call → Type 0 where
-  exact-split : (s : Split) → IsSplit (exact s)
-  lengthened-split : (s : Split) → IsSplit (lengthened s)
+  is-split : (s : Split) (allowance : ℕ) → IsSplit (split s allowance)
 
 -- "The lines of a history are the fresh map's and those of its accepted splits, as drawn or as lengthened, run out and joined."
 abbrev pub lineBy : Plain → Call → List Split
-lineBy P (exact s) = cond (eqb (exactNumber (P .lines) s) 0) (s ∷ []) []
-lineBy P (lengthened s) = cond (eqb (given (P .lines) s) 0) (chosen (P .lines) s) []
+lineBy P (split s allowance) = cond (eqb (asked (P .lines) s allowance) 0) (chosen (P .lines) s allowance) []
 lineBy P (set i j v) = []
 lineBy P (place i) = []
 lineBy P (reads u v) = []
@@ -108,15 +108,18 @@ linesBy P (c ∷ cs) = lineBy P c ++ linesBy (byMachine P c .next) cs
 abbrev pub meshBy : Plain → List Call → Mesh
 meshBy P cs = mesh (P .lines .w) (P .lines .h) (P .lines .splits ++ linesBy P cs)
 
--- A split on a map, by the present map's two blends over each of its ends: an exact one is refused with 8 exactly where an end is not good; a
--- lengthened one never is, and draws the line between the nearest good ends, which lies in every other line that it could have drawn and adds fewer live
--- blends than each.
+-- A split on a map, by the present map's two blends over each of its ends. It draws the line between the nearest good ends, which lies in every other line
+-- that it could have drawn and adds fewer live blends than each; it is refused with 8 exactly where that line is longer than the allowance lets it be: with
+-- none where an end is not good, with the largest never.
 pub record ByEnds (m : Map) (s : Split) : Type 0 where
-  pub exact-says : byLibrary m (exact s) .answer ≡ number (cond (goodEnds (plain m .lines) s) 0 8)
-  pub lengthened-says : byLibrary m (lengthened s) .answer ≡ number 0
-  pub drawn-line : plain (byLibrary m (lengthened s) .next) .lines .splits ≡ plain m .lines .splits ++ nearestGood (plain m .lines) s ∷ []
+  pub says : (a : ℕ) → a ≤ mostAllowance → byLibrary m (split s a) .answer ≡ number (cond (within s a (nearestGood (plain m .lines) s)) 0 8)
+  pub drawn-line : (a : ℕ) → byLibrary m (split s a) .answer ≡ number 0 →
+      plain (byLibrary m (split s a) .next) .lines .splits ≡ plain m .lines .splits ++ nearestGood (plain m .lines) s ∷ []
+  pub none-says : byLibrary m (split s 0) .answer ≡ number (cond (goodEnds (plain m .lines) s) 0 8)
+  pub largest-says : byLibrary m (split s mostAllowance) .answer ≡ number 0
   pub looks : TwoLooks (plain m .lines) s
   pub least : LeastSoundLine (plain m .lines) s
+  pub allowances : Allowances (plain m .lines) s
 
 -- The demand on a list of calls, of a map that holds P at its start.
 pub record DemandFrom (P : Plain) (cs : List Call) : Type 0 where
@@ -152,6 +155,8 @@ pub record DemandFrom (P : Plain) (cs : List Call) : Type 0 where
       Coarser (meshBy P cs) (meshBy Q ds) × Coarser (meshBy Q ds) (meshBy P cs)
   -- Refusal 8, of every split that follows the list and passes 3 to 7: by its ends.
   pub by-ends : (s : Split) → let m = leftBy P cs in given (plain m .lines) s ≡ 0 → ByEnds m s
+  -- Document 02, L7, of every split that follows the list: what its allowance comes to.
+  pub by-allowance : (s : Split) → ByAllowance (leftBy P cs) s
   -- Document 02, L1: where the value at each anchor (m, n), as the table calls give them after the list, is A + B × m + C × n + D × m × n, the reading at
   -- every whole point (u, v) of the domain is A + B × u + C × v + D × u × v.
   pub straight : (A B C D : ℤ) → ValuesStraight (leftBy P cs) A B C D → ReadsStraight (leftBy P cs) blends (P .lines .w) (P .lines .h) A B C D

@@ -5,7 +5,7 @@ use mathlib.Core.List.{List, [], _∷_}
 use lib.Dec.{ltb, eqb}
 use lib.ListN.{length}
 use Rattle.mesh.specs.declared.Split.{Split}
-use Rattle.mesh.specs.Splits.{given, exactNumber}
+use Rattle.mesh.specs.Splits.{asked}
 use Rattle.mesh.specs.Lengthening.{chosen}
 use Rattle.maps.specs.declared.Map.{Map}
 use Rattle.maps.specs.declared.Placed.{Placed}
@@ -16,19 +16,23 @@ use Rattle.maps.specs.declared.Same.{Same}
 use Rattle.maps.specs.Plain.{Plain, blends}
 use Rattle.maps.specs.Values.{placeOf, drawn}
 use Rattle.maps.specs.Record.{plain, good}
-use Rattle.maps.specs.Calls.{setPlain, setValue, placeOn, tablePlace, readingOn, reading, weightsOn, weights, exactSplit, lengthenedSplit}
+use Rattle.maps.specs.Calls.{setPlain, setValue, placeOn, tablePlace, readingOn, reading, weightsOn, weights, splitWithin}
 use Rattle.maps.specs.Pairs.{rowOn, rowPairs, columnOn, columnPairs}
 use Rattle.maps.specs.Sameness.{samePlain, sameness}
 
--- A call on a map. A value is a 16-bit number: what is left of the given one by 65,536. `alongRow` and `alongColumn` are document 02's, L2: a row or a
+-- A call on a map. A value is a 16-bit number: what is left of the given one by 65,536. A split comes with its allowance (document 02, L7). `alongRow` and `alongColumn` are document 02's, L2: a row or a
 -- column, and a wanted flow.
 pub data Call : Type 0 where
   set : ℕ → ℕ → ℕ → Call
-  exact lengthened : Split → Call
+  split : Split → ℕ → Call
   place : ℕ → Call
   reads weighs : ℕ → ℕ → Call
   alongRow alongColumn : ℕ → ℕ → Call
   sameAs : Map → Call
+
+-- "Records and files are still built with allowance 0."
+abbrev pub exactly : Split → Call
+exactly s = split s 0
 
 -- What a call answers, beside the map that it hands back or leaves: its number and every other part.
 pub data Answer : Type 0 where
@@ -59,8 +63,7 @@ outcome a s = record { answer = a; next = s }
 -- The calls of the library: each step is the definition that the call's public contract cites.
 abbrev pub byLibrary : Map → Call → Outcome Map
 byLibrary m (set i j v) = let r = setValue m i j (v % 65536) in outcome (number (r .number)) (r .map)
-byLibrary m (exact s) = let r = exactSplit m s in outcome (number (r .number)) (r .map)
-byLibrary m (lengthened s) = let r = lengthenedSplit m s in outcome (number (r .number)) (r .map)
+byLibrary m (split s allowance) = let r = splitWithin m s allowance in outcome (number (r .number)) (r .map)
 byLibrary m (place i) = outcome (placed (tablePlace m i)) m
 byLibrary m (reads u v) = outcome (read (reading m u v)) m
 byLibrary m (weighs u v) = outcome (weighed (weights m u v)) m
@@ -77,10 +80,8 @@ abbrev pub byMachine : Plain → Call → Outcome Plain
 byMachine P (set i j v) =
     cond (ltb (placeOf (blends P) (i + 1) (j + 1)) (length (blends P))) (outcome (number 0) (setPlain P i j (v % 65536)))
     (outcome (number 9) P)
-byMachine P (exact s) =
-    let n = exactNumber (P .lines) s in cond (eqb n 0) (outcome (number 0) (drawn P s)) (outcome (number n) P)
-byMachine P (lengthened s) =
-    let n = given (P .lines) s in cond (eqb n 0) (firstDrawn P (chosen (P .lines) s)) (outcome (number n) P)
+byMachine P (split s allowance) =
+    let n = asked (P .lines) s allowance in cond (eqb n 0) (firstDrawn P (chosen (P .lines) s allowance)) (outcome (number n) P)
 byMachine P (place i) = outcome (placed (placeOn P i)) P
 byMachine P (reads u v) = outcome (read (readingOn P u v)) P
 byMachine P (weighs u v) = outcome (weighed (weightsOn P u v)) P

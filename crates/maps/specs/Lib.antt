@@ -3,6 +3,7 @@ pub mod Rounding
 pub mod Values
 pub mod Record
 pub mod Calls
+pub mod Allowance
 pub mod Pairs
 pub mod PairsTold
 pub mod Opened

@@ -14,7 +14,7 @@ use mesh::Split;
 ghost use mathlib.Core.Path.{_≡_};
 ghost use mathlib.Core.Bool.{_&&_};
 ghost use lib.Dec.{leb};
-ghost use Rattle.maps.specs.Calls.{noShape, noPlace, noWeights, setValue, tablePlace, reading, weights, exactSplit, lengthenedSplit};
+ghost use Rattle.maps.specs.Calls.{noShape, noPlace, noWeights, setValue, tablePlace, reading, weights, splitWithin};
 ghost use Rattle.maps.specs.Pairs.{noPairs, rowPairs, columnPairs};
 ghost use Rattle.maps.specs.Sameness.{sameness};
 
@@ -147,26 +147,15 @@ impl Map {
         without_table(opened.set(m, n, value))
     }
 
-    // Draws a line as given: refused with 2 to 8.
-    pub fn exact_split(self, s: Split) -> Changed
-        ensures { λ r. ⌜ r ≡ exactSplit self s ⌝ }
+    // Draws the sound line through the given one that adds the fewest live blends and is longer by at most the allowance: refused with 2 to 8.
+    pub fn split(self, s: Split, allowance: usize) -> Changed
+        ensures { λ r. ⌜ r ≡ splitWithin self s allowance ⌝ }
     {
         let opened = open(self);
         if opened.number != 0 {
             return without_table(opened);
         }
-        without_table(opened.split(s, false))
-    }
-
-    // Draws the sound line through the given one that adds the fewest live blends: refused with 2 to 8.
-    pub fn lengthened_split(self, s: Split) -> Changed
-        ensures { λ r. ⌜ r ≡ lengthenedSplit self s ⌝ }
-    {
-        let opened = open(self);
-        if opened.number != 0 {
-            return without_table(opened);
-        }
-        without_table(opened.split(s, true))
+        without_table(opened.split(s, allowance))
     }
 
     // Whether two maps are the same; 2 where either record is not good, and then "no".

@@ -29,14 +29,14 @@ use mesh::splits::split;
 use mesh::tables::fresh_table;
 ghost use mathlib.Core.Path.{_≡_};
 ghost use mathlib.Core.List.{[]};
-ghost use mathlib.Core.Bool.{true, cond};
+ghost use mathlib.Core.Bool.{true};
 ghost use Prim.Native.Nat.{_<_};
 ghost use lib.Dec.{leb, eqb};
 ghost use lib.ListN.{drop};
 ghost use Rattle.axis.specs.Range.{all};
 ghost use Rattle.mesh.specs.Sound.{table};
 ghost use Rattle.maps.specs.Record.{isNoSplit};
-ghost use Rattle.maps.specs.Calls.{changed, freshMap, setValue, tablePlace, reading, weights, exactSplit, lengthenedSplit};
+ghost use Rattle.maps.specs.Calls.{changed, freshMap, setValue, tablePlace, reading, weights, splitWithin};
 ghost use Rattle.maps.specs.Pairs.{rowPairs, columnPairs};
 ghost use Rattle.maps.specs.Sameness.{sameness};
 ghost use Rattle.maps.specs.Opened.{withTable, opened, Opens};
@@ -317,12 +317,12 @@ impl Opened {
         }
     }
 
-    // The rest of `Map::exact_split`, or of `Map::lengthened_split`.
-    pub fn split(self, s: Split, lengthen: bool) -> Opened
+    // The rest of `Map::split`.
+    pub fn split(self, s: Split, allowance: usize) -> Opened
         requires { ⌜ Opens self ⌝ }
-        ensures { λ r. ⌜ r ≡ withTable (cond lengthen (lengthenedSplit (self .map) s) (exactSplit (self .map) s)) ⌝ }
+        ensures { λ r. ⌜ r ≡ withTable (splitWithin (self .map) s allowance) ⌝ }
     {
-        let step = split(self.map.lines, self.table, s, lengthen);
+        let step = split(self.map.lines, self.table, s, allowance);
         if step.number != 0 {
             return numbered(self, step.number);
         }

@@ -2,25 +2,27 @@
 use Prim.Native.Nat.{ℕ, _+_, _≤_}
 use native.Mathlib.Omega.{arith}
 use mathlib.Core.Path.{_≡_, refl, sym, ap, subst, _∙_}
+use mathlib.Core.Logic.{⊎-elim}
 use mathlib.Core.Bool.{true, cond}
 use mathlib.Core.List.{[], _∷_}
 use borrow.Author.Tests.{le-leb, lt-leb, eq-eqb, ne-eqb}
 use lib.Dec.{eqb}
 use lib.ListN.{length}
 use Rattle.axis.specs.Limits.{mostAllowance}
-use Rattle.axis.proofs.Tests.{cond-true, cond-false, only-all}
+use Rattle.axis.proofs.Tests.{either, cond-true, cond-false, only-all}
 use Rattle.axis.proofs.Runs.{if-at-most}
 use Rattle.mesh.specs.Lines.{direction, other, Layout}
-use Rattle.mesh.specs.Splits.{soundWith, given, exactNumber}
+use Rattle.mesh.specs.Splits.{soundWith, given, asked, exactNumber}
 use Rattle.mesh.specs.Lengthening.{spanning, Contains, stepsOf, candidates, leastOf, within, chosen, Candidate}
-use Rattle.mesh.specs.Ends.{nearestGood, LeastSoundLine, ByAllowance}
+use Rattle.mesh.specs.Ends.{goodEnds, nearestGood, LeastSoundLine, Allowances}
 use Rattle.mesh.specs.Replay.{Replays}
 use Rattle.mesh.specs.declared.Split.{Split}
 use Rattle.mesh.proofs.Ranges.{side-most}
 use Rattle.mesh.proofs.Containing.{contains-spanning, listed, is-candidate}
-use Rattle.mesh.proofs.Passing.{Given, given-says, ends-in}
+use Rattle.mesh.proofs.Passing.{Given, given-says, asked-given, exact-passes, ends-in}
 use Rattle.mesh.proofs.ChosenLine.{candidate-exact}
 use Rattle.mesh.proofs.TightMaps.{Built}
+use Rattle.mesh.proofs.TwoLooks.{two-looks}
 use Rattle.mesh.proofs.LeastLine.{least-sound-line}
 use Rattle.mesh.proofs.Accepted.{replays-sides, replays-stands}
 
@@ -37,6 +39,9 @@ module _ (P : Layout) (replays : Replays P) (s : Split) (passes : given P s ≡ 
 
   pub least : LeastSoundLine P s
   least = least-sound-line P built s passes
+
+  pub nearest-accepted : exactNumber P (nearestGood P s) ≡ 0
+  nearest-accepted = let i = least .is-candidate in candidate-exact P (built .wide) (built .high) s (nearestGood P s) passes (i .0) .0 (i .1)
 
   -- it contains itself, and a line that contains it and is no longer is the same;
   itself : Contains P s s
@@ -63,6 +68,12 @@ module _ (P : Layout) (replays : Replays P) (s : Split) (passes : given P s ≡ 
   nearest-exact le =
       candidate-exact P (built .wide) (built .high) s s passes itself .0
       (subst (λ (c : Split). Candidate P s c) (no-longer le) (least .is-candidate) .1)
+
+  -- One that is not is refused with 8.
+  pub exact-unsound : (exactNumber P s ≡ 0 → ⊥) → exactNumber P s ≡ 8
+  exact-unsound ne =
+      let is = two-looks P built s passes .refused in
+      ⊎-elim (λ t. absurd (ne (is ∙ rw t))) (λ f. is ∙ rw f) (either (goodEnds P s))
 
   none-taken : chosen P s 0 ≡ cond (eqb (exactNumber P s) 0) (s ∷ []) []
   none-taken =
@@ -96,12 +107,19 @@ module _ (P : Layout) (replays : Replays P) (s : Split) (passes : given P s ≡ 
   unfolding exactNumber
   sound-exact t = rw (passes, t)
 
-  pub by-allowance : ByAllowance P s
-  by-allowance =
+  pub allowances : Allowances P s
+  allowances =
       record {
         none = none-taken;
         largest = all-within;
         always = always-taken;
         given-line = λ t. listed P s s (given-candidate (sound-exact t));
+        given-least = λ t. exact-nearest (sound-exact t);
         more = more-taken;
       }
+
+-- With no allowance the split call draws what is accepted as an exact split.
+pub exact-taken : (P : Layout) → Replays P → (s : Split) → exactNumber P s ≡ 0 → (asked P s 0 ≡ 0) × (chosen P s 0 ≡ s ∷ [])
+exact-taken P replays s e =
+    let passes = exact-passes P s e .0 in
+    (asked-given P s 0 (omega arith) ∙ passes, allowances P replays s passes .none ∙ cond-true _ _ _ (eq-eqb _ _ e))

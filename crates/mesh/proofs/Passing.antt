@@ -3,14 +3,15 @@ use Prim.Native.Nat.{ℕ, zero, suc, _≤_, _<_}
 use native.Mathlib.Omega.{arith}
 use mathlib.Core.Path.{_≡_, refl, _∙_}
 use mathlib.Core.Logic.{⊎-elim}
-use mathlib.Core.Bool.{Bool, true, false, cond, _&&_}
+use mathlib.Core.Bool.{Bool, true, false, cond, _&&_, not}
 use lib.Dec.{leb, ltb, eqb}
 use lib.ListN.{length}
-use borrow.Author.Tests.{leb-false, le-leb, lt-ltb, ne-eqb, not-true, not-false}
+use borrow.Author.Tests.{leb-false, le-leb, lt-ltb, le-ltb, ltb-false, ne-eqb, not-true, not-false}
+use Rattle.axis.specs.Limits.{mostSplits, mostAllowance}
 use Rattle.axis.specs.Range.{any}
 use Rattle.mesh.specs.Lines.{Layout, meshOf, fits, inRange, shares, ended}
 use Rattle.mesh.specs.Blends.{isCut}
-use Rattle.mesh.specs.Splits.{liveOf, withLine, soundWith, given, exactNumber}
+use Rattle.mesh.specs.Splits.{liveOf, withLine, soundWith, given, asked, exactNumber}
 use Rattle.mesh.specs.Lengthening.{candidate, run, spanning}
 use Rattle.mesh.specs.declared.Split.{Split}
 use Rattle.axis.proofs.Tests.{either, and-both, and-of, cond-true, cond-false}
@@ -45,14 +46,44 @@ given-says P s e =
       cut = not-false _ (f .0);
     }
 
-pub exact-says : (P : Layout) (s : Split) → exactNumber P s ≡ 0 → Given P s × (soundWith P s ≡ true)
+-- what it says that the split call passes them, with an allowance in range
+pub asked-given : (P : Layout) (s : Split) (a : ℕ) → a ≤ mostAllowance → asked P s a ≡ given P s
+unfolding asked
+asked-given P s a few = cond-false _ _ _ (le-ltb _ _ few)
+
+pub asked-says : (P : Layout) (s : Split) (a : ℕ) → asked P s a ≡ 0 → (a ≤ mostAllowance) × (given P s ≡ 0)
+unfolding asked
+asked-says P s a e = let f = chain _ 3 _ (omega arith) e in (ltb-false _ _ (f .0), f .1)
+
+pub exact-passes : (P : Layout) (s : Split) → exactNumber P s ≡ 0 → (given P s ≡ 0) × (soundWith P s ≡ true)
 unfolding exactNumber
-exact-says P s e = let r = both-pass (given P s) (soundWith P s) e in (given-says P s (r .0), r .1)
+exact-passes P s e = both-pass (given P s) (soundWith P s) e
   where
     both-pass : (g : ℕ) (b : Bool) → cond (eqb g 0) (cond b 0 8) g ≡ 0 → (g ≡ 0) × (b ≡ true)
     both-pass zero true e = (refl, refl)
     both-pass zero false e = absurd (omega arith)
     both-pass (suc g) b e = absurd (omega (arith, rw (ne-eqb (suc g) 0 (omega arith)) at e))
+
+pub exact-says : (P : Layout) (s : Split) → exactNumber P s ≡ 0 → Given P s × (soundWith P s ≡ true)
+exact-says P s e = let r = exact-passes P s e in (given-says P s (r .0), r .1)
+
+-- and that one of the checks refuses it
+pub exact-refused : (P : Layout) (s : Split) → (given P s ≡ 0 → ⊥) → exactNumber P s ≡ given P s
+unfolding exactNumber
+exact-refused P s ne = cond-false _ _ _ (ne-eqb _ 0 ne)
+
+pub given-most : (P : Layout) (s : Split) → given P s ≤ 7
+unfolding given
+given-most P s =
+    most (not (inRange (P .w) (P .h) s)) 3 _ (omega arith)
+    (most (leb mostSplits (length (P .splits))) 4 _ (omega arith)
+    (most (shares (meshOf P) s) 5 _ (omega arith)
+    (most (not (ended (meshOf P) s)) 6 _ (omega arith)
+    (most (not (any (isCut (meshOf (withLine P s))) (liveOf P))) 7 0 (omega arith) (omega arith)))))
+  where
+    most : (b : Bool) (n rest : ℕ) → n ≤ 7 → rest ≤ 7 → cond b n rest ≤ 7
+    most true n rest le more = le
+    most false n rest le more = more
 
 -- and that a line is a candidate
 pub record Drawable (P : Layout) (c : Split) : Type 0 where

@@ -3,22 +3,21 @@ use Prim.Native.Nat.{ℕ, _+_, _*_, _≤_, _<_}
 use native.Mathlib.Omega.{arith}
 use native.Mathlib.Numerals.{add-one}
 use mathlib.Core.Path.{_≡_, refl, sym, ap, _∙_}
-use mathlib.Core.Logic.{⊎-elim}
 use mathlib.Core.Bool.{Bool, true, false, cond, _&&_}
 use mathlib.Core.List.{List, [], _∷_, _++_}
-use borrow.Author.Tests.{le-leb, lt-leb, le-ltb, lt-ltb, eq-eqb, ne-eqb}
+use borrow.Author.Tests.{le-leb, lt-leb, lt-ltb, eq-eqb, ne-eqb}
 use lib.Dec.{eqb, leb}
 use lib.ListN.{length, getD, take, drop, replicate, length-replicate}
 use lib.Seq.{take-suc, length-take-le}
 use Rattle.axis.specs.Limits.{mostAllowance}
-use Rattle.axis.proofs.Tests.{either, and-first, and-last, cond-true, cond-false}
+use Rattle.axis.proofs.Tests.{and-first, and-last, cond-true, cond-false}
 use Rattle.axis.proofs.Runs.{if-at-most, if-equal}
 use Rattle.axis.proofs.Entries.{left-turn, left-none}
 use Rattle.mesh.specs.Lines.{direction, other, side, allowedSide, Layout, layout, splitsOf, layoutOf}
 use Rattle.mesh.specs.Sound.{table}
 use Rattle.mesh.specs.Splits.{given, asked, exactNumber, accepted}
 use Rattle.mesh.specs.Lengthening.{stepsOf}
-use Rattle.mesh.specs.Ends.{goodEnds, nearestGood}
+use Rattle.mesh.specs.Ends.{nearestGood}
 use Rattle.mesh.specs.Replay.{replays, Replays, replayed, notReplayed, refusedStep, splitStep}
 use Rattle.mesh.specs.Bytes.{Tall, Zeros, walk}
 use Rattle.mesh.specs.Carried.{Carried, Cleared, unlinked, Noted, Searches, toldOf, foundBy, verdict}
@@ -28,11 +27,11 @@ use Rattle.mesh.specs.declared.Table.{Table}
 use Rattle.mesh.specs.declared.Step.{Step}
 use Rattle.mesh.specs.declared.splits.Verdict.{Verdict}
 use Rattle.mesh.proofs.Drawing.{blank}
+use Rattle.mesh.proofs.Passing.{asked-given, exact-refused}
 use Rattle.mesh.proofs.ChosenLine.{chosen-exact}
-use Rattle.mesh.proofs.TwoLooks.{two-looks}
 use Rattle.mesh.proofs.LeastLine.{least-sound-line}
 use Rattle.mesh.proofs.Accepted.{replays-stands, replays-sides}
-use Rattle.mesh.proofs.Allowance.{exact-nearest, nearest-exact}
+use Rattle.mesh.proofs.Allowance.{exact-unsound, exact-nearest, nearest-exact}
 use Rattle.mesh.proofs.Stepping.{carried-walk}
 
 -- tables of n zeros are cleared, where n entries are the rows of both sides
@@ -65,16 +64,7 @@ module _ (P : Layout) (s : Split) where
       (λ gt. absurd (omega (arith, none, ap (λ (u : Verdict). u .number) (found ∙ cond-false _ _ _ (lt-leb _ _ gt))))))
       (λ ne. absurd (ne (sym (ap (λ (u : Verdict). u .number) (is ∙ cond-false _ _ _ (ne-eqb _ 0 ne))) ∙ none)))
 
-  not-given : (given P s ≡ 0 → ⊥) → exactNumber P s ≡ given P s
-  unfolding exactNumber
-  not-given ne = cond-false _ _ _ (ne-eqb _ 0 ne)
-
   module _ (taken : Replays P) where
-    not-exact : given P s ≡ 0 → (exactNumber P s ≡ 0 → ⊥) → exactNumber P s ≡ 8
-    not-exact e ne =
-        let is = two-looks P (replays-stands taken .built) s e .refused in
-        ⊎-elim (λ t. absurd (ne (is ∙ rw t))) (λ f. is ∙ rw f) (either (goodEnds P s))
-
     -- with no allowance it is the exact split,
     pub verdict-exact : verdict P s 0 .number ≡ exactNumber P s
     verdict-exact =
@@ -83,8 +73,8 @@ module _ (P : Layout) (s : Split) where
         if-at-most (stepsOf (nearestGood P s)) (stepsOf s)
         (λ le. ap (λ (v : Verdict). v .number) (cond-true _ _ _ (le-leb (stepsOf (nearestGood P s)) (stepsOf s + 0) (omega arith))) ∙ sym (nearest-exact P taken s e le))
         (λ gt. ap (λ (v : Verdict). v .number) (cond-false _ _ _ (lt-leb (stepsOf (nearestGood P s)) (stepsOf s + 0) (omega arith))) ∙
-        sym (not-exact e (λ z. omega (arith, ap stepsOf (exact-nearest P taken s e z))))))
-        (λ ne. ap (λ (v : Verdict). v .number) (cond-false _ _ _ (ne-eqb _ 0 ne)) ∙ sym (not-given ne))
+        sym (exact-unsound P taken s e (λ z. omega (arith, ap stepsOf (exact-nearest P taken s e z))))))
+        (λ ne. ap (λ (v : Verdict). v .number) (cond-false _ _ _ (ne-eqb _ 0 ne)) ∙ sym (exact-refused P s ne))
 
     pub verdict-line : {v : Verdict} → v ≡ verdict P s 0 → v .number ≡ 0 → v .line ≡ s
     verdict-line is none =
@@ -195,10 +185,6 @@ module _ (L : Lines) (t : Table) (s : Split) where
   split-beyond a lt = rw (lt-ltb _ _ lt)
 
   module _ (a : ℕ) (few : a ≤ mostAllowance) where
-    asked-given : asked (layoutOf L) s a ≡ given (layoutOf L) s
-    unfolding asked
-    asked-given = cond-false _ _ _ (le-ltb _ _ few)
-
     pub verdict-told : Replays (layoutOf L) → {v : Verdict} → v ≡ verdict (layoutOf L) s a → (v .number ≡ 0 → ⊥) →
         refusedStep t (v .number) s ≡ splitStep L t s a
     unfolding splitStep
@@ -209,13 +195,13 @@ module _ (L : Lines) (t : Table) (s : Split) where
         if-at-most (stepsOf n) (stepsOf s + a)
         (λ le. absurd (ne (ap (λ (u : Verdict). u .number) (found ∙ cond-true _ _ _ (le-leb _ _ le)))))
         (λ gt. rw (
-          asked-given,
+          asked-given (layoutOf L) s a few,
           e,
           found,
           least-sound-line (layoutOf L) (replays-stands taken .built) s e .taken a,
           lt-leb _ _ gt,
         )))
-        (λ no. rw (asked-given, is, ne-eqb (given (layoutOf L) s) 0 no))
+        (λ no. rw (asked-given (layoutOf L) s a few, is, ne-eqb (given (layoutOf L) s) 0 no))
 
     pub verdict-drawn : Replays (layoutOf L) → {v : Verdict} → v ≡ verdict (layoutOf L) s a → v .number ≡ 0 →
         {ups lvs cols rows places : List ℕ} {new : Table} → Carried (L .w) (L .h) (splitsOf L ++ v .line ∷ []) ups lvs cols rows places →
@@ -224,4 +210,4 @@ module _ (L : Lines) (t : Table) (s : Split) where
     verdict-drawn taken {v} is none now e =
         let f = verdict-says (layoutOf L) s a is none in
         ap (λ (x : Table). record { number = 0; split = v .line; table = x }) (e ∙ ap table (carried-walk now)) ∙
-        rw (asked-given, f .0, f .2, least-sound-line (layoutOf L) (replays-stands taken .built) s (f .0) .taken a, le-leb _ _ (f .1))
+        rw (asked-given (layoutOf L) s a few, f .0, f .2, least-sound-line (layoutOf L) (replays-stands taken .built) s (f .0) .taken a, le-leb _ _ (f .1))

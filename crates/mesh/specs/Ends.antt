@@ -79,14 +79,15 @@ pub record LeastSoundLine (P : Layout) (s : Split) : Type 0 where
   pub fewest-alone : (c : Split) → Candidate P s c → (nearestGood P s ≡ c) ⊎ (adds P (nearestGood P s) < adds P c)
   pub shortest-alone : (c : Split) → Candidate P s c → (nearestGood P s ≡ c) ⊎ (stepsOf (nearestGood P s) < stepsOf c)
 
--- What an allowance comes to (document 02, L7). What `by-allowance` shows of such a split:
-pub record ByAllowance (P : Layout) (s : Split) : Type 0 where
+-- What an allowance comes to (document 02, L7). What `allowances` shows of such a split:
+pub record Allowances (P : Layout) (s : Split) : Type 0 where
   -- "Allowance 0 is the exact split."
   pub none : chosen P s 0 ≡ cond (eqb (exactNumber P s) 0) (s ∷ []) []
   -- The largest is L4's lengthened split: no candidate is too long, so there always is a line.
   pub largest : chosen P s mostAllowance ≡ leastOf P (candidates P s)
   pub always : chosen P s mostAllowance ≡ nearestGood P s ∷ []
-  -- "the given line among them if it leaves a sound map"
+  -- "the given line among them if it leaves a sound map", and then it is the one that lies in all the others
   pub given-line : soundWith P s ≡ true → List·Memᴰ s (candidates P s)
+  pub given-least : soundWith P s ≡ true → nearestGood P s ≡ s
   -- Where an allowance accepts, every larger one takes the same line.
   pub more : (a b : ℕ) (c : Split) → a ≤ b → chosen P s a ≡ c ∷ [] → chosen P s b ≡ c ∷ []

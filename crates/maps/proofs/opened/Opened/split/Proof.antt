@@ -3,9 +3,8 @@ use borrow.Author.Needs.{needs}
 use Prim.Native.Nat.{_<_}
 use native.Mathlib.Omega.{arith}
 use mathlib.Core.Path.{_∙_}
-use mathlib.Core.Bool.{cond}
 use Rattle.maps.specs.declared.Changed.{Changed}
-use Rattle.maps.specs.Calls.{exactSplit, lengthenedSplit}
+use Rattle.maps.specs.Calls.{splitWithin}
 use Rattle.maps.proofs.Changing.{GoodMap, open-map, Draws, StepOf, split-step, in-table, step-refused, step-room, new-few, new-proper, step-grown, step-drawn}
 use Rattle.maps.proofs.opened.Opened.split.Statement.{statement}
 use Rattle.maps.proofs.opened.Opened.split.Tie as tie
@@ -14,10 +13,10 @@ good-self : (c : tie.Start) → GoodMap (c .args .self .map) (c .args .self .tab
 good-self c = open-map (c .args .self) (c .pre) _ (c .good .0)
 
 abbrev call : tie.Start → Changed
-call c = let a = c .args in cond (a .lengthen) (lengthenedSplit (a .self .map) (a .s)) (exactSplit (a .self .map) (a .s))
+call c = let a = c .args in splitWithin (a .self .map) (a .s) (a .allowance)
 
 step : (c : tie.After-split) → StepOf (c .before .args .self .map) (c .split .result) (call (c .before))
-step c = let s = c .before in rw (c .split .ensures) (split-step (good-self s) (s .args .s) (s .args .lengthen))
+step c = let s = c .before in rw (c .split .ensures) (split-step (good-self s) (s .args .s) (s .args .allowance))
 
 draws : (c : tie.Else1) → let p = c .before .before in Draws (p .before .args .self .map) (p .split .result) (call (p .before))
 draws c = step (c .before .before) .0 (c .if1 .left)

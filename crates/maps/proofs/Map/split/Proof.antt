@@ -1,17 +1,17 @@
--- `maps::Map::lengthened_split` meets its contract: a record that is not good is refused, else the answer is that of the opened one.
+-- `maps::Map::split` meets its contract: a record that is not good is refused, else the answer is that of the opened one.
 use borrow.Author.Needs.{needs}
 use mathlib.Core.Path.{sym, ap, _∙_}
 use mathlib.Core.Bool.{not}
 use Rattle.axis.proofs.Tests.{cond-true}
 use Rattle.maps.specs.declared.opened.Opened.{Opened}
-use Rattle.maps.specs.Calls.{changed, lengthenedSplit}
+use Rattle.maps.specs.Calls.{changed, splitWithin}
 use Rattle.maps.specs.Opened.{Opens}
 use Rattle.maps.proofs.Changing.{same-map, not-good, is-opened, refused-as}
-use Rattle.maps.proofs.Map.lengthened_split.Statement.{statement}
-use Rattle.maps.proofs.Map.lengthened_split.Tie as tie
+use Rattle.maps.proofs.Map.split.Statement.{statement}
+use Rattle.maps.proofs.Map.split.Tie as tie
 
 returns : tie.Need-returns
-unfolding lengthenedSplit
+unfolding splitWithin
 returns c =
     let o = c .before .before .before .«open» in
     let ne = c .before .if1 .taken in
@@ -28,8 +28,8 @@ returns-2 c =
     let o = c .before .before .before .before .«open» in
     c .without-table2 .ensures ∙ ap (λ (x : Opened). changed (x .number) (x .map)) (c .before .split .ensures) ∙ rw (same-map _ (o .result) (o .ensures))
 
-pub lengthened-split-spec : {M : Type 1} → statement M
-lengthened-split-spec =
+pub split-spec : {M : Type 1} → statement M
+split-spec =
     tie.close
     (tie.spec
     (λ c κs. search needs)
