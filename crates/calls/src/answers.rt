@@ -30,7 +30,7 @@ fn history(map: Opened, line: &[u8], out: &mut [u8], at: &mut usize) -> Opened
         no_call(out, at);
         return map;
     }
-    let r = fresh(n.c, n.d);
+    let r = fresh(n.d, n.e);
     if r.number != 0 {
         told(r.number, out, at);
     }
@@ -42,7 +42,7 @@ fn set(map: Opened, line: &[u8], out: &mut [u8], at: &mut usize) -> Opened
     ensures { λ r. ⌜ Opens r ⌝ }
 {
     let n = text::numbers(line, 3, 3);
-    let value = n.d;
+    let value = n.e;
     if !n.whole {
         no_call(out, at);
         return map;
@@ -51,7 +51,7 @@ fn set(map: Opened, line: &[u8], out: &mut [u8], at: &mut usize) -> Opened
         no_call(out, at);
         return map;
     }
-    let r = map.set(n.b, n.c, value as u16);
+    let r = map.set(n.c, n.d, value as u16);
     told(r.number, out, at);
     r
 }
@@ -64,7 +64,7 @@ fn place(map: Opened, line: &[u8], out: &mut [u8], at: &mut usize)
         no_call(out, at);
         return;
     }
-    let r = map.place(n.d);
+    let r = map.place(n.e);
     told(r.number, out, at);
     if r.number == 0 {
         show::shape(r.blend, out, at);
@@ -81,7 +81,7 @@ fn reading(map: Opened, line: &[u8], out: &mut [u8], at: &mut usize)
         no_call(out, at);
         return;
     }
-    let r = map.reading(n.c, n.d);
+    let r = map.reading(n.d, n.e);
     told(r.number, out, at);
     if r.number == 0 {
         show::number(r.litres, out, at);
@@ -96,7 +96,7 @@ fn weights(map: Opened, line: &[u8], out: &mut [u8], at: &mut usize)
         no_call(out, at);
         return;
     }
-    let r = map.weights(n.c, n.d);
+    let r = map.weights(n.d, n.e);
     told(r.number, out, at);
     if r.number == 0 {
         show::four(r, out, at);
@@ -113,9 +113,9 @@ fn along(map: Opened, row: bool, line: &[u8], word: usize, out: &mut [u8], at: &
         return;
     }
     let r = if row {
-        map.row(n.c, n.d)
+        map.row(n.d, n.e)
     } else {
-        map.column(n.c, n.d)
+        map.column(n.d, n.e)
     };
     told(r.number, out, at);
     if r.number == 0 {
@@ -149,19 +149,12 @@ fn told_split(r: Opened, out: &mut [u8], at: &mut usize) {
     }
 }
 
-// A line drawn as given, or lengthened. `word` is the length of the call's word.
-fn split(
-    map: Opened,
-    lengthen: bool,
-    line: &[u8],
-    word: usize,
-    out: &mut [u8],
-    at: &mut usize,
-) -> Opened
+// A split with its allowance.
+fn split(map: Opened, line: &[u8], out: &mut [u8], at: &mut usize) -> Opened
     requires { ⌜ Opens map ⌝ }
     ensures { λ r. ⌜ Opens r ⌝ }
 {
-    let n = text::numbers(line, word, 4);
+    let n = text::numbers(line, 5, 5);
     if !n.whole {
         no_call(out, at);
         return map;
@@ -172,7 +165,7 @@ fn split(
         from: n.c,
         to: n.d,
     };
-    let r = map.split(s, lengthen);
+    let r = map.split(s, n.e);
     told_split(r, out, at);
     r
 }
@@ -241,8 +234,7 @@ pub(crate) fn answer(map: Opened, line: &[u8], out: &mut [u8], at: &mut usize) -
     match call {
         Call::History => return history(map, line, out, at),
         Call::Set => return set(map, line, out, at),
-        Call::Exact => return split(map, false, line, 5, out, at),
-        Call::Lengthen => return split(map, true, line, 8, out, at),
+        Call::Split => return split(map, line, out, at),
         _ => question(call, map, line, out, at),
     }
     map

@@ -6,8 +6,7 @@ ghost use lib.ListN.{length};
 pub enum Call {
     History,
     Set,
-    Exact,
-    Lengthen,
+    Split,
     Place,
     Reading,
     Weights,
@@ -18,13 +17,14 @@ pub enum Call {
     Unknown,
 }
 
-// The last four numbers of a line, the last in d; not `whole` where the line holds anything else.
-pub struct Four {
+// The last five numbers of a line, the last in e; not `whole` where the line holds anything else.
+pub struct Five {
     pub whole: bool,
     pub a: usize,
     pub b: usize,
     pub c: usize,
     pub d: usize,
+    pub e: usize,
 }
 
 // A number and the place after it; none where no digit stands there, or too many.
@@ -57,11 +57,8 @@ pub fn call_of(line: &[u8]) -> Call {
     if begins(line, b"set") {
         return Call::Set;
     }
-    if begins(line, b"exact") {
-        return Call::Exact;
-    }
-    if begins(line, b"lengthen") {
-        return Call::Lengthen;
+    if begins(line, b"split") {
+        return Call::Split;
     }
     if begins(line, b"place") {
         return Call::Place;
@@ -133,14 +130,15 @@ fn digit(c: u8) -> usize
     (c % 16) as usize
 }
 
-// Exactly `count` numbers, at most four, from a place to the line's end.
-pub fn numbers(line: &[u8], at: usize, count: usize) -> Four {
-    let mut found = Four {
+// Exactly `count` numbers, at most five, from a place to the line's end.
+pub fn numbers(line: &[u8], at: usize, count: usize) -> Five {
+    let mut found = Five {
         whole: false,
         a: 0,
         b: 0,
         c: 0,
         d: 0,
+        e: 0,
     };
     let mut next = at;
     let mut i = 0;
@@ -153,7 +151,8 @@ pub fn numbers(line: &[u8], at: usize, count: usize) -> Four {
         found.a = found.b;
         found.b = found.c;
         found.c = found.d;
-        found.d = n.value;
+        found.d = found.e;
+        found.e = n.value;
         i += 1;
     }
     found.whole = next == line.len();

@@ -9,7 +9,7 @@ use Rattle.maps.specs.declared.Map.{Map}
 use Rattle.maps.specs.Plain.{Plain, freshPlain, blends}
 use Rattle.maps.specs.Values.{term, paired}
 use Rattle.maps.specs.Record.{recordOf, plain}
-use Rattle.maps.specs.Histories.{Call, exact, Outcome, byLibrary, outcomes, ending}
+use Rattle.maps.specs.Histories.{Call, exactly, Outcome, byLibrary, outcomes, ending}
 use Rattle.maps.specs.Demand.{leftBy, DemandFrom}
 use Rattle.maps.specs.ByMarks.{withoutMarks, butMarks, SameLists}
 use Rattle.axis.proofs.Padding.{copies}
@@ -87,10 +87,10 @@ module _ (P : Plain) (at : Reached P) where
   pub calls-lead : AcceptedTo fresh (fileCalls P) (measured P)
   unfolding freshPlain
   calls-lead =
-      let drawn = splits-drawn (P .lines .splits) fresh (at .holds .taken .all-taken) in
+      let drawn = splits-drawn (P .lines .splits) fresh (from-fresh .holds .taken) (at .holds .taken .all-taken) in
       let Q = drawn .0 in
-      let ends = accepted-ends (map exact (P .lines .splits)) fresh Q (drawn .1) in
-      let leads : Leads fresh (P .lines .splits) Q = rw (ends, drawn .2) at (ending-leads (map exact (P .lines .splits)) fresh from-fresh) in
+      let ends = accepted-ends (map exactly (P .lines .splits)) fresh Q (drawn .1) in
+      let leads : Leads fresh (P .lines .splits) Q = rw (ends, drawn .2) at (ending-leads (map exactly (P .lines .splits)) fresh from-fresh) in
       let same : withValues P (Q .values) (Q .marks) ≡ Q =
       λ i. record { lines = layout (sym (leads .wide) i) (sym (leads .tall) i) (sym (leads .more) i); values = Q .values; marks = Q .marks } in
       let as-many : length (blends Q) ≡ length (blends P) = ap (λ (R : Plain). length (blends R)) (sym same) in
@@ -98,7 +98,7 @@ module _ (P : Plain) (at : Reached P) where
       let set =
       values-set P (at .valued) (blends P) [] [] (Q .values) (P .values) [] (Q .marks) refl refl refl (h .counted ∙ as-many) (at .valued .counted)
       (h .counted-marks ∙ as-many) (at .valued .small) in
-      accepted-join (map exact (P .lines .splits)) (map setting (paired (blends P) (P .values))) fresh Q (measured P) (drawn .1)
+      accepted-join (map exactly (P .lines .splits)) (map setting (paired (blends P) (P .values))) fresh Q (measured P) (drawn .1)
       (subst (λ (R : Plain). AcceptedTo R (map setting (paired (blends P) (P .values))) (measured P)) same set)
 
   pub calls-left : leftBy fresh (fileCalls P) ≡ recordOf (measured P)

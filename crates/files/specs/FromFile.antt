@@ -11,7 +11,7 @@ use Rattle.maps.specs.declared.Map.{Map}
 use Rattle.maps.specs.Plain.{Plain, freshPlain, blends}
 use Rattle.maps.specs.Values.{paired}
 use Rattle.maps.specs.Record.{recordOf, plain}
-use Rattle.maps.specs.Histories.{Call, set, exact, Answer, number, Outcome, outcome, byLibrary, outcomes, ending}
+use Rattle.maps.specs.Histories.{Call, set, exactly, Answer, number, Outcome, outcome, byLibrary, outcomes, ending}
 use Rattle.maps.specs.Demand.{leftBy, Tabled, meshBy, DemandFrom, Demand3}
 use Rattle.maps.specs.ByMarks.{withoutMarks, butMarks}
 use Rattle.files.specs.declared.Written.{Written}
@@ -28,7 +28,7 @@ setting t = set (t .of .across .m - 1) (t .of .up .m - 1) (t .multiple)
 
 -- the calls that a file stands for: its splits, "taken in order from the fresh map before the file's values are set"
 abbrev pub fileCalls : Plain → List Call
-fileCalls P = map exact (P .lines .splits) ++ map setting (paired (blends P) (P .values))
+fileCalls P = map exactly (P .lines .splits) ++ map setting (paired (blends P) (P .values))
 
 -- a map with every value marked as measured
 abbrev pub measured : Plain → Plain

@@ -27,8 +27,8 @@ use Rattle.files.specs.File.{fileOf}
 use Rattle.files.specs.Calls.{readFile}
 use Rattle.files.proofs.RoundTrip.{file-length}
 use Rattle.pump.specs.Border.{lent}
-use Rattle.pump.specs.Histories.{PumpAnswer, PumpOutcome, Buffer, exact, lengthened, outcome, says, Desk, changes, lentBy, shown}
-use Rattle.pump.specs.ByLines.{inBuffer, SameInBuffer, BorderByLines}
+use Rattle.pump.specs.Histories.{PumpAnswer, PumpOutcome, Buffer, split, outcome, says, byBorder, Desk, changes, lentBy, shown}
+use Rattle.pump.specs.ByLines.{inBuffer, SameInBuffer}
 use Rattle.pump.proofs.Histories.{At, put-at, is-read, step-shown}
 use Rattle.pump.proofs.Demand3.{file-desk, file-lent, file-at}
 
@@ -94,27 +94,21 @@ module _ {d e : Desk} (at : At d) (too : At e) (same : d .holds .lines ≡ e .ho
       sym (held-lines (step-leads (e .holds) (too .reached) c .reached .holds)))
 
   -- on the buffers of both desks.
-  border-alike : (s : Split) → BorderByLines (lentBy d) (lentBy e) s
-  border-alike s =
+  border-alike : (s : Split) (a : ℕ) → SameInBuffer (byBorder (lentBy d) (split s a)) (byBorder (lentBy e) (split s a))
+  border-alike s a =
       let P = d .holds in
       let Q = e .holds in
-      let alike = by-lines (recordOf P) (recordOf Q) (record-good (at .reached .holds) .0) (record-good (too .reached .holds) .0) (records-alike P Q same) s in
-      record {
-        exact =
-            both-shown (step-shown at (exact s)) (step-shown too (exact s))
-            (split-alike (Maps.exact s) _ _ (step-follows P (at .reached) (Maps.exact s)) (step-follows Q (too .reached) (Maps.exact s)) (alike .exact));
-        lengthened =
-            both-shown (step-shown at (lengthened s)) (step-shown too (lengthened s))
-            (split-alike (Maps.lengthened s) _ _ (step-follows P (at .reached) (Maps.lengthened s)) (step-follows Q (too .reached) (Maps.lengthened s))
-            (alike .lengthened));
-      }
+      let call = Maps.split s a in
+      let alike = by-lines (recordOf P) (recordOf Q) (record-good (at .reached .holds) .0) (record-good (too .reached .holds) .0) (records-alike P Q same) s a in
+      both-shown (step-shown at (split s a)) (step-shown too (split s a))
+      (split-alike call _ _ (step-follows P (at .reached) call) (step-follows Q (too .reached) call) alike)
 
 pub border-by-lines : (one other : Buffer) → readFile (lent (one .bytes) (one .used)) .number ≡ 0 → readFile (lent (other .bytes) (other .used)) .number ≡ 0 →
-    inBuffer one .lines ≡ inBuffer other .lines → one .used ≡ other .used → length (one .bytes) ≡ length (other .bytes) → (s : Split) →
-    BorderByLines one other s
+    inBuffer one .lines ≡ inBuffer other .lines → one .used ≡ other .used → length (one .bytes) ≡ length (other .bytes) → (s : Split) (a : ℕ) →
+    SameInBuffer (byBorder one (split s a)) (byBorder other (split s a))
 unfolding plain
-border-by-lines one other e f same used room s =
-    subst (λ (b : Buffer). BorderByLines b other s) (file-lent one e)
-    (subst (λ (b : Buffer). BorderByLines (lentBy (file-desk one e)) b s) (file-lent other f)
+border-by-lines one other e f same used room s a =
+    subst (λ (b : Buffer). SameInBuffer (byBorder b (split s a)) (byBorder other (split s a))) (file-lent one e)
+    (subst (λ (b : Buffer). SameInBuffer (byBorder (lentBy (file-desk one e)) (split s a)) (byBorder b (split s a))) (file-lent other f)
     (border-alike (file-at one e) (file-at other f) (ap layoutOf same)
-    (ap (λ (b : Buffer). b .used) (file-lent one e) ∙ used ∙ sym (ap (λ (b : Buffer). b .used) (file-lent other f))) room s))
+    (ap (λ (b : Buffer). b .used) (file-lent one e) ∙ used ∙ sym (ap (λ (b : Buffer). b .used) (file-lent other f))) room s a))

@@ -28,7 +28,7 @@ use Rattle.files.proofs.RoundTrip.{is-refused}
 use Rattle.files.proofs.Reading.{file-lengths}
 use Rattle.files.proofs.FromFile.{read-reached, from-file}
 use Rattle.pump.specs.Border.{newNumber, newBytes, newUsed, freshNumber, lent}
-use Rattle.pump.specs.Histories.{PumpCall, fresh, set, exact, lengthened, place, reads, weighs, alongRow, alongColumn, sameAs, sameTo, checks, payloads, lists, PumpOutcome, Buffer, buffer, Desk, desk, puts, changes, byRules, lentBy, shown}
+use Rattle.pump.specs.Histories.{PumpCall, fresh, set, split, place, reads, weighs, alongRow, alongColumn, sameAs, sameTo, checks, payloads, lists, PumpOutcome, Buffer, buffer, Desk, desk, puts, changes, byRules, lentBy, shown}
 use Rattle.pump.specs.Demand.{Past, past, Begins, with-fresh, with-file, withChange, pastAfter, BorderFrom, begun, BorderDemand, BorderFile}
 use Rattle.pump.proofs.Histories.{At, put-at, puts-untouched, changes-untouched, step-shown}
 
@@ -79,8 +79,7 @@ module _ {t : Past} {d : Desk} (l : Lead t d) where
       (λ (f : allowedSide w && allowedSide h ≡ false). rw f l)
       (either (allowedSide w && allowedSide h))
   step-lead (set m n v) = changes-lead (Maps.set m n v)
-  step-lead (exact s) = changes-lead (Maps.exact s)
-  step-lead (lengthened s) = changes-lead (Maps.lengthened s)
+  step-lead (split s a) = changes-lead (Maps.split s a)
   step-lead (place i out) = asks-lead (byRules d (place i out) .answer .number)
   step-lead (reads u v) = asks-lead (byRules d (reads u v) .answer .number)
   step-lead (weighs u v out) = asks-lead (byRules d (weighs u v out) .answer .number)
@@ -97,8 +96,7 @@ module _ {t : Past} {d : Desk} (l : Lead t d) where
       ⊎-elim (λ (y : allowedSide w && allowedSide h ≡ true). rw y (puts-untouched d k (freshPlain w h) (rw y at le)))
       (λ (f : allowedSide w && allowedSide h ≡ false). rw f) (either (allowedSide w && allowedSide h))
   step-untouched k (set m n v) le = changes-untouched (l .at) k (Maps.set m n v) le
-  step-untouched k (exact s) le = changes-untouched (l .at) k (Maps.exact s) le
-  step-untouched k (lengthened s) le = changes-untouched (l .at) k (Maps.lengthened s) le
+  step-untouched k (split s a) le = changes-untouched (l .at) k (Maps.split s a) le
   step-untouched k (place i out) le = refl
   step-untouched k (reads u v) le = refl
   step-untouched k (weighs u v out) le = refl

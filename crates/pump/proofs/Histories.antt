@@ -17,7 +17,7 @@ use Rattle.maps.specs.declared.Pairs.{Pairs}
 use Rattle.maps.specs.Plain.{Plain, freshPlain}
 use Rattle.maps.specs.Values.{inDomain}
 use Rattle.maps.specs.Record.{recordOf}
-use Rattle.maps.specs.Calls.{changed, freshMap, tablePlace, reading, weights, setValue, exactSplit, lengthenedSplit}
+use Rattle.maps.specs.Calls.{changed, freshMap, tablePlace, reading, weights, setValue, splitWithin}
 use Rattle.maps.specs.Pairs.{rowOn, rowPairs, columnOn, columnPairs}
 use Rattle.maps.specs.Sameness.{sameness}
 use Rattle.maps.specs.Histories as Maps
@@ -33,7 +33,7 @@ use Rattle.files.specs.Listing.{textNumber}
 use Rattle.files.proofs.GoodFiles.{plain-reads-back}
 use Rattle.files.proofs.ReadMaps.{read-good}
 use Rattle.pump.specs.Border.{newNumber, newBytes, newUsed, lent, placeNumber, placeAfter, weightsNumber, weightsAfter, readingNumber, readingLitres, sameNumber, sameYes}
-use Rattle.pump.specs.Histories.{PumpCall, fresh, set, exact, lengthened, place, reads, weighs, alongRow, alongColumn, sameAs, sameTo, checks, payloads, lists, says, outcome, buffer, changing, byBorder, Desk, desk, refuses, puts, changes, tellsPairs, byRules, lentBy, shown}
+use Rattle.pump.specs.Histories.{PumpCall, fresh, set, split, place, reads, weighs, alongRow, alongColumn, sameAs, sameTo, checks, payloads, lists, says, outcome, buffer, changing, byBorder, Desk, desk, refuses, puts, changes, tellsPairs, byRules, lentBy, shown}
 
 -- What holds of the desk throughout: its map was reached, and the buffer begins with that map's file.
 pub record At (d : Desk) : Type 0 where
@@ -126,9 +126,7 @@ module _ {d : Desk} (at : At d) where
       (either (allowedSide w && allowedSide h))
   step-shown (set m n v) =
       change-shown (Maps.set m n v) (λ old. setValue old m n (v % 65536)) (step-follows (d .holds) (at .reached) (Maps.set m n v))
-  step-shown (exact s) = change-shown (Maps.exact s) (λ old. exactSplit old s) (step-follows (d .holds) (at .reached) (Maps.exact s))
-  step-shown (lengthened s) =
-      change-shown (Maps.lengthened s) (λ old. lengthenedSplit old s) (step-follows (d .holds) (at .reached) (Maps.lengthened s))
+  step-shown (split s a) = change-shown (Maps.split s a) (λ old. splitWithin old s a) (step-follows (d .holds) (at .reached) (Maps.split s a))
   step-shown (place i out) = let g = record-good (at .reached .holds) in rw (is-read, g .0, g .1)
   step-shown (reads u v) =
       let g = record-good (at .reached .holds) in

@@ -48,7 +48,7 @@ freshUsed w h buffer used = newUsed 0 (freshMap w h) buffer used
 abbrev pub lent : List ℕ → ℕ → List ℕ
 lent buffer used = cond (leb used (length buffer)) (take used buffer) []
 
--- pump_set, pump_exact_split, pump_lengthened_split: 11 where the buffer holds no file, then the call on its map.
+-- pump_set, pump_split: 11 where the buffer holds no file, then the call on its map.
 abbrev pub changeNumber : (Map → Changed) → List ℕ → ℕ → ℕ
 changeNumber call buffer used = let file = readFile (lent buffer used) in newNumber (file .number) (call (file .map)) buffer
 
@@ -59,8 +59,8 @@ abbrev pub changeUsed : (Map → Changed) → List ℕ → ℕ → ℕ
 changeUsed call buffer used = let file = readFile (lent buffer used) in newUsed (file .number) (call (file .map)) buffer used
 
 -- a split by its direction, position, from and to
-abbrev pub split : ℕ → ℕ → ℕ → ℕ → Split
-split direction position from to = record { direction = direction; position = position; from = from; to = to }
+abbrev pub splitOf : ℕ → ℕ → ℕ → ℕ → Split
+splitOf direction position from to = record { direction = direction; position = position; from = from; to = to }
 
 -- a coordinate as a 16-bit number: −1 as 65,535; no other is negative
 abbrev pub signed : ℤ → ℕ

@@ -1,23 +1,17 @@
 -- Document 02, L3, at the border to C: two files that differ only in values take the same line or get the same number.
 use mathlib.Core.Path.{_≡_}
-use Rattle.mesh.specs.declared.Split.{Split}
 use Rattle.maps.specs.declared.Map.{Map}
 use Rattle.files.specs.Calls.{readFile}
 use Rattle.pump.specs.Border.{lent}
-use Rattle.pump.specs.Histories as Calls
-use Rattle.pump.specs.Histories.{Buffer, PumpOutcome, byBorder}
+use Rattle.pump.specs.Histories.{Buffer, PumpOutcome}
 
 -- the map whose file is in a buffer
 abbrev pub inBuffer : Buffer → Map
 inBuffer b = readFile (lent (b .bytes) (b .used)) .map
 
 -- The whole outcome of a split call but for the values: the answer, how many bytes are then in use, and the lines of the map that the buffer then holds.
+-- `border-by-lines` shows it of two buffers of one length, with as many bytes in use, that hold maps with the same lines, and of every split with every allowance.
 pub record SameInBuffer (one other : PumpOutcome Buffer) : Type 0 where
   pub same-answer : one .answer ≡ other .answer
   pub same-used : one .next .used ≡ other .next .used
   pub same-lines : inBuffer (one .next) .lines ≡ inBuffer (other .next) .lines
-
--- What `border-by-lines` shows of two buffers of one length, with as many bytes in use, that hold maps with the same lines, and of every split.
-pub record BorderByLines (one other : Buffer) (s : Split) : Type 0 where
-  pub exact : SameInBuffer (byBorder one (Calls.exact s)) (byBorder other (Calls.exact s))
-  pub lengthened : SameInBuffer (byBorder one (Calls.lengthened s)) (byBorder other (Calls.lengthened s))

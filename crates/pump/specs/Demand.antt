@@ -13,7 +13,7 @@ use Rattle.files.specs.File.{fileOf}
 use Rattle.files.specs.Calls.{ifRefused, readFile}
 use Rattle.files.specs.FromFile.{readPlain, FromFile}
 use Rattle.pump.specs.Border.{lent}
-use Rattle.pump.specs.Histories.{PumpCall, fresh, set, exact, lengthened, place, reads, weighs, alongRow, alongColumn, sameAs, sameTo, checks, payloads, lists, says, PumpOutcome, outcome, Buffer, byBorder, Desk, desk, byRules, outcomes, left, lentBy, shown}
+use Rattle.pump.specs.Histories.{PumpCall, fresh, set, split, place, reads, weighs, alongRow, alongColumn, sameAs, sameTo, checks, payloads, lists, says, PumpOutcome, outcome, Buffer, byBorder, Desk, desk, byRules, outcomes, left, lentBy, shown}
 
 -- The history of the map in the buffer: what the map held that it begins with, and the accepted changes since then. It begins with the last accepted
 -- `pump_fresh` or, where there was none, with the map of the file that was in the buffer.
@@ -34,8 +34,7 @@ withChange t c = past (t .first) (t .calls ++ c ∷ [])
 abbrev pub pastAfter : Past → PumpCall → Past
 pastAfter t (fresh w h) = past (freshPlain w h) []
 pastAfter t (set m n v) = withChange t (Maps.set m n v)
-pastAfter t (exact s) = withChange t (Maps.exact s)
-pastAfter t (lengthened s) = withChange t (Maps.lengthened s)
+pastAfter t (split s allowance) = withChange t (Maps.split s allowance)
 pastAfter t (place i out) = t
 pastAfter t (reads u v) = t
 pastAfter t (weighs u v out) = t

@@ -11,7 +11,7 @@ use Rattle.maps.specs.declared.Changed.{Changed}
 use Rattle.maps.specs.declared.Pairs.{Pairs}
 use Rattle.maps.specs.Plain.{Plain, freshPlain}
 use Rattle.maps.specs.Record.{plain}
-use Rattle.maps.specs.Calls.{setValue, exactSplit, lengthenedSplit, placeOn, readingOn, weightsOn}
+use Rattle.maps.specs.Calls.{setValue, splitWithin, placeOn, readingOn, weightsOn}
 use Rattle.maps.specs.Pairs.{rowOn, rowPairs, columnOn, columnPairs}
 use Rattle.maps.specs.Sameness.{samePlain}
 use Rattle.maps.specs.Histories as Maps
@@ -25,7 +25,7 @@ use Rattle.pump.specs.Border.{lent, freshNumber, freshBytes, freshUsed, 
 pub data PumpCall : Type 0 where
   fresh : ℕ → ℕ → PumpCall
   set : ℕ → ℕ → ℕ → PumpCall
-  exact lengthened : Split → PumpCall
+  split : Split → ℕ → PumpCall
   place : ℕ → List ℕ → PumpCall
   reads : ℕ → ℕ → PumpCall
   weighs : ℕ → ℕ → List ℕ → PumpCall
@@ -76,8 +76,7 @@ abbrev pub byBorder : Buffer → PumpCall → PumpOutcome Buffer
 byBorder b (fresh w h) =
     outcome (says (freshNumber w h (b .bytes)) [] []) (buffer (freshBytes w h (b .bytes)) (freshUsed w h (b .bytes) (b .used)))
 byBorder b (set m n v) = changing (λ old. setValue old m n (v % 65536)) b
-byBorder b (exact s) = changing (λ old. exactSplit old s) b
-byBorder b (lengthened s) = changing (λ old. lengthenedSplit old s) b
+byBorder b (split s allowance) = changing (λ old. splitWithin old s allowance) b
 byBorder b (place i out) = asking b (λ file. says (placeNumber file i out) [] (placeAfter file i out))
 byBorder b (reads u v) = asking b (λ file. says (readingNumber file u v) (readingLitres file u v ∷ []) [])
 byBorder b (weighs u v out) = asking b (λ file. says (weightsNumber file u v out) [] (weightsAfter file u v out))
@@ -131,8 +130,7 @@ tellsPairs d p = outcome (says (p .number) (p .count ∷ p .first ∷ []) []) d
 abbrev pub byRules : Desk → PumpCall → PumpOutcome Desk
 byRules d (fresh w h) = cond (allowedSide w && allowedSide h) (puts d (freshPlain w h)) (refuses d 1)
 byRules d (set m n v) = changes d (Maps.set m n v)
-byRules d (exact s) = changes d (Maps.exact s)
-byRules d (lengthened s) = changes d (Maps.lengthened s)
+byRules d (split s allowance) = changes d (Maps.split s allowance)
 byRules d (place i out) = let p = placeOn (d .holds) i in tells d (p .number) (placeBytes p) 16 out
 byRules d (reads u v) = let r = readingOn (d .holds) u v in outcome (says (r .number) (r .litres ∷ []) []) d
 byRules d (weighs u v out) = let w = weightsOn (d .holds) u v in tells d (w .number) (weightsBytes w) 64 out

@@ -7,11 +7,10 @@ use maps::opened::Opened;
 use maps::opened::fresh;
 use mesh::Split;
 ghost use mathlib.Core.Path.{_≡_};
-ghost use mathlib.Core.Bool.{cond};
-ghost use Rattle.maps.specs.Calls.{changed, setValue, exactSplit, lengthenedSplit};
+ghost use Rattle.maps.specs.Calls.{changed, setValue, splitWithin};
 ghost use Rattle.maps.specs.Opened.{withTable, Opens};
 ghost use Rattle.files.specs.Calls.{readFile};
-ghost use Rattle.pump.specs.Border.{newNumber, newBytes, newUsed, freshNumber, freshBytes, freshUsed, lent, changeNumber, changeBytes, changeUsed, split};
+ghost use Rattle.pump.specs.Border.{newNumber, newBytes, newUsed, freshNumber, freshBytes, freshUsed, lent, changeNumber, changeBytes, changeUsed, splitOf};
 
 // The map whose file the first `used` bytes are, opened. Where they are none, or fewer are lent, the number is 11, and a call
 // that goes on with the fresh 1 by 1 map is refused with it.
@@ -67,28 +66,29 @@ pub extern "C" fn pump_set(
 }
 
 // A split on the map in the buffer, which is read: the tables of reading are gone from the stack before those of the split come.
-fn split_lent(buffer: &mut [u8], used: &mut usize, old: Opened, s: Split, lengthen: bool) -> usize
+fn split_lent(buffer: &mut [u8], used: &mut usize, old: Opened, s: Split, allowance: usize) -> usize
     requires { ⌜ old ≡ withTable (readFile (lent (now buffer) (now used))) ⌝ }
-    ensures { λ r. ⌜ (r ≡ changeNumber (λ old. cond lengthen (lengthenedSplit old s) (exactSplit old s)) (now (buffer .entry)) (now (used .entry))) ×
-        (now (buffer .exit) ≡ changeBytes (λ old. cond lengthen (lengthenedSplit old s) (exactSplit old s)) (now (buffer .entry)) (now (used .entry))) ×
-        (now (used .exit) ≡ changeUsed (λ old. cond lengthen (lengthenedSplit old s) (exactSplit old s)) (now (buffer .entry)) (now (used .entry))) ⌝ }
+    ensures { λ r. ⌜ (r ≡ changeNumber (λ old. splitWithin old s allowance) (now (buffer .entry)) (now (used .entry))) ×
+        (now (buffer .exit) ≡ changeBytes (λ old. splitWithin old s allowance) (now (buffer .entry)) (now (used .entry))) ×
+        (now (used .exit) ≡ changeUsed (λ old. splitWithin old s allowance) (now (buffer .entry)) (now (used .entry))) ⌝ }
 {
-    let next = old.split(s, lengthen);
+    let next = old.split(s, allowance);
     replace(buffer, used, old.number, next)
 }
 
 #[no_mangle]
-pub extern "C" fn pump_exact_split(
+pub extern "C" fn pump_split(
     buffer: &mut [u8],
     used: &mut usize,
     direction: usize,
     position: usize,
     from: usize,
     to: usize,
+    allowance: usize,
 ) -> usize
-    ensures { λ r. ⌜ (r ≡ changeNumber (λ old. exactSplit old (split direction position from to)) (now (buffer .entry)) (now (used .entry))) ×
-        (now (buffer .exit) ≡ changeBytes (λ old. exactSplit old (split direction position from to)) (now (buffer .entry)) (now (used .entry))) ×
-        (now (used .exit) ≡ changeUsed (λ old. exactSplit old (split direction position from to)) (now (buffer .entry)) (now (used .entry))) ⌝ }
+    ensures { λ r. ⌜ (r ≡ changeNumber (λ old. splitWithin old (splitOf direction position from to) allowance) (now (buffer .entry)) (now (used .entry))) ×
+        (now (buffer .exit) ≡ changeBytes (λ old. splitWithin old (splitOf direction position from to) allowance) (now (buffer .entry)) (now (used .entry))) ×
+        (now (used .exit) ≡ changeUsed (λ old. splitWithin old (splitOf direction position from to) allowance) (now (buffer .entry)) (now (used .entry))) ⌝ }
 {
     let s = Split {
         direction: direction,
@@ -98,29 +98,5 @@ pub extern "C" fn pump_exact_split(
     };
     let length = *used;
     let old = read_lent(buffer, length);
-    split_lent(buffer, used, old, s, false)
-}
-
-#[no_mangle]
-pub extern "C" fn pump_lengthened_split(
-    buffer: &mut [u8],
-    used: &mut usize,
-    direction: usize,
-    position: usize,
-    from: usize,
-    to: usize,
-) -> usize
-    ensures { λ r. ⌜ (r ≡ changeNumber (λ old. lengthenedSplit old (split direction position from to)) (now (buffer .entry)) (now (used .entry))) ×
-        (now (buffer .exit) ≡ changeBytes (λ old. lengthenedSplit old (split direction position from to)) (now (buffer .entry)) (now (used .entry))) ×
-        (now (used .exit) ≡ changeUsed (λ old. lengthenedSplit old (split direction position from to)) (now (buffer .entry)) (now (used .entry))) ⌝ }
-{
-    let s = Split {
-        direction: direction,
-        position: position,
-        from: from,
-        to: to,
-    };
-    let length = *used;
-    let old = read_lent(buffer, length);
-    split_lent(buffer, used, old, s, true)
+    split_lent(buffer, used, old, s, allowance)
 }

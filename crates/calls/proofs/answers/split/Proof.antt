@@ -11,7 +11,7 @@ returns-2 c =
     let asked = call .before .before .before in
     let start = asked .before .before .before in
     let n = asked .numbers .result in
-    split-opens (open-map _ (start .pre) _ (start .good .0)) (record { direction = n .a; position = n .b; from = n .c; to = n .d }) (start .args .lengthen)
+    split-opens (open-map _ (start .pre) _ (start .good .0)) (record { direction = n .a; position = n .b; from = n .c; to = n .d }) (n .e)
     (call .split .ensures)
 
 pub split-spec : {M : Type 1} → statement M

@@ -1,7 +1,6 @@
 -- `changes::split_lent` meets its contract: the call on the map that the buffer holds, ended by `replace`.
 use borrow.Author.Needs.{needs}
-use mathlib.Core.Bool.{cond}
-use Rattle.maps.specs.Calls.{exactSplit, lengthenedSplit}
+use Rattle.maps.specs.Calls.{splitWithin}
 use Rattle.files.proofs.ReadMaps.{read-opens, read-map}
 use Rattle.maps.proofs.StaysOpened.{split-opens}
 use Rattle.pump.proofs.Changing.{changes}
@@ -15,14 +14,14 @@ replace-requires : tie.Need-replace-requires
 replace-requires c κs =
     let call = c .before .before in
     let a = call .before .before .args in
-    split-opens (read-map _ (call .before .before .pre)) (a .s) (a .lengthen) (call .split .ensures)
+    split-opens (read-map _ (call .before .before .pre)) (a .s) (a .allowance) (call .split .ensures)
 
 returns : tie.Need-returns
 returns c =
     let end = c .before .before in
     let call = end .before .before .before in
     let a = call .before .before .args in
-    changes (λ m. cond (a .lengthen) (lengthenedSplit m (a .s)) (exactSplit m (a .s))) (a .buffer .now) (a .used .now) (call .before .before .pre)
+    changes (λ m. splitWithin m (a .s) (a .allowance)) (a .buffer .now) (a .used .now) (call .before .before .pre)
     (call .split .ensures) (end .replace .ensures)
 
 pub split-lent-spec : {M : Type 1} → statement M
