@@ -3,6 +3,7 @@ use Prim.Native.Nat.{ℕ}
 use mathlib.Core.Path.{_≡_, refl}
 use mathlib.Core.List.{List, [], _∷_, map}
 use lib.ListN.{length}
+use Rattle.axis.specs.Range.{only}
 use Rattle.axis.specs.Triple as Triple
 use Rattle.axis.specs.Nearest as Nearest
 use Rattle.mesh.specs.declared.Split.{Split}
@@ -11,7 +12,7 @@ use Rattle.mesh.specs.Lines as Lines
 use Rattle.mesh.specs.Blends as Blends
 use Rattle.mesh.specs.Sound as Sound
 use Rattle.mesh.specs.Splits.{exactNumber, given}
-use Rattle.mesh.specs.Lengthening.{containing, candidate, candidates, adds, newAnchors, chosen}
+use Rattle.mesh.specs.Lengthening.{containing, candidate, adds, newAnchors, chosen}
 use Rattle.cases.specs.Drawn.{upright, level}
 
 -- a candidate, with the live blends that it adds and the new anchors that it makes
@@ -40,7 +41,7 @@ computed : Row → Row
 computed r =
     let P = layout 8 8 (r .lines) in
     row (r .lines) (r .split) (exactNumber P (r .split))
-    (map (λ c. adding c (adds P c) (length (newAnchors P c))) (candidates P (r .split))) (r .allowances) (map (chosen P (r .split)) (r .allowances))
+    (map (λ c. adding c (adds P c) (length (newAnchors P c))) (only (candidate P) (containing P (r .split)))) (r .allowances) (map (chosen P (r .split)) (r .allowances))
 
 Right : List Row → Type 0
 Right [] = Unit
@@ -59,5 +60,5 @@ rows =
     []
 
 fewest : Right rows
-unfolding Right rows row adding computed given exactNumber containing candidate candidates chosen Triple.half Lines.inRange Lines.draws Lines.freshMesh Lines.mesh Lines.onLine Lines.shares Lines.ended Blends.halve Nearest.below Nearest.above Nearest.nearest Blends.isCut Blends.leaves Blends.leavesOf Blends.once Blends.inTableOrder Blends.refine Blends.live Sound.fourEverywhere Sound.noneNested Sound.sound
+unfolding Right rows row adding computed given exactNumber containing candidate chosen Triple.half Lines.inRange Lines.draws Lines.freshMesh Lines.mesh Lines.onLine Lines.shares Lines.ended Blends.halve Nearest.below Nearest.above Nearest.nearest Blends.isCut Blends.leaves Blends.leavesOf Blends.once Blends.inTableOrder Blends.refine Blends.live Sound.fourEverywhere Sound.noneNested Sound.sound
 fewest = (refl, (refl, (refl, tt)))

@@ -8,12 +8,13 @@ use mathlib.Core.List.{List, [], _∷_}
 use borrow.Author.Tests.{le-leb, lt-leb, eq-eqb, ne-eqb}
 use lib.Dec.{eqb}
 use Rattle.axis.specs.Limits.{mostAllowance}
+use Rattle.axis.specs.Range.{only}
 use Rattle.axis.proofs.Tests.{either, cond-true, cond-false}
 use Rattle.axis.proofs.Runs.{if-at-most, if-equal}
 use Rattle.mesh.specs.declared.Split.{Split}
 use Rattle.mesh.specs.Lines.{Layout}
 use Rattle.mesh.specs.Splits.{given, asked, exactNumber}
-use Rattle.mesh.specs.Lengthening.{stepsOf, candidates, leastOf, chosen}
+use Rattle.mesh.specs.Lengthening.{stepsOf, containing, candidate, leastOf, chosen}
 use Rattle.mesh.specs.Ends.{nearestGood}
 use Rattle.mesh.specs.Replay.{Replays}
 use Rattle.mesh.proofs.Passing.{asked-given, exact-refused, given-most}
@@ -56,7 +57,7 @@ module _ (m : Map) (taken : good m ≡ true → Replays (plain m .lines)) (s : S
       (λ ne. refusing 0 (omega arith) ne ∙ rw (exact-refused P s ne, ne-eqb _ 0 ne))
 
   largest-is : good m ≡ true →
-      call mostAllowance ≡ cond (eqb (given P s) 0) (drawnFirst m (plain m) (leastOf P (candidates P s))) (changed (given P s) m)
+      call mostAllowance ≡ cond (eqb (given P s) 0) (drawnFirst m (plain m) (leastOf P (only (candidate P) (containing P s)))) (changed (given P s) m)
   largest-is t =
       if-equal (given P s) 0
       (λ e. passing mostAllowance (omega arith) e ∙ rw (e, allowances P (taken t) s e .largest))

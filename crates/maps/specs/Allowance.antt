@@ -4,9 +4,10 @@ use mathlib.Core.Path.{_≡_}
 use mathlib.Core.Bool.{cond, not}
 use lib.Dec.{eqb}
 use Rattle.axis.specs.Limits.{mostAllowance}
+use Rattle.axis.specs.Range.{only}
 use Rattle.mesh.specs.declared.Split.{Split}
 use Rattle.mesh.specs.Splits.{given, exactNumber}
-use Rattle.mesh.specs.Lengthening.{candidates, leastOf}
+use Rattle.mesh.specs.Lengthening.{containing, candidate, leastOf}
 use Rattle.maps.specs.declared.Map.{Map}
 use Rattle.maps.specs.declared.Changed.{Changed}
 use Rattle.maps.specs.Values.{drawn}
@@ -28,7 +29,7 @@ lengthenedSplit old s =
     let P = plain old in
     let n = given (P .lines) s in
     cond (not (good old)) (changed 2 old)
-    (cond (eqb n 0) (drawnFirst old P (leastOf (P .lines) (candidates (P .lines) s)))
+    (cond (eqb n 0) (drawnFirst old P (leastOf (P .lines) (only (candidate (P .lines)) (containing (P .lines) s))))
     (changed n old))
 
 -- What `by-allowance` shows of every record and every split, of the whole outcome of the call:

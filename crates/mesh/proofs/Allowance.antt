@@ -4,21 +4,22 @@ use native.Mathlib.Omega.{arith}
 use mathlib.Core.Path.{_≡_, refl, sym, ap, subst, _∙_}
 use mathlib.Core.Logic.{⊎-elim}
 use mathlib.Core.Bool.{true, cond}
-use mathlib.Core.List.{[], _∷_}
+use mathlib.Core.List.{List, [], _∷_}
 use borrow.Author.Tests.{le-leb, lt-leb, eq-eqb, ne-eqb}
 use lib.Dec.{eqb}
 use lib.ListN.{length}
 use Rattle.axis.specs.Limits.{mostAllowance}
+use Rattle.axis.specs.Range.{only}
 use Rattle.axis.proofs.Tests.{either, cond-true, cond-false, only-all}
 use Rattle.axis.proofs.Runs.{if-at-most}
 use Rattle.mesh.specs.Lines.{direction, other, Layout}
 use Rattle.mesh.specs.Splits.{soundWith, given, asked, exactNumber}
-use Rattle.mesh.specs.Lengthening.{spanning, Contains, stepsOf, candidates, leastOf, within, chosen, Candidate}
+use Rattle.mesh.specs.Lengthening.{spanning, containing, Contains, stepsOf, candidate, leastOf, within, chosen, Candidate}
 use Rattle.mesh.specs.Ends.{goodEnds, nearestGood, LeastSoundLine, Allowances}
 use Rattle.mesh.specs.Replay.{Replays}
 use Rattle.mesh.specs.declared.Split.{Split}
 use Rattle.mesh.proofs.Ranges.{side-most}
-use Rattle.mesh.proofs.Containing.{contains-spanning, listed, is-candidate}
+use Rattle.mesh.proofs.Containing.{contains-spanning, containing-complete}
 use Rattle.mesh.proofs.Passing.{Given, given-says, asked-given, exact-passes, ends-in}
 use Rattle.mesh.proofs.ChosenLine.{candidate-exact}
 use Rattle.mesh.proofs.TightMaps.{Built}
@@ -83,19 +84,20 @@ module _ (P : Layout) (replays : Replays P) (s : Split) (passes : given P s ≡ 
       (λ gt. least .taken 0 ∙ cond-false _ _ _ (lt-leb (stepsOf n) (stepsOf s + 0) (omega arith)) ∙
       sym (cond-false _ _ _ (ne-eqb _ 0 (λ e. omega (arith, ap stepsOf (exact-nearest e))))))
 
-  -- No candidate is longer than the side.
-  in-side : (c : Split) → Candidate P s c → stepsOf c ≤ stepsOf s + mostAllowance
+  -- No line is longer than the side.
+  in-side : (c : Split) → Contains P s c → stepsOf c ≤ stepsOf s + mostAllowance
   in-side c i =
       let a = replays-sides replays in
-      omega (arith, side-most (other (direction (s .direction))) (a .1) (a .3), i .0 .within)
+      omega (arith, side-most (other (direction (s .direction))) (a .1) (a .3), i .within)
 
-  all-within : chosen P s mostAllowance ≡ leastOf P (candidates P s)
+  all-within : chosen P s mostAllowance ≡ leastOf P (only (candidate P) (containing P s))
   unfolding chosen
   all-within =
-      ap (leastOf P) (only-all (within s mostAllowance) (candidates P s) (λ c m. le-leb _ _ (in-side c (is-candidate P s c m))))
+      ap (λ (cs : List Split). leastOf P (only (candidate P) cs))
+      (only-all (within s mostAllowance) (containing P s) (λ c m. le-leb _ _ (in-side c (containing-complete P s c .0 m))))
 
   always-taken : chosen P s mostAllowance ≡ nearestGood P s ∷ []
-  always-taken = least .taken mostAllowance ∙ cond-true _ _ _ (le-leb _ _ (in-side n (least .is-candidate)))
+  always-taken = least .taken mostAllowance ∙ cond-true _ _ _ (le-leb _ _ (in-side n (least .is-candidate .0)))
 
   more-taken : (a b : ℕ) (c : Split) → a ≤ b → chosen P s a ≡ c ∷ [] → chosen P s b ≡ c ∷ []
   more-taken a b c le e =
@@ -113,7 +115,7 @@ module _ (P : Layout) (replays : Replays P) (s : Split) (passes : given P s ≡ 
         none = none-taken;
         largest = all-within;
         always = always-taken;
-        given-line = λ t. listed P s s (given-candidate (sound-exact t));
+        given-line = λ t. given-candidate (sound-exact t);
         given-least = λ t. exact-nearest (sound-exact t);
         more = more-taken;
       }

@@ -11,7 +11,7 @@ use Rattle.axis.proofs.Distinct.{only-distinct, each-distinct, singleton, nothi
 use Rattle.axis.proofs.Least.{least-says, least-of, some-least}
 use Rattle.mesh.specs.declared.Split.{Split}
 use Rattle.mesh.specs.Lines.{Layout}
-use Rattle.mesh.specs.Lengthening.{spanning, run, containing, Contains, adds, stepsOf, candidate, candidates, within, chosen, Candidate, Allowed, Least}
+use Rattle.mesh.specs.Lengthening.{spanning, run, containing, Contains, adds, stepsOf, candidate, within, chosen, Candidate, Allowed, Least}
 
 module _ (P : Layout) (s : Split) where
   -- the lines from a start on
@@ -49,23 +49,13 @@ module _ (P : Layout) (s : Split) where
       (λ to c m. rw (List·Memᴰ·eq-of-singleton m)))
       (λ from c m. rw (List·Memᴰ·eq-of-singleton (each-mem (s .to) (run P s + 1 - s .to) (ends from) c m .3)))
 
-  -- The candidates are listed, each once,
-  pub listed : (c : Split) → Candidate P s c → List·Memᴰ c (candidates P s)
-  unfolding candidates
-  listed c i = mem-only (candidate P) (containing P s) c (containing-complete c .1 (i .0)) (i .1)
-
-  pub is-candidate : (c : Split) → List·Memᴰ c (candidates P s) → Candidate P s c
-  unfolding candidates
-  is-candidate c m = let o = only-mem (candidate P) (containing P s) c m in (containing-complete c .0 (o .0), o .1)
-
-  candidates-distinct : Distinct (candidates P s)
-  unfolding candidates
-  candidates-distinct = only-distinct (candidate P) (containing P s) containing-distinct
-
   module _ (a : ℕ) where
-    -- those within the allowance, those of them that add the fewest and the shortest of these
+    -- the candidates within the allowance, those of them that add the fewest and the shortest of these
+    abbrev near : List Split
+    near = only (within s a) (containing P s)
+
     abbrev close : List Split
-    close = only (within s a) (candidates P s)
+    close = only (candidate P) near
 
     abbrev few : List Split
     few = least (adds P) close
@@ -74,10 +64,14 @@ module _ (P : Layout) (s : Split) where
     short = least stepsOf few
 
     allowed-listed : (c : Split) → Allowed P s a c → List·Memᴰ c close
-    allowed-listed c i = mem-only (within s a) (candidates P s) c (listed c (i .0)) (le-leb _ _ (i .1))
+    allowed-listed c i =
+        mem-only (candidate P) near c (mem-only (within s a) (containing P s) c (containing-complete c .1 (i .0 .0)) (le-leb _ _ (i .1))) (i .0 .1)
 
     is-allowed : (c : Split) → List·Memᴰ c close → Allowed P s a c
-    is-allowed c m = let o = only-mem (within s a) (candidates P s) c m in (is-candidate c (o .0), leb-true _ _ (o .1))
+    is-allowed c m =
+        let o = only-mem (candidate P) near c m in
+        let n = only-mem (within s a) (containing P s) c (o .0) in
+        ((containing-complete c .0 (n .0), o .1), leb-true _ _ (n .1))
 
     -- what the line taken is least of
     record Taken (c : Split) : Type 0 where
@@ -115,7 +109,9 @@ module _ (P : Layout) (s : Split) where
 
     chosen-distinct : Distinct (chosen P s a)
     unfolding chosen
-    chosen-distinct = only-distinct _ short (only-distinct _ few (only-distinct _ close (only-distinct (within s a) (candidates P s) candidates-distinct)))
+    chosen-distinct =
+        only-distinct _ short
+        (only-distinct _ few (only-distinct _ close (only-distinct (candidate P) near (only-distinct (within s a) (containing P s) containing-distinct))))
 
     pub chosen-least : s .from ≤ s .to → Least P s a
     unfolding chosen

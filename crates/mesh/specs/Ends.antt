@@ -3,18 +3,18 @@ use Prim.Native.Nat.{ℕ, _+_, _-_, _≤_, _<_}
 use mathlib.Core.Path.{_≡_}
 use mathlib.Core.Logic.{_↔_, _⊎_}
 use mathlib.Core.Bool.{Bool, true, cond, _&&_, _||_}
-use mathlib.Core.List.{[], _∷_, List·Memᴰ}
+use mathlib.Core.List.{[], _∷_}
 use lib.Dec.{eqb}
 use lib.ListN.{length}
 use Rattle.axis.specs.Limits.{mostAllowance}
-use Rattle.axis.specs.Range.{any}
+use Rattle.axis.specs.Range.{any, only}
 use Rattle.axis.specs.Triple.{Side, lower, upper, knotIn}
 use Rattle.axis.specs.Nearest.{below, above}
 use Rattle.axis.specs.declared.Triple.{Triple}
 use Rattle.mesh.specs.Lines.{Direction, direction, other, side, Layout, meshOf}
 use Rattle.mesh.specs.Blends.{crossed, along}
 use Rattle.mesh.specs.Splits.{liveOf, withLine, soundWith, exactNumber}
-use Rattle.mesh.specs.Lengthening.{run, spanning, Contains, candidate, adds, newAnchors, stepsOf, candidates, leastOf, within, chosen, Candidate}
+use Rattle.mesh.specs.Lengthening.{run, spanning, Contains, candidate, adds, newAnchors, stepsOf, containing, leastOf, within, chosen, Candidate}
 use Rattle.mesh.specs.declared.Split.{Split}
 use Rattle.mesh.specs.declared.Blend.{Blend}
 
@@ -84,10 +84,10 @@ pub record Allowances (P : Layout) (s : Split) : Type 0 where
   -- "Allowance 0 is the exact split."
   pub none : chosen P s 0 ≡ cond (eqb (exactNumber P s) 0) (s ∷ []) []
   -- The largest is L4's lengthened split: no candidate is too long, so there always is a line.
-  pub largest : chosen P s mostAllowance ≡ leastOf P (candidates P s)
+  pub largest : chosen P s mostAllowance ≡ leastOf P (only (candidate P) (containing P s))
   pub always : chosen P s mostAllowance ≡ nearestGood P s ∷ []
   -- "the given line among them if it leaves a sound map", and then it is the one that lies in all the others
-  pub given-line : soundWith P s ≡ true → List·Memᴰ s (candidates P s)
+  pub given-line : soundWith P s ≡ true → Candidate P s s
   pub given-least : soundWith P s ≡ true → nearestGood P s ≡ s
   -- Where an allowance accepts, every larger one takes the same line.
   pub more : (a b : ℕ) (c : Split) → a ≤ b → chosen P s a ≡ c ∷ [] → chosen P s b ≡ c ∷ []

@@ -54,21 +54,17 @@ newAnchors P c = anchors (only (λ B. not (known (liveOf P) B)) (liveOf (withLin
 abbrev pub stepsOf : Split → ℕ
 stepsOf c = c .to - c .from
 
--- "the sound candidates that document 01 lists", of a given line; it is one of them if it leaves a sound map (`given-line`)
-unfoldable pub candidates : Layout → Split → List Split
-candidates P s = only (candidate P) (containing P s)
-
 -- Document 02, L4: of some lines "the one that adds the fewest live blends, then the shortest, then the one that starts lowest".
 abbrev pub leastOf : Layout → List Split → List Split
 leastOf P cs = least (λ c. c .from) (least stepsOf (least (adds P) cs))
 
--- document 02, L7: a line "whose length is at most the given line's plus the allowance"
+-- document 02, L7: "whose length is at most the given line's plus the allowance"
 abbrev pub within : Split → ℕ → Split → Bool
 within s allowance c = leb (stepsOf c) (stepsOf s + allowance)
 
--- The line that a split takes, if there is one (document 02, L7): of the candidates within the allowance, the one by that rule.
+-- The line that a split takes, if there is one: by that rule, of the candidates of that length.
 unfoldable pub chosen : Layout → Split → ℕ → List Split
-chosen P s allowance = leastOf P (only (within s allowance) (candidates P s))
+chosen P s allowance = leastOf P (only (candidate P) (only (within s allowance) (containing P s)))
 
 -- a line that contains the given one and is a candidate; and one within the allowance
 abbrev pub Candidate : Layout → Split → Split → Type 0
