@@ -11,7 +11,7 @@ use Rattle.axis.specs.Limits.{mostAllowance}
 use Rattle.axis.proofs.Tests.{either, cond-true}
 use Rattle.mesh.specs.declared.Split.{Split}
 use Rattle.mesh.specs.Splits.{given, asked, exactNumber}
-use Rattle.mesh.specs.Lengthening.{stepsOf, within, chosen}
+use Rattle.mesh.specs.Lengthening.{within, chosen}
 use Rattle.mesh.specs.Ends.{goodEnds, nearestGood, TwoLooks, LeastSoundLine, Allowances}
 use Rattle.mesh.proofs.Passing.{asked-given, asked-says}
 use Rattle.mesh.proofs.TightMaps.{Built}

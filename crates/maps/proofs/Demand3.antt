@@ -1,12 +1,8 @@
 -- Demand 3 of the product holds of every list of calls.
 use Prim.Native.Nat.{ℕ}
-use native.Mathlib.Omega.{arith}
-use mathlib.Core.Path.{_≡_, refl, sym, ap, ap₂, subst, _∙_}
-use mathlib.Core.Logic.{⊎-elim}
-use mathlib.Core.Bool.{true, cond}
-use mathlib.Core.List.{List, [], _∷_, _++_}
-use borrow.Author.Tests.{eqb-true, eqb-false}
-use lib.Dec.{eqb}
+use mathlib.Core.Path.{_≡_, sym, ap, ap₂, subst, _∙_}
+use mathlib.Core.Bool.{true}
+use mathlib.Core.List.{List, _++_}
 use lib.IntN.{ℤ}
 use Rattle.mesh.specs.declared.Split.{Split}
 use Rattle.mesh.specs.Lines.{allowedSide, Layout, layout, meshOf}
@@ -14,7 +10,7 @@ use Rattle.mesh.specs.Blends.{live}
 use Rattle.mesh.specs.declared.Blend.{Blend}
 use Rattle.mesh.specs.Order.{Coarser}
 use Rattle.mesh.specs.Crossings.{anchors, crossings, Tight}
-use Rattle.axis.proofs.Tests.{either, and-of, same-test, cond-true}
+use Rattle.axis.proofs.Tests.{and-of, same-test, cond-true}
 use Rattle.mesh.proofs.Order.{same-steps}
 use Rattle.mesh.proofs.TightMaps.{Built}
 use Rattle.mesh.proofs.CrossingList.{anchors-are-crossings, lines-are-grids, blends-tell-lines}
@@ -25,7 +21,7 @@ use Rattle.mesh.specs.Ends.{nearestGood}
 use Rattle.maps.specs.Values.{drawn}
 use Rattle.maps.specs.Record.{recordOf, plain}
 use Rattle.maps.specs.Calls.{freshMap}
-use Rattle.maps.specs.Histories.{Call, number, Outcome, outcome, firstDrawn, byLibrary, byMachine, ending}
+use Rattle.maps.specs.Histories.{Call, number, Outcome, byLibrary, byMachine, ending}
 use Rattle.maps.specs.Straight.{ValuesStraight}
 use Rattle.maps.specs.Demand.{leftBy, Tabled, Gentle, IsSplit, is-split, linesBy, meshBy, DemandFrom, Demand3}
 use Rattle.maps.proofs.GoodRecords.{record-good}

@@ -11,7 +11,7 @@ use Rattle.axis.proofs.Distinct.{only-distinct, each-distinct, singleton, nothi
 use Rattle.axis.proofs.Least.{least-says, least-of, some-least}
 use Rattle.mesh.specs.declared.Split.{Split}
 use Rattle.mesh.specs.Lines.{Layout}
-use Rattle.mesh.specs.Lengthening.{spanning, run, containing, Contains, adds, stepsOf, candidate, within, chosen, Candidate, Allowed, Least}
+use Rattle.mesh.specs.Lengthening.{spanning, run, containing, Contains, adds, stepsOf, candidate, within, chosen, Allowed, Least}
 
 module _ (P : Layout) (s : Split) where
   -- the lines from a start on
@@ -63,15 +63,15 @@ module _ (P : Layout) (s : Split) where
     abbrev short : List Split
     short = least stepsOf few
 
-    allowed-listed : (c : Split) → Allowed P s a c → List·Memᴰ c close
-    allowed-listed c i =
-        mem-only (candidate P) near c (mem-only (within s a) (containing P s) c (containing-complete c .1 (i .0 .0)) (le-leb _ _ (i .1))) (i .0 .1)
-
     is-allowed : (c : Split) → List·Memᴰ c close → Allowed P s a c
     is-allowed c m =
         let o = only-mem (candidate P) near c m in
         let n = only-mem (within s a) (containing P s) c (o .0) in
         ((containing-complete c .0 (n .0), o .1), leb-true _ _ (n .1))
+
+    allowed-listed : (c : Split) → Allowed P s a c → List·Memᴰ c close
+    allowed-listed c i =
+        mem-only (candidate P) near c (mem-only (within s a) (containing P s) c (containing-complete c .1 (i .0 .0)) (le-leb _ _ (i .1))) (i .0 .1)
 
     -- what the line taken is least of
     record Taken (c : Split) : Type 0 where

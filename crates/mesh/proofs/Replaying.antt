@@ -3,7 +3,7 @@ use Prim.Native.Nat.{ℕ, _+_, _*_, _≤_, _<_}
 use native.Mathlib.Omega.{arith}
 use native.Mathlib.Numerals.{add-one}
 use mathlib.Core.Path.{_≡_, refl, sym, ap, _∙_}
-use mathlib.Core.Bool.{Bool, true, false, cond, _&&_}
+use mathlib.Core.Bool.{true, false, _&&_}
 use mathlib.Core.List.{List, [], _∷_, _++_}
 use borrow.Author.Tests.{le-leb, lt-leb, lt-ltb, eq-eqb, ne-eqb}
 use lib.Dec.{eqb, leb}
@@ -28,10 +28,9 @@ use Rattle.mesh.specs.declared.Step.{Step}
 use Rattle.mesh.specs.declared.splits.Verdict.{Verdict}
 use Rattle.mesh.proofs.Drawing.{blank}
 use Rattle.mesh.proofs.Passing.{asked-given, exact-refused}
-use Rattle.mesh.proofs.ChosenLine.{chosen-exact}
 use Rattle.mesh.proofs.LeastLine.{least-sound-line}
-use Rattle.mesh.proofs.Accepted.{replays-stands, replays-sides}
-use Rattle.mesh.proofs.Allowance.{exact-unsound, exact-nearest, nearest-exact}
+use Rattle.mesh.proofs.Accepted.{replays-stands}
+use Rattle.mesh.proofs.Allowance.{nearest-accepted, exact-unsound, exact-nearest, nearest-exact}
 use Rattle.mesh.proofs.Stepping.{carried-walk}
 
 -- tables of n zeros are cleared, where n entries are the rows of both sides
@@ -83,12 +82,7 @@ module _ (P : Layout) (s : Split) where
 
     -- and its line is accepted as one
     pub verdict-accepted : (a : ℕ) {v : Verdict} → v ≡ verdict P s a → v .number ≡ 0 → exactNumber P (v .line) ≡ 0
-    verdict-accepted a is none =
-        let f = verdict-says a is none in
-        let sides = replays-sides taken in
-        rw (f .2)
-        (chosen-exact P (sides .0) (sides .2) s (nearestGood P s) a [] (f .0)
-        (least-sound-line P (replays-stands taken .built) s (f .0) .taken a ∙ cond-true _ _ _ (le-leb _ _ (f .1))))
+    verdict-accepted a is none = let f = verdict-says a is none in rw (f .2) (nearest-accepted P taken s (f .0))
 
 -- Part of the way through: the map of the first i splits is carried, and the splits that are left decide.
 pub record Replaying (L : Lines) (i : ℕ) (ups lvs cols rows places : List ℕ) : Type 0 where

@@ -1,9 +1,9 @@
 -- One exact split on what is carried: what is noted for it tells 7, and drawing it and cutting with it carries the map with it.
 use Prim.Native.Nat.{ℕ, _+_, _-_, _≤_}
 use native.Mathlib.Omega.{arith}
-use mathlib.Core.Path.{_≡_, refl, sym, ap, _∙_}
+use mathlib.Core.Path.{_≡_, sym, ap, _∙_}
 use mathlib.Core.Logic.{_⊎_, inl, inr, ⊎-elim}
-use mathlib.Core.Bool.{Bool, true, cond, _&&_, _||_}
+use mathlib.Core.Bool.{true, _&&_, _||_}
 use mathlib.Core.List.{List, [], _∷_, _++_, List·Memᴰ}
 use borrow.Author.Tests.{leb-true}
 use lib.Dec.{leb}
@@ -14,10 +14,9 @@ use Rattle.mesh.specs.Lines.{Direction, upright, level, direction, other
 use Rattle.mesh.specs.Blends.{along, crossed, isCut, live, leavesOf}
 use Rattle.mesh.specs.Order.{Uncut}
 use Rattle.mesh.specs.Sound.{sound, AllProper}
-use Rattle.mesh.specs.Splits.{given, exactNumber}
-use Rattle.mesh.specs.Ends.{goodEnds}
+use Rattle.mesh.specs.Splits.{exactNumber}
 use Rattle.mesh.specs.Bytes.{Rows, bytesMesh, keepAll, walk}
-use Rattle.mesh.specs.Carried.{Leads, Bare, Carried, Walks, RowsOf, Noted, noteAll, blank, reached, allReached, runsFrom, runsTo, looksSound}
+use Rattle.mesh.specs.Carried.{Leads, Bare, Carried, Walks, RowsOf, Noted, noteAll, blank, reached, allReached, runsFrom, runsTo}
 use Rattle.mesh.specs.declared.Split.{Split}
 use Rattle.mesh.specs.declared.Blend.{Blend}
 use Rattle.axis.proofs.Tests.{either, and-both}
@@ -26,11 +25,9 @@ use Rattle.mesh.proofs.Ranges.{in-range-rows}
 use Rattle.mesh.proofs.BlendTables.{proper-largest}
 use Rattle.mesh.proofs.SoundMaps.{live-proper}
 use Rattle.mesh.proofs.OneLineMore.{more-finer, in-bytes-more}
-use Rattle.mesh.proofs.Accepted.{replays-sides, replays-stands, replays-sound, replays-short, replays-more}
+use Rattle.mesh.proofs.Accepted.{replays-sides, replays-sound, replays-short, replays-more}
 use Rattle.mesh.proofs.Holding.{held-next, held-walk, held-walks, keepAll-length}
 use Rattle.mesh.proofs.Noting.{notes-long, reached-mem, some-reached}
-use Rattle.mesh.proofs.TwoLooks.{two-looks}
-use Rattle.mesh.proofs.Looking.{looks-sound}
 use Rattle.mesh.proofs.Reaching.{reach-uncut, reach-some}
 
 module _ {w h : ℕ} {ss : List Split} {ups lvs cols rows places : List ℕ} (now : Carried w h ss ups lvs cols rows places) where
@@ -79,13 +76,6 @@ module _ {w h : ℕ} {ss : List Split} {ups lvs cols rows places : List ℕ} (no
 
       pub highs-long : length highs ≡ 131
       highs-long = let a = carried-sides in rw (n .is-high) (notes-long w h (a .0) (a .1) (a .2) (a .3) (mesh w h ss) is-sound d z lower)
-
-      -- the number of an exact split that passes 3 to 7, by what is seen of its ends
-      pub judged : given (layout w h ss) s ≡ 0 → {run : ℕ} {good : Bool} → run ≡ side (other d) w h → good ≡ looksSound (bytesMesh ups lvs) run lows highs s →
-          exactNumber (layout w h ss) s ≡ cond good 0 8
-      judged e {run} {good} along-side seen =
-          let is : good ≡ goodEnds (layout w h ss) s = seen ∙ rw (now .lines .drawn, along-side) (looks-sound (now .taken) s n s refl refl) in
-          two-looks (layout w h ss) (replays-stands (now .taken) .built) s e .refused ∙ rw is
 
       -- The knots from which and to which the split's line runs, by the bytes:
       module _ (fits : inRange w h s ≡ true) {run from to : ℕ} (along-side : run ≡ side (other d) w h)

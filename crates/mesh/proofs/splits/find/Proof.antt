@@ -2,7 +2,7 @@
 use Prim.Native.Nat.{_≤_, _<_}
 use native.Mathlib.Omega.{arith}
 use borrow.Author.Needs.{needs}
-use mathlib.Core.Path.{_≡_, sym, ap, _∙_}
+use mathlib.Core.Path.{sym, ap, _∙_}
 use Rattle.mesh.specs.Lines.{layout}
 use Rattle.mesh.specs.declared.splits.Verdict.{Verdict}
 use Rattle.mesh.proofs.Ranges.{in-range-small}

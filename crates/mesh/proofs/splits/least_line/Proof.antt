@@ -51,7 +51,7 @@ loop-holds c =
     let t = c .before .before in
     let search = t .before .search in
     let first = first-start c in
-    (t .search-test .taken, omega arith, search .inv .0, λ i. search-enters i (search .length) (c .if1 .from) (search .inv .1 i) (omega arith))
+    (omega (arith, t .search-test .taken), omega arith, search .inv .0, λ i. search-enters i (search .length) (c .if1 .from) (search .inv .1 i) (omega arith))
 
 add-t14 : tie.Need-add-t14 Inv-loop μ-loop Inv-search μ-search
 add-t14 c =

@@ -11,7 +11,7 @@ use Rattle.mesh.proofs.splits.split.Tie as tie
 returns : tie.Need-returns
 returns c =
     let a = c .before .before .args in
-    c .refused .ensures ∙ split-beyond (a .lines) (a .table) (a .s) (a .allowance) (c .before .if1 .taken)
+    c .refused .ensures ∙ split-beyond (a .lines) (a .table) (a .s) (a .allowance) (omega (arith, c .before .if1 .taken))
 
 split-in-requires : tie.Need-split-in-requires
 split-in-requires c κs =
