@@ -162,6 +162,6 @@ toldOf n line = record { number = n; line = line }
 abbrev pub foundBy : Split → ℕ → Split → Verdict
 foundBy s longest line = cond (leb (stepsOf line) longest) (toldOf 0 line) (toldOf 8 s)
 
--- what a split comes to: refused with 3 to 7, or searched for within the allowance between the nearest good ends
+-- what a split comes to: refused with 3 to 7, or the verdict of the search within the allowance, which seeks the line between the nearest good ends
 abbrev pub verdict : Layout → Split → ℕ → Verdict
 verdict P s allowance = cond (eqb (given P s) 0) (foundBy s (stepsOf s + allowance) (nearestGood P s)) (toldOf (given P s) s)

@@ -62,7 +62,8 @@ leastOf P cs = least (λ c. c .from) (least stepsOf (least (adds P) cs))
 abbrev pub within : Split → ℕ → Split → Bool
 within s allowance c = leb (stepsOf c) (stepsOf s + allowance)
 
--- The line that a split takes, if there is one: by that rule, of the candidates of that length.
+-- The line that a split takes, if there is one: by that rule, of the candidates that are no longer. The given line is one of them if it leaves a sound map
+-- (`given-line` of `Allowances`, specs/Ends).
 unfoldable pub chosen : Layout → Split → ℕ → List Split
 chosen P s allowance = leastOf P (only (candidate P) (only (within s allowance) (containing P s)))
 

@@ -4,3 +4,4 @@ pub mod Changing
 pub mod Histories
 pub mod Demand3
 pub mod ByLines
+pub mod Allowance
