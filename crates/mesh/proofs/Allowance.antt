@@ -14,12 +14,12 @@ use Rattle.axis.proofs.Tests.{either, cond-true, cond-false, only-all}
 use Rattle.axis.proofs.Runs.{if-at-most}
 use Rattle.mesh.specs.Lines.{direction, other, Layout}
 use Rattle.mesh.specs.Splits.{soundWith, given, asked, exactNumber}
-use Rattle.mesh.specs.Lengthening.{spanning, containing, Contains, stepsOf, candidate, leastOf, within, chosen, Candidate}
+use Rattle.mesh.specs.Lengthening.{containing, Contains, stepsOf, candidate, leastOf, within, chosen, Candidate}
 use Rattle.mesh.specs.Ends.{goodEnds, nearestGood, LeastSoundLine, Allowances}
 use Rattle.mesh.specs.Replay.{Replays}
 use Rattle.mesh.specs.declared.Split.{Split}
 use Rattle.mesh.proofs.Ranges.{side-most}
-use Rattle.mesh.proofs.Containing.{contains-spanning, containing-complete}
+use Rattle.mesh.proofs.Containing.{contains-same, containing-complete}
 use Rattle.mesh.proofs.Passing.{Given, given-says, asked-given, exact-passes, ends-in}
 use Rattle.mesh.proofs.ChosenLine.{candidate-exact}
 use Rattle.mesh.proofs.TightMaps.{Built}
@@ -49,12 +49,7 @@ module _ (P : Layout) (replays : Replays P) (s : Split) (passes : given P s ≡ 
   itself = record { same-way = refl; same-place = refl; begins = omega arith; ends = omega arith; within = ends-in P s (g .fits) .1 }
 
   no-longer : stepsOf n ≤ stepsOf s → n ≡ s
-  no-longer le =
-      let i = least .is-candidate .0 in
-      let rises = ends-in P s (g .fits) in
-      let from : n .from ≡ s .from = omega (arith, i .begins, i .ends) in
-      let to : n .to ≡ s .to = omega (arith, i .begins, i .ends) in
-      contains-spanning P s n i ∙ (λ k. spanning s (from k) (to k))
+  no-longer = contains-same P s n (least .is-candidate .0) (omega (arith, ends-in P s (g .fits)))
 
   -- so the line taken is the given one exactly where that is accepted as an exact split.
   given-candidate : exactNumber P s ≡ 0 → Candidate P s s

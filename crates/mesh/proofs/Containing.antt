@@ -21,8 +21,16 @@ module _ (P : Layout) (s : Split) where
   abbrev starts : ℕ → List Split
   starts from = each (s .to) (run P s + 1 - s .to) (ends from)
 
+  -- a line that contains the given one differs from it in its ends alone,
   pub contains-spanning : (c : Split) → Contains P s c → c ≡ spanning s (c .from) (c .to)
   contains-spanning c i = rw (← i .same-way, ← i .same-place)
+
+  -- so one that is no longer is the given one;
+  pub contains-same : (c : Split) → Contains P s c → s .from ≤ s .to → stepsOf c ≤ stepsOf s → c ≡ s
+  contains-same c i rises le =
+      let from : c .from ≡ s .from = omega (arith, i .begins, i .ends) in
+      let to : c .to ≡ s .to = omega (arith, i .begins, i .ends) in
+      contains-spanning c i ∙ (λ k. spanning s (from k) (to k))
 
   -- every line of the list contains the given one, and every line that does is in it,
   pub containing-complete : (c : Split) → (List·Memᴰ c (containing P s) → Contains P s c) × (Contains P s c → List·Memᴰ c (containing P s))

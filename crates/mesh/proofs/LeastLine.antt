@@ -18,7 +18,7 @@ use Rattle.mesh.specs.Lengthening.{spanning, Contains, adds, known, newA
 use Rattle.mesh.specs.Crossings.{anchor}
 use Rattle.mesh.specs.Ends.{nearestGood, LeastSoundLine}
 use Rattle.mesh.specs.declared.Split.{Split}
-use Rattle.mesh.proofs.Containing.{contains-spanning, chosen-least}
+use Rattle.mesh.proofs.Containing.{contains-spanning, contains-same, chosen-least}
 use Rattle.mesh.proofs.Passing.{Given, given-says, candidate-says, ends-in}
 use Rattle.mesh.proofs.OneLineMore.{more-finer, ranged}
 use Rattle.mesh.proofs.ChosenLine.{contains-fits, contains-finer}
@@ -75,13 +75,9 @@ module _ (P : Layout) (built : Built P) (s : Split) (passes : given P s ≡ 0) w
   shortest-alone c i =
       let n = nearestGood P s in
       let own = nearest-candidate P built s passes .0 in
-      let o = nearest-in P built s passes c i in
       let rises = ends-in P s (g .fits) in
-      if-equal (stepsOf n) (stepsOf c)
-      (λ e. let from : n .from ≡ c .from = omega (arith, own .begins, own .ends, o .begins, o .ends) in
-      let to : n .to ≡ c .to = omega (arith, own .begins, own .ends, o .begins, o .ends) in
-      inl ((λ k. spanning n (from k) (to k)) ∙ sym (contains-spanning P n c o)))
-      (λ ne. inr (omega (arith, own .begins, own .ends, o .begins, o .ends)))
+      if-at-most (stepsOf c) (stepsOf n)
+      (λ le. inl (sym (contains-same P n c (nearest-in P built s passes c i) (omega (arith, own .begins, own .ends)) le))) (λ gt. inr gt)
 
   -- and within an allowance it is the line taken, or none is.
   is-taken : (a : ℕ) → chosen P s a ≡ cond (within s a (nearestGood P s)) (nearestGood P s ∷ []) []
