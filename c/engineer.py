@@ -32,9 +32,9 @@ class Map:
         number = library.pump_fresh(ctypes.c_size_t(w), ctypes.c_size_t(h), self.buffer, size, ctypes.byref(self.used))
         assert number == 0, number
 
-    def changed(self, call, *numbers):
+    def split(self, *numbers):
         numbers = [ctypes.c_size_t(n) for n in numbers]
-        return call(self.buffer, ctypes.c_size_t(LARGEST_FILE), ctypes.byref(self.used), *numbers)
+        return self.library.pump_split(self.buffer, ctypes.c_size_t(LARGEST_FILE), ctypes.byref(self.used), *numbers)
 
     def weights(self, u, v):
         four = (Weight * 4)()
@@ -47,7 +47,7 @@ class Map:
 
 def main():
     library = ctypes.CDLL(sys.argv[1])
-    for name in ("fresh", "exact_split", "lengthened_split", "weights"):
+    for name in ("fresh", "split", "weights"):
         getattr(library, "pump_" + name).restype = ctypes.c_size_t
     seed = int(sys.argv[2]) if len(sys.argv) > 2 else 1
     draw = random.Random(seed)
@@ -58,8 +58,7 @@ def main():
         for _ in range(20):
             direction, position = draw.randrange(2), draw.randrange(1, SIDE)
             start, end = sorted(draw.sample(sorted(ends[direction]), 2))
-            call = draw.choice([library.pump_exact_split, library.pump_lengthened_split])
-            number = pump.changed(call, direction, position, start, end)
+            number = pump.split(direction, position, start, end, draw.choice([0, 2, 128]))
             numbers[number] += 1
             if number == 0:
                 ends[1 - direction].add(position)

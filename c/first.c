@@ -8,7 +8,7 @@ static const char *const why[] = {
     "drawn",
     "a side is outside 1 to 128",
     "the record is not good",
-    "direction, position, from or to is out of range",
+    "direction, position, from, to or allowance is out of range",
     "the map has 60 splits",
     "it shares more than one point with a line at its position",
     "an end lies on no crossing line",
@@ -35,14 +35,18 @@ static void show_last_line(void) {
         printf(" from %d to %d", line[4] + 256 * line[5], line[6] + 256 * line[7]);
 }
 
+/* Draws a line as given. Where that is refused with 8 it may be 4 steps longer, and where that is not enough, as long
+   as it must be. */
 static void draw(size_t direction, size_t position, size_t from, size_t to) {
-    const char *name = direction == PUMP_UPRIGHT ? "upright" : "level";
-    size_t n = pump_exact_split(map, sizeof map, &used, direction, position, from, to);
-    printf("%s %zu, %zu to %zu: %zu, %s\n", name, position, from, to, n, why[n]);
-    if (n == PUMP_UNSOUND) {
-        n = pump_lengthened_split(map, sizeof map, &used, direction, position, from, to);
-        printf("  lengthened: %zu, %s", n, why[n]);
-        if (n == PUMP_YES)
+    static const size_t allowances[] = {0, 4, PUMP_MOST_ALLOWANCE};
+    size_t n = PUMP_UNSOUND;
+    printf("%s %zu, %zu to %zu", direction == PUMP_UPRIGHT ? "upright" : "level", position, from, to);
+    for (size_t i = 0; i < 3 && n == PUMP_UNSOUND; i++) {
+        n = pump_split(map, sizeof map, &used, direction, position, from, to, allowances[i]);
+        if (i > 0)
+            printf("  at most %zu steps longer", allowances[i]);
+        printf(": %zu, %s", n, why[n]);
+        if (i > 0 && n == PUMP_YES)
             show_last_line();
         printf("\n");
     }
@@ -69,7 +73,7 @@ int main(void) {
     draw(PUMP_UPRIGHT, 6, 4, 8);
 
     /* The four short lines. The old editor drew them all as given, and the blends at the corners of the box added up
-       to more than one. Here two are lengthened until they add up to one again. */
+       to more than one. Here two are drawn longer, so that they add up to one. */
     draw(PUMP_UPRIGHT, 5, 4, 8);
     draw(PUMP_UPRIGHT, 7, 4, 8);
     draw(PUMP_LEVEL, 5, 4, 8);

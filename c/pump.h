@@ -17,14 +17,14 @@
  *
  * A map is sound when inside every unit square exactly four blends are above 0; then all blends add up to one at
  * every point, no two have one anchor, and the reading at an anchor is its value. Every map here is sound: a line
- * that would leave another one is refused with 8.
+ * that would leave another one is never drawn.
  *
  * The anchors are exactly the points where an upright and a level both pass; a line that ends on another adds none
  * there. A line that passes the other checks leaves a sound map exactly when both its ends are good. The far end of
  * an upright line at level p is good at speed q where q is the edge, or a line goes on there at level p, or where
  * two blends have their anchors at speed q, one with m < p < r and one with l < p < m, and the same b. Its near end
  * is good likewise, with the same t; a level line likewise, with the axes changed round. The ends of a whole gap are
- * good, so a line that is refused with 8 can always be lengthened.
+ * good, so a line that is refused with 8 can always be drawn longer: pump_split is given how much longer it may be.
  *
  * Marks
  * -----
@@ -48,9 +48,9 @@
  *     10, 2, direction, position, from, to        one for each split, in the order in which they were drawn
  *     10, 5, m, n, value, mark                    one for each anchor (m, n), sorted by m, then by n
  *     2, 4                                        one; the end
- * That is 12 + 12 * splits + 12 * anchors bytes. Bytes of this form are a map file where their splits would all be
- * accepted as exact splits, in order from the fresh map, their anchors are those of the map so made, and each mark is
- * 0 or 1.
+ * That is 12 + 12 * splits + 12 * anchors bytes. Bytes of this form are a map file where pump_split would accept all
+ * their splits with allowance 0, in order from the fresh map, their anchors are those of the map so made, and each mark
+ * is 0 or 1.
  *
  * Older files have a record without a mark for each anchor,
  *     8, 3, m, n, value
@@ -86,12 +86,12 @@ enum {
     PUMP_YES = 0,
     PUMP_SIDE = 1,          /* a fresh map's side is outside 1 to 128 */
     PUMP_RECORD = 2,        /* never answered from C: such a map is no file, and refused with 11 */
-    PUMP_RANGE = 3,         /* the split's direction, position, from or to is out of range */
+    PUMP_RANGE = 3,         /* the split's direction, position, from, to or allowance is out of range */
     PUMP_FULL = 4,          /* the map has 60 splits */
     PUMP_SHARED = 5,        /* the split shares more than one point with a line of its direction at its position */
     PUMP_LOOSE_END = 6,     /* an end of the split lies on no line of the other direction */
     PUMP_CUTS_NOTHING = 7,  /* the split, joined with lines that it touches, cuts no blend */
-    PUMP_UNSOUND = 8,       /* the exact split leaves a map that is not sound: one of its ends is not good */
+    PUMP_UNSOUND = 8,       /* no line within the allowance leaves a sound map: the nearest good ends lie too far out */
     PUMP_NO_ANCHOR = 9,     /* no blend has the anchor, or the table place, asked about */
     PUMP_OUTSIDE = 10,      /* the point, row or column lies outside the domain, 0 to w by 0 to h */
     PUMP_NO_FILE = 11,      /* the bytes are not a map file, *used is above size, or no whole record is at the place */
@@ -102,6 +102,7 @@ enum {
 enum {
     PUMP_LARGEST_SIDE = 128,
     PUMP_MOST_SPLITS = 60,
+    PUMP_MOST_ALLOWANCE = 128,
     PUMP_MOST_BLENDS = 1024,
     PUMP_LARGEST_FILE = 13020, /* 12 + 12 * 60 + 12 * 1024 */
     PUMP_TABLE_TEXT = 65536    /* no table's text is longer */
@@ -138,25 +139,28 @@ size_t pump_fresh(size_t w, size_t h, uint8_t *buffer, size_t size, size_t *used
    an older file and is too short for the new one. */
 size_t pump_set(uint8_t *buffer, size_t size, size_t *used, size_t m, size_t n, uint16_t value);
 
-/* Draws the line as given:
+/* Draws a line, as given or up to `allowance` steps longer, both ends together:
        PUMP_UPRIGHT at level `position` from speed `from` to speed `to`; 0 < position < w and 0 <= from < to <= h;
-       PUMP_LEVEL at speed `position` from level `from` to level `to`; 0 < position < h and 0 <= from < to <= w.
+       PUMP_LEVEL at speed `position` from level `from` to level `to`; 0 < position < h and 0 <= from < to <= w;
+       0 <= allowance <= PUMP_MOST_ALLOWANCE.
+   With allowance 0 the line is drawn as given. With more, the line is drawn that adds the fewest anchors, of all those
+   that contain the given one, are at most that much longer and would be accepted with allowance 0; the given one may
+   be among them. It is the line between the nearest good ends: it lies in all the others, and each of those adds more,
+   so it is also the shortest and there is never a tie. More allowance never changes what is drawn: once an allowance
+   is accepted, every larger one draws the same line. The drawn line is the last split of the file.
+   Refusals 3 to 7 look at the line as given. 8 says that the line between the nearest good ends is longer than the
+   allowance lets it be; it does not come with PUMP_MOST_ALLOWANCE, since no side is longer and a whole gap has good
+   ends.
    Every old anchor keeps its value and mark, and each new one gets the reading that the map had there, marked as
    worked out. So no reading at an old anchor changes, and one at any other whole point moves by at most one, up or
    down: that one comes from the rounding, and a later split may move it again by one. A straight pump is exact: if
    the value at each anchor (m, n) is A + B m + C n + D m n, the four whole numbers of either sign, then so it is
    after the split, and the reading at every whole point (u, v) is A + B u + C v + D u v, before and after.
+   For pump_exact_split(...) write pump_split(..., 0), and for pump_lengthened_split(...) write
+   pump_split(..., PUMP_MOST_ALLOWANCE).
    Refused with 11, 3 to 8, or 12. */
-size_t pump_exact_split(uint8_t *buffer, size_t size, size_t *used, size_t direction, size_t position, size_t from,
-                        size_t to);
-
-/* Draws, of all lines that contain the given one and would be accepted as exact splits, the one that adds the fewest
-   anchors: the one between the nearest good ends. It lies in all the others, and each of those adds more, so it is
-   also the shortest and there is never a tie. It is the last split of the file. Refusals 3 to 7 look at the line as
-   given; 8 does not come, since there always is such a line.
-   Refused with 11, 3 to 7, or 12. */
-size_t pump_lengthened_split(uint8_t *buffer, size_t size, size_t *used, size_t direction, size_t position, size_t from,
-                             size_t to);
+size_t pump_split(uint8_t *buffer, size_t size, size_t *used, size_t direction, size_t position, size_t from, size_t to,
+                  size_t allowance);
 
 /* Puts the blend, value and mark at a place of the table, from 0, into the sizeof(pump_entry) bytes at out, 16 of them.
    The table lists the blends in the order of the file's anchors. Refused with 11, 9 or 12. */

@@ -19,12 +19,12 @@ typedef struct {
     size_t direction, position, from, to;
 } line;
 
-/* A map, or bytes that are none, with the lines that its two split calls get. */
+/* A map, or bytes that are none, with the lines that are drawn on it: one as given, one with all the allowance. */
 typedef struct {
     const char *name;
     uint8_t bytes[PUMP_LARGEST_FILE];
     size_t used;
-    line exact, lengthened;
+    line as_given, longer;
 } subject;
 
 static void need(int holds, const char *what) {
@@ -39,11 +39,11 @@ static void begin(subject *map, const char *name) {
     need(pump_fresh(128, 128, map->bytes, sizeof map->bytes, &map->used) == PUMP_YES, "a fresh map is refused");
     /* One corner, from which the readings fall all the way: so there is a flow for rows and columns to meet. */
     need(pump_set(map->bytes, sizeof map->bytes, &map->used, 128, 128, 60000) == PUMP_YES, "a value is refused");
-    map->exact = map->lengthened = (line){PUMP_UPRIGHT, 64, 0, 128};
+    map->as_given = map->longer = (line){PUMP_UPRIGHT, 64, 0, 128};
 }
 
 static void draw(subject *map, size_t direction, size_t position, size_t to) {
-    size_t n = pump_exact_split(map->bytes, sizeof map->bytes, &map->used, direction, position, 0, to);
+    size_t n = pump_split(map->bytes, sizeof map->bytes, &map->used, direction, position, 0, to, 0);
     need(n == PUMP_YES, "a line of the maps to measure on is refused");
 }
 
@@ -64,14 +64,16 @@ static size_t set(void) {
     return pump_set(now.bytes, sizeof now.bytes, &now.used, 128, 128, 65535);
 }
 
-static size_t exact_split(void) {
-    line l = now.exact;
-    return pump_exact_split(now.bytes, sizeof now.bytes, &now.used, l.direction, l.position, l.from, l.to);
+static size_t split(line l, size_t allowance) {
+    return pump_split(now.bytes, sizeof now.bytes, &now.used, l.direction, l.position, l.from, l.to, allowance);
 }
 
-static size_t lengthened_split(void) {
-    line l = now.lengthened;
-    return pump_lengthened_split(now.bytes, sizeof now.bytes, &now.used, l.direction, l.position, l.from, l.to);
+static size_t split_as_given(void) {
+    return split(now.as_given, 0);
+}
+
+static size_t split_longer(void) {
+    return split(now.longer, PUMP_MOST_ALLOWANCE);
 }
 
 static size_t place(void) {
@@ -123,8 +125,8 @@ static const struct {
 } calls[CALLS] = {
     {"pump_fresh", fresh},
     {"pump_set", set},
-    {"pump_exact_split", exact_split},
-    {"pump_lengthened_split", lengthened_split},
+    {"pump_split as given", split_as_given},
+    {"pump_split with all the allowance", split_longer},
     {"pump_place", place},
     {"pump_reading", reading},
     {"pump_weights", weights},
@@ -216,8 +218,8 @@ static void make_subjects(void) {
         if (at < 30)
             draw(before, PUMP_UPRIGHT, 4 * at, 128);
     }
-    before->exact = (line){PUMP_UPRIGHT, 120, 0, 128};
-    before->lengthened = (line){PUMP_UPRIGHT, 120, 0, 8};
+    before->as_given = (line){PUMP_UPRIGHT, 120, 0, 128};
+    before->longer = (line){PUMP_UPRIGHT, 120, 0, 8};
 
     *largest = *before;
     largest->name = "the largest map";
@@ -229,8 +231,8 @@ static void make_subjects(void) {
     draw(fan, PUMP_LEVEL, 100, 128);
     for (size_t at = 1; at <= 58; at++)
         draw(fan, PUMP_UPRIGHT, 2 * at, 100);
-    fan->exact = (line){PUMP_LEVEL, 50, 0, 128};
-    fan->lengthened = (line){PUMP_LEVEL, 50, 56, 60};
+    fan->as_given = (line){PUMP_LEVEL, 50, 0, 128};
+    fan->longer = (line){PUMP_LEVEL, 50, 56, 60};
 
     begin(small, "a fresh map");
 

@@ -6,8 +6,8 @@ part=$(mktemp -d)
 trap 'rm -rf "$part"' EXIT
 failed=0
 
-# Lists of calls by document 02 as far as L6, without their answers, all at once.
-want=tests/vectors/L6.txt
+# Lists of calls by document 02 as far as L7, without their answers, all at once.
+want=tests/vectors/L7.txt
 sed 's/ =.*//' "$want" | target/bin/calls >"$part/got"
 if ! cmp -s "$part/got" "$want"; then
   echo "vectors: an answer differs from $want:"

@@ -7,8 +7,8 @@ use crate::{subjects, Pump};
 pub enum Call {
     Fresh(usize, usize),
     Set(usize, usize, u16),
-    Exact([usize; 4]),
-    Lengthened([usize; 4]),
+    /// Direction, position, from and to, and the allowance.
+    Split([usize; 4], usize),
     Place(usize),
     Reading(usize, usize),
     Weights(usize, usize),
@@ -24,12 +24,15 @@ pub enum Call {
 }
 
 impl Call {
+    /// The call's name. Splits have several: which numbers they give depends on the allowance.
     pub fn name(&self) -> &'static str {
         match self {
             Call::Fresh(..) => "fresh",
             Call::Set(..) => "set",
-            Call::Exact(..) => "exact",
-            Call::Lengthened(..) => "lengthened",
+            Call::Split(_, 0) => "split by 0",
+            Call::Split(_, 1..=127) => "split by some",
+            Call::Split(_, 128) => "split by 128",
+            Call::Split(..) => "split by more",
             Call::Place(..) => "place",
             Call::Reading(..) => "reading",
             Call::Weights(..) => "weights",
@@ -44,7 +47,7 @@ impl Call {
 
     /// Whether the call works in place, on a buffer that may be larger than the file.
     pub fn changes(&self) -> bool {
-        matches!(self, Call::Fresh(..) | Call::Set(..) | Call::Exact(..) | Call::Lengthened(..))
+        matches!(self, Call::Fresh(..) | Call::Set(..) | Call::Split(..))
     }
 }
 
@@ -131,8 +134,7 @@ pub fn perform(pump: &dyn Pump, call: &Call, lent: &Lent) -> Outcome {
         match call {
             Call::Fresh(w, h) => pump.fresh(*w, *h, buffer, used),
             Call::Set(m, n, value) => pump.set(buffer, used, *m, *n, *value),
-            Call::Exact(split) => pump.exact_split(buffer, used, *split),
-            Call::Lengthened(split) => pump.lengthened_split(buffer, used, *split),
+            Call::Split(split, allowance) => pump.split(buffer, used, *split, *allowance),
             _ => unreachable!(),
         }
     } else {

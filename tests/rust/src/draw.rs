@@ -2,7 +2,7 @@
 
 use crate::calls::Call;
 use crate::files::old;
-use crate::model::{reading, Lines, Map, LEVEL, MEASURED, UPRIGHT};
+use crate::model::{reading, Lines, Map, LEVEL, MEASURED, MOST_ALLOWANCE, UPRIGHT};
 
 /// Splitmix64.
 pub struct Random(pub u64);
@@ -148,6 +148,21 @@ fn any_split(random: &mut Random, map: &Map, lines: &Lines) -> [usize; 4] {
     [direction, position, from, to]
 }
 
+/// An allowance: mostly none, all that there is, or a few steps; sometimes next to the end of the range, or out of it.
+pub fn allowance(random: &mut Random) -> usize {
+    match random.below(100) {
+        0..=34 => 0,
+        35..=59 => MOST_ALLOWANCE,
+        60..=87 => random.between(1, 8),
+        88..=93 => random.between(9, MOST_ALLOWANCE),
+        94..=96 => random.pick(&[MOST_ALLOWANCE - 1, MOST_ALLOWANCE + 1]),
+        _ => {
+            let near = random.pick(&[0, 1, MOST_ALLOWANCE]);
+            extreme(random, near)
+        }
+    }
+}
+
 /// A coordinate: in the domain, often on the far side, sometimes outside.
 fn coordinate(random: &mut Random, side: usize) -> usize {
     match random.below(20) {
@@ -182,8 +197,7 @@ fn wanted(random: &mut Random, map: &Map, (u, v): (usize, usize)) -> usize {
 pub fn call(random: &mut Random, map: &Map, others: &[Vec<u8>]) -> Call {
     let lines = map.lines();
     match random.below(112) {
-        0..=24 => Call::Exact(split(random, map, &lines)),
-        25..=49 => Call::Lengthened(split(random, map, &lines)),
+        0..=49 => Call::Split(split(random, map, &lines), allowance(random)),
         50..=67 => {
             let (mut m, mut n) = point(random, map);
             let mut value = random.draw() as u16 >> random.below(16);
@@ -249,10 +263,7 @@ pub fn map(random: &mut Random, largest: usize, tries: usize) -> Map {
     let mut map = Map::fresh(w, h).unwrap();
     for _ in 0..tries {
         let [direction, position, from, to] = split(random, &map, &map.lines());
-        let _ = match random.chance(50) {
-            true => map.exact_split(direction, position, from, to),
-            false => map.lengthened_split(direction, position, from, to),
-        };
+        let _ = map.split(direction, position, from, to, allowance(random));
         if random.chance(70) {
             let place = random.below(map.values.len());
             (map.values[place], map.marks[place]) = (random.draw() as u16, MEASURED);

@@ -6,7 +6,7 @@ mod c {
     extern "C" {
         pub fn pump_fresh(w: usize, h: usize, buffer: *mut u8, size: usize, used: *mut usize) -> usize;
         pub fn pump_set(buffer: *mut u8, size: usize, used: *mut usize, m: usize, n: usize, value: u16) -> usize;
-        pub fn pump_exact_split(
+        pub fn pump_split(
             buffer: *mut u8,
             size: usize,
             used: *mut usize,
@@ -14,15 +14,7 @@ mod c {
             position: usize,
             from: usize,
             to: usize,
-        ) -> usize;
-        pub fn pump_lengthened_split(
-            buffer: *mut u8,
-            size: usize,
-            used: *mut usize,
-            direction: usize,
-            position: usize,
-            from: usize,
-            to: usize,
+            allowance: usize,
         ) -> usize;
         pub fn pump_place(file: *const u8, length: usize, place: usize, out: *mut u8, size: usize) -> usize;
         pub fn pump_reading(file: *const u8, length: usize, u: usize, v: usize, litres: *mut usize) -> usize;
@@ -79,14 +71,9 @@ impl Pump for Library {
         unsafe { c::pump_set(buffer.as_mut_ptr(), buffer.len(), used, m, n, value) }
     }
 
-    fn exact_split(&self, buffer: &mut [u8], used: &mut usize, split: [usize; 4]) -> usize {
+    fn split(&self, buffer: &mut [u8], used: &mut usize, split: [usize; 4], allowance: usize) -> usize {
         let [direction, position, from, to] = split;
-        unsafe { c::pump_exact_split(buffer.as_mut_ptr(), buffer.len(), used, direction, position, from, to) }
-    }
-
-    fn lengthened_split(&self, buffer: &mut [u8], used: &mut usize, split: [usize; 4]) -> usize {
-        let [direction, position, from, to] = split;
-        unsafe { c::pump_lengthened_split(buffer.as_mut_ptr(), buffer.len(), used, direction, position, from, to) }
+        unsafe { c::pump_split(buffer.as_mut_ptr(), buffer.len(), used, direction, position, from, to, allowance) }
     }
 
     fn place(&self, file: &[u8], place: usize, out: &mut [u8]) -> usize {

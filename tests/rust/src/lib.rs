@@ -19,8 +19,7 @@ pub trait Pump: Sync {
     fn fresh(&self, w: usize, h: usize, buffer: &mut [u8], used: &mut usize) -> usize;
     fn set(&self, buffer: &mut [u8], used: &mut usize, m: usize, n: usize, value: u16) -> usize;
     /// A split is direction, position, from, to.
-    fn exact_split(&self, buffer: &mut [u8], used: &mut usize, split: [usize; 4]) -> usize;
-    fn lengthened_split(&self, buffer: &mut [u8], used: &mut usize, split: [usize; 4]) -> usize;
+    fn split(&self, buffer: &mut [u8], used: &mut usize, split: [usize; 4], allowance: usize) -> usize;
     fn place(&self, file: &[u8], place: usize, out: &mut [u8]) -> usize;
     fn reading(&self, file: &[u8], u: usize, v: usize, litres: &mut usize) -> usize;
     fn weights(&self, file: &[u8], u: usize, v: usize, out: &mut [u8]) -> usize;

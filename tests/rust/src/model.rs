@@ -11,6 +11,7 @@ pub type No = usize;
 
 pub const LARGEST_SIDE: usize = 128;
 pub const MOST_SPLITS: usize = 60;
+pub const MOST_ALLOWANCE: usize = 128;
 pub const UPRIGHT: usize = 0;
 pub const LEVEL: usize = 1;
 pub const WORKED_OUT: u16 = 0;
@@ -390,7 +391,8 @@ impl Map {
         self.splits.push(split);
     }
 
-    /// An exact split ("Values, readings, splits").
+    /// An exact split draws what is given ("Values, readings, splits"). Records and files are built with it, and it is
+    /// the split with allowance 0 (document 02, L7).
     pub fn exact_split(&mut self, direction: usize, position: usize, from: usize, to: usize) -> Result<Split, No> {
         let split = self.look(direction, position, from, to)?;
         if !self.leaves_sound(split) {
@@ -400,26 +402,42 @@ impl Map {
         Ok(split)
     }
 
-    /// All lines that a lengthened split may take: they contain the given one, have both ends on crossing lines, overlap
-    /// nothing at their position by more than a point and leave a sound map ("Values, readings, splits").
-    pub fn candidates(&self, given: Split) -> Vec<Split> {
+    /// All lines that a split may take: they contain the given one, have both ends on crossing lines, overlap nothing at
+    /// their position by more than a point and leave a sound map ("Values, readings, splits"), and they are at most as
+    /// long as the given one and the allowance (document 02, L7).
+    fn candidates(&self, given: Split, allowance: usize) -> Vec<Split> {
         let lines = self.lines();
         let side = lines.along(given.direction);
         let on_a_line = |end| lines.crossed_at(given.direction, given.position, end);
+        let longest = given.to - given.from + allowance as i64;
         let containing = (0..=given.from).flat_map(|from| (given.to..=side).map(move |to| Split { from, to, ..given }));
         containing
+            .filter(|tried| tried.to - tried.from <= longest)
             .filter(|tried| on_a_line(tried.from) && on_a_line(tried.to))
             .filter(|tried| !lines.shares(*tried) && self.leaves_sound(*tried))
             .collect()
     }
 
-    /// A lengthened split: of all candidates the one that adds the fewest live blends, then the shortest, then the one that
-    /// starts lowest (document 02, L4).
-    pub fn lengthened_split(&mut self, direction: usize, position: usize, from: usize, to: usize) -> Result<Split, No> {
+    /// A split: with allowance 0 the exact one, else of all candidates the one that adds the fewest live blends, then the
+    /// shortest, then the one that starts lowest (document 02, L7 and L4).
+    pub fn split(
+        &mut self,
+        direction: usize,
+        position: usize,
+        from: usize,
+        to: usize,
+        allowance: usize,
+    ) -> Result<Split, No> {
+        if allowance > MOST_ALLOWANCE {
+            return Err(3);
+        }
+        if allowance == 0 {
+            return self.exact_split(direction, position, from, to);
+        }
         let given = self.look(direction, position, from, to)?;
         let lines = self.lines();
         let adds = |line: &Split| live(&lines.with(*line)).len() as i64 - live(&lines).len() as i64;
-        let candidates = self.candidates(given);
+        let candidates = self.candidates(given, allowance);
         let taken = *candidates.iter().min_by_key(|line| (adds(line), line.to - line.from, line.from)).ok_or(8usize)?;
         self.take(taken);
         Ok(taken)
@@ -636,17 +654,14 @@ impl Pump for Model {
         Model::change(buffer, used, |map| map.set(m, n, value))
     }
 
-    fn exact_split(&self, buffer: &mut [u8], used: &mut usize, [direction, position, from, to]: [usize; 4]) -> usize {
-        Model::change(buffer, used, |map| map.exact_split(direction, position, from, to).map(|_| ()))
-    }
-
-    fn lengthened_split(
+    fn split(
         &self,
         buffer: &mut [u8],
         used: &mut usize,
         [direction, position, from, to]: [usize; 4],
+        allowance: usize,
     ) -> usize {
-        Model::change(buffer, used, |map| map.lengthened_split(direction, position, from, to).map(|_| ()))
+        Model::change(buffer, used, |map| map.split(direction, position, from, to, allowance).map(|_| ()))
     }
 
     fn place(&self, file: &[u8], place: usize, out: &mut [u8]) -> usize {

@@ -7,6 +7,7 @@ type No = usize;
 
 const LARGEST_SIDE: usize = 128;
 const MOST_SPLITS: usize = 60;
+const MOST_ALLOWANCE: usize = 128;
 const ENTRY: usize = 16;
 const WEIGHTS: usize = 64;
 const FOURS: [u8; LARGEST_SIDE * LARGEST_SIDE] = [4; LARGEST_SIDE * LARGEST_SIDE];
@@ -185,12 +186,13 @@ impl Map {
     }
 
     /// Refusals 3 to 7.
-    fn look(&self, [direction, position, from, to]: [usize; 4]) -> Result<Split, No> {
+    fn look(&self, [direction, position, from, to]: [usize; 4], allowance: usize) -> Result<Split, No> {
         if direction > 1
             || position < 1
             || position >= self.sides[direction]
             || from >= to
             || to > self.sides[1 - direction]
+            || allowance > MOST_ALLOWANCE
         {
             return Err(3);
         }
@@ -285,23 +287,13 @@ impl Map {
         (next.values, next.marks) = next.table.iter().map(entry).unzip();
     }
 
-    fn exact_split(&self, split: [usize; 4]) -> Result<Map, No> {
-        let split = self.look(split)?;
-        let mut next = self.clone();
-        if !next.draw(split) {
-            return Err(8);
-        }
-        self.hand_over(&mut next);
-        Ok(next)
-    }
-
     /// The shortest sound line through the given one lies in all the others and adds the fewest blends (README.md, "Where a
     /// line may end"), so the first that is found by length is the one to take.
-    fn lengthened_split(&self, split: [usize; 4]) -> Result<Map, No> {
-        let given = self.look(split)?;
+    fn split(&self, split: [usize; 4], allowance: usize) -> Result<Map, No> {
+        let given = self.look(split, allowance)?;
         let Split { direction, position, from, to } = given;
-        let side = self.sides[1 - direction];
-        for length in to - from..=side {
+        let (side, shortest) = (self.sides[1 - direction], to - from);
+        for length in shortest..=side.min(shortest + allowance) {
             for start in to.saturating_sub(length)..=from.min(side - length) {
                 let end = start + length;
                 if !self.crossed_at(direction, position, start)
@@ -426,7 +418,7 @@ impl Map {
         let mut map = Map::fresh(number(4) as usize, number(6) as usize).or(Err(NO))?;
         let mut at = 8;
         while at + 12 <= bytes.len() && begins(at, 10, 2) {
-            let split = map.look([4, 6, 8, 10].map(|field| number(at + field) as usize)).or(Err(NO))?;
+            let split = map.look([4, 6, 8, 10].map(|field| number(at + field) as usize), 0).or(Err(NO))?;
             if !map.draw(split) {
                 return Err(NO);
             }
@@ -543,13 +535,8 @@ impl Pump for Plain {
         }))
     }
 
-    fn exact_split(&self, buffer: &mut [u8], used: &mut usize, split: [usize; 4]) -> usize {
-        let next = lent(buffer, *used).and_then(|map| map.exact_split(split));
-        number(next.and_then(|map| map.write(buffer, used)))
-    }
-
-    fn lengthened_split(&self, buffer: &mut [u8], used: &mut usize, split: [usize; 4]) -> usize {
-        let next = lent(buffer, *used).and_then(|map| map.lengthened_split(split));
+    fn split(&self, buffer: &mut [u8], used: &mut usize, split: [usize; 4], allowance: usize) -> usize {
+        let next = lent(buffer, *used).and_then(|map| map.split(split, allowance));
         number(next.and_then(|map| map.write(buffer, used)))
     }
 

@@ -10,7 +10,7 @@ use pump_tests::files::{anchors, lines, number};
 use pump_tests::model::{Lines, Map, Split, MOST_SPLITS};
 use std::collections::BTreeMap;
 
-/// Splits that each pair of maps is asked for, each of them exact and lengthened.
+/// Splits that each pair of maps is asked for, each of them with no allowance, with all and with some.
 const ASKED: usize = 14;
 
 /// Bytes for what a split adds to a file: its record, and an anchor on each line that it meets, of 59 splits and two
@@ -82,10 +82,11 @@ impl Drawn {
         self.lines.draw(split);
     }
 
-    /// A split, as the exact call and as the lengthened one.
-    fn calls(&self, random: &mut Random) -> [Call; 2] {
+    /// A split, with no allowance, with all and with some.
+    fn calls(&self, random: &mut Random) -> [Call; 3] {
         let split = draw::split(random, &self.map, &self.lines);
-        [Call::Exact(split), Call::Lengthened(split)]
+        let some = if random.chance(80) { random.between(1, 12) } else { random.between(1, 127) };
+        [0, 128, some].map(|allowance| Call::Split(split, allowance))
     }
 }
 
@@ -96,7 +97,7 @@ fn grown(random: &mut Random, (w, h): (usize, usize), tries: usize) -> (Drawn, V
         if drawn.map.splits.len() == MOST_SPLITS {
             break;
         }
-        let call = &drawn.calls(random)[random.below(2)];
+        let call = &drawn.calls(random)[random.below(3)];
         let outcome = perform(&Library, call, &Lent::buffer(&file, file.len() + ROOM));
         if outcome.number == 0 {
             file = left(&outcome);
@@ -110,7 +111,7 @@ fn grown(random: &mut Random, (w, h): (usize, usize), tries: usize) -> (Drawn, V
     (drawn, file)
 }
 
-/// The map of the same splits, drawn anew as exact ones from a fresh map with some values at its corners.
+/// The map of the same splits, drawn anew as they stand in the record from a fresh map with some values at its corners.
 fn again(random: &mut Random, drawn: &Drawn) -> Vec<u8> {
     let mut file = fresh(drawn.map.w as usize, drawn.map.h as usize);
     for corner in anchors(&file).into_keys() {
@@ -118,7 +119,7 @@ fn again(random: &mut Random, drawn: &Drawn) -> Vec<u8> {
     }
     for split in &drawn.map.splits {
         let [position, from, to] = [split.position, split.from, split.to].map(|number| number as usize);
-        let call = Call::Exact([split.direction, position, from, to]);
+        let call = Call::Split([split.direction, position, from, to], 0);
         let outcome = perform(&Library, &call, &Lent::buffer(&file, file.len() + ROOM));
         assert_eq!(outcome.number, 0, "{:?}: {split:?} is refused the second time", drawn.map);
         file = left(&outcome);
@@ -145,8 +146,8 @@ fn with_other_values(random: &mut Random, drawn: &Drawn, file: &[u8]) -> Vec<u8>
     other
 }
 
-/// What came up: the numbers of each call; lengthened splits with a longer line than given; old anchors at which the
-/// two maps have two values, after a split as before; new anchors that got two values.
+/// What came up: the numbers of each call; splits with a longer line than given; old anchors at which the two maps have
+/// two values, after a split as before; new anchors that got two values.
 #[derive(Default)]
 struct Seen {
     numbers: BTreeMap<(&'static str, usize), usize>,
@@ -190,15 +191,12 @@ impl Pair {
         let (before, last) = one.split_at(one.len() - 12);
         assert_eq!(before, lines(&self.files[0]), "lines from before: {}", tell());
         let line = [4, 6, 8, 10].map(|at| number(last, at) as usize);
-        match call {
-            Call::Exact(given) => assert_eq!(line, *given, "{}", tell()),
-            Call::Lengthened(given) => {
-                assert_eq!(line[..2], given[..2], "{}", tell());
-                assert!(line[2] <= given[2] && given[3] <= line[3], "{line:?}: {}", tell());
-                seen.longer += (line != *given) as usize;
-            }
-            _ => unreachable!(),
-        }
+        let Call::Split(given, allowance) = call else { unreachable!() };
+        assert_eq!(line[..2], given[..2], "{}", tell());
+        assert!(line[2] <= given[2] && given[3] <= line[3], "{line:?}: {}", tell());
+        let longer = given[2] - line[2] + line[3] - given[3];
+        assert!(longer <= *allowance, "{line:?}: {}", tell());
+        seen.longer += (longer > 0) as usize;
         assert_eq!(blends(&files[0]), blends(&files[1]), "other blends: {}", tell());
 
         // Old anchors keep their values and marks, each map its own.
@@ -272,11 +270,10 @@ fn same_line_or_same_number() {
         let mut pair = Pair { drawn, files: [file, other] };
         for _ in 0..ASKED {
             let room = if random.chance(5) { random.below(60) } else { ROOM };
-            let [exact, lengthened] = pair.drawn.calls(&mut random).map(|call| pair.ask(&call, room, &mut seen));
-            // Half of the time the pair goes on as one of the two calls left it, if that was accepted.
-            let next = if random.chance(50) { exact } else { lengthened };
+            let mut left = pair.drawn.calls(&mut random).map(|call| pair.ask(&call, room, &mut seen));
+            // Half of the time the pair goes on as one of the three calls left it, if that was accepted.
             if random.chance(50) {
-                pair = next.unwrap_or(pair);
+                pair = left[random.below(3)].take().unwrap_or(pair);
             }
         }
     }
@@ -284,11 +281,11 @@ fn same_line_or_same_number() {
     let Seen { numbers, longer, apart, new_apart } = seen;
     let count = |call, number| numbers.get(&(call, number)).copied().unwrap_or(0);
     let gave = |call| (0..=12).map(|number| count(call, number)).collect::<Vec<usize>>();
-    let (exact, lengthened) = (gave("exact"), gave("lengthened"));
+    let [none, some, all] = ["split by 0", "split by some", "split by 128"].map(gave);
     println!(
-        "{maps} maps, {full} full, {of_sides:?} of sides {SIDES:?}, {of_ends:?} with {ENDS:?} for other values; exact \
-         gave 0 to 12: {exact:?}, lengthened {lengthened:?}, {longer} of them longer than given; anchors with two \
-         values: {apart} old, {new_apart} new"
+        "{maps} maps, {full} full, {of_sides:?} of sides {SIDES:?}, {of_ends:?} with {ENDS:?} for other values; splits \
+         gave 0 to 12: without allowance {none:?}, with some {some:?}, with all {all:?}; {longer} were longer than \
+         given; anchors with two values: {apart} old, {new_apart} new"
     );
     if draw::count() < 1000 {
         return;
@@ -297,10 +294,13 @@ fn same_line_or_same_number() {
         assert!(seen as f64 >= each * maps as f64, "only {seen} {what} in {maps} maps");
     };
     for (number, each) in [(0, 2.0), (3, 1.0), (4, 0.5), (5, 2.0), (6, 0.2), (7, 0.6), (8, 0.25), (12, 0.02)] {
-        enough(&format!("exact with {number}"), exact[number], each);
-        // Nobody has seen a lengthened split say 8.
-        enough(&format!("lengthened with {number}"), lengthened[number], if number == 8 { 0.0 } else { each });
+        enough(&format!("without allowance with {number}"), none[number], each);
+        // Most of what is refused as given is drawn with some allowance, and all of it with all.
+        let (few, nothing) = if number == 8 { (0.02, 0.0) } else { (each, each) };
+        enough(&format!("with some allowance with {number}"), some[number], few);
+        enough(&format!("with all allowance with {number}"), all[number], nothing);
     }
+    assert_eq!(all[8], 0);
     enough("longer than given", longer, 0.25);
     enough("old anchors with two values", apart, 80.0);
     enough("new anchors with two values", new_apart, 6.0);

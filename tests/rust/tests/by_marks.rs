@@ -131,6 +131,7 @@ fn same_answers_but_for_marks() {
         }
     }
     println!("{maps} pairs, {apart} calls with other marks, {from_old} with an old file; call and number: {numbers:?}");
-    let changed = ["set", "exact", "lengthened"].iter().all(|call| numbers.contains(&(call, 0)));
+    let changing = ["set", "split by 0", "split by some", "split by 128"];
+    let changed = changing.iter().all(|call| numbers.contains(&(call, 0)));
     assert!(draw::count() < 1000 || changed && apart as u64 > 4 * maps && 2 * from_old as u64 > maps);
 }

@@ -42,15 +42,11 @@ impl Drawn {
         Drawn { sides, splits: vec![], lines: Lines::fresh(w as i64, h as i64), file }
     }
 
-    /// The map after a split, exact or lengthened, if the library accepts it.
-    fn split(&self, split: [usize; 4], exact: bool) -> Option<Drawn> {
+    /// The map after a split, if the library accepts it.
+    fn split(&self, split: [usize; 4], allowance: usize) -> Option<Drawn> {
         let (mut file, mut used) = (self.file.clone(), self.file.len());
         file.resize(LARGEST_FILE, 0);
-        let number = match exact {
-            true => Library.exact_split(&mut file, &mut used, split),
-            false => Library.lengthened_split(&mut file, &mut used, split),
-        };
-        if number != 0 {
+        if Library.split(&mut file, &mut used, split, allowance) != 0 {
             return None;
         }
         file.truncate(used);
@@ -73,7 +69,7 @@ impl Drawn {
             let ends: Vec<usize> = (0..=self.sides[1 - direction]).filter(crossed).collect();
             let first = random.below(ends.len() - 1);
             let second = if random.chance(50) { first + 1 } else { random.between(first + 1, ends.len() - 1) };
-            self.split([direction, position, ends[first], ends[second]], random.chance(50))
+            self.split([direction, position, ends[first], ends[second]], random.pick(&[0, 128]))
         })
     }
 
@@ -89,7 +85,7 @@ impl Drawn {
         self.splits.iter().fold(Drawn::fresh(sides), |map, &[direction, position, from, to]| {
             let along = 1 - direction;
             let split = [direction, place(direction, position), place(along, from), place(along, to)];
-            map.split(split, true).expect("only the order of lines counts")
+            map.split(split, 0).expect("only the order of lines counts")
         })
     }
 

@@ -184,8 +184,9 @@ fn mixes_and_other_marks() {
         bads.push(with_others(&goods[0], &of_kinds(&goods[0], &[3]), 2));
         let calls = [
             Call::Set(0, 0, 1),
-            Call::Exact([0, 1, 0, map.h as usize]),
-            Call::Lengthened([0, 1, 0, map.h as usize]),
+            Call::Split([0, 1, 0, map.h as usize], 0),
+            Call::Split([0, 1, 0, map.h as usize], 128),
+            Call::Split([0, 1, 0, map.h as usize], 129),
             Call::Place(0),
             Call::Reading(0, 0),
             Call::Weights(0, 0),

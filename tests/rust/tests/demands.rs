@@ -108,11 +108,7 @@ fn splits_keep_readings() {
         for _ in 0..6 {
             let before = map.clone();
             let [direction, position, from, to] = draw::split(&mut random, &map, &map.lines());
-            let outcome = match random.chance(50) {
-                true => map.exact_split(direction, position, from, to),
-                false => map.lengthened_split(direction, position, from, to),
-            };
-            if outcome.is_err() {
+            if map.split(direction, position, from, to, draw::allowance(&mut random)).is_err() {
                 assert_eq!(map, before);
                 continue;
             }

@@ -30,13 +30,15 @@ impl Seen {
         self.numbers.get(&(call, number)).copied().unwrap_or(0)
     }
 
-    /// Every call must have given every number that it can give, and no other, and 0 on old files. 1 and 4 have tests
-    /// of their own. Nobody has seen a lengthened split say 8, so that one may be missing.
+    /// Every call must have given every number that it can give, and no other, and 0 on old files if it can. 1 and 4
+    /// have tests of their own.
     fn assert_all(&self) {
-        let can: [(&'static str, &[usize]); 12] = [
+        let can: [(&'static str, &[usize]); 14] = [
             ("set", &[0, 9, 11, 12]),
-            ("exact", &[0, 3, 5, 6, 7, 8, 11, 12]),
-            ("lengthened", &[0, 3, 5, 6, 7, 11, 12]),
+            ("split by 0", &[0, 3, 5, 6, 7, 8, 11, 12]),
+            ("split by some", &[0, 3, 5, 6, 7, 8, 11, 12]),
+            ("split by 128", &[0, 3, 5, 6, 7, 11, 12]),
+            ("split by more", &[3, 11]),
             ("place", &[0, 9, 11, 12]),
             ("reading", &[0, 10, 11]),
             ("weights", &[0, 10, 11, 12]),
@@ -50,10 +52,10 @@ impl Seen {
         for (call, numbers) in can {
             let counts: Vec<usize> = (0..=13).map(|number| self.count(call, number)).collect();
             let on_old = self.on_old.get(call).copied().unwrap_or(0);
-            println!("{call:>10} gave 0 to 13: {counts:?}; 0 on old files: {on_old}");
-            assert!(on_old > 0, "{call} was never accepted on an old file");
+            println!("{call:>13} gave 0 to 13: {counts:?}; 0 on old files: {on_old}");
+            assert!(on_old > 0 || !numbers.contains(&0), "{call} was never accepted on an old file");
             for (number, count) in counts.into_iter().enumerate() {
-                let may = number == 4 || (call, number) == ("lengthened", 8);
+                let may = number == 4 && call != "split by more";
                 assert!(may || numbers.contains(&number) == (count > 0), "{call} gave {number} {count} times");
             }
         }
@@ -114,8 +116,7 @@ fn history(random: &mut Random, seen: &mut Seen, (w, h): (usize, usize), length:
             on_old = true;
         }
         let call = match splits_alone {
-            true if random.chance(50) => Call::Exact(draw::split(random, &map, &map.lines())),
-            true => Call::Lengthened(draw::split(random, &map, &map.lines())),
+            true => Call::Split(draw::split(random, &map, &map.lines()), draw::allowance(random)),
             false => draw::call(random, &map, &others),
         };
         let lent = lend(random, &call, &map, &file);
@@ -129,8 +130,7 @@ fn history(random: &mut Random, seen: &mut Seen, (w, h): (usize, usize), length:
         file = outcome.bytes()[..outcome.used].to_vec();
         match call {
             Call::Set(m, n, value) => map.set(m, n, value).unwrap(),
-            Call::Exact([d, p, f, t]) => drop(map.exact_split(d, p, f, t).unwrap()),
-            Call::Lengthened([d, p, f, t]) => drop(map.lengthened_split(d, p, f, t).unwrap()),
+            Call::Split([d, p, f, t], allowance) => drop(map.split(d, p, f, t, allowance).unwrap()),
             _ => unreachable!(),
         }
         assert_eq!(map.write(), file);
@@ -168,7 +168,7 @@ fn full_histories() {
         let map = history(&mut random, &mut seen, sides, length, true);
         println!("{sides:?}: {} splits, {} blends", map.splits.len(), map.values.len());
     }
-    assert!(seen.count("exact", 4) > 0 && seen.count("lengthened", 4) > 0);
+    assert!(["split by 0", "split by some", "split by 128"].iter().all(|call| seen.count(call, 4) > 0));
 }
 
 /// The map of these splits on sides of 128, by the plain implementation, with values.
@@ -176,7 +176,7 @@ fn largest(splits: &[maps::Split]) -> Vec<u8> {
     let (mut buffer, mut used) = (vec![0; LARGEST_FILE], 0);
     assert_eq!(Plain.fresh(128, 128, &mut buffer, &mut used), 0);
     for split in splits {
-        assert_eq!(Plain.exact_split(&mut buffer, &mut used, *split), 0);
+        assert_eq!(Plain.split(&mut buffer, &mut used, *split, 0), 0);
     }
     buffer.truncate(used);
     maps::with_values(buffer)
@@ -187,8 +187,8 @@ fn largest(splits: &[maps::Split]) -> Vec<u8> {
 fn most_blends() {
     let (last, first) = maps::grid().split_last().map(|(last, first)| (*last, first.to_vec())).unwrap();
     let before = largest(&first);
-    let short = compare(&Call::Exact(last), &Lent::buffer(&before, LARGEST_FILE - 1), &String::new);
-    let whole = compare(&Call::Exact(last), &Lent::buffer(&before, LARGEST_FILE), &String::new);
+    let short = compare(&Call::Split(last, 0), &Lent::buffer(&before, LARGEST_FILE - 1), &String::new);
+    let whole = compare(&Call::Split(last, 0), &Lent::buffer(&before, LARGEST_FILE), &String::new);
     assert_eq!((short.number, whole.number, whole.used), (12, 0, LARGEST_FILE));
     let file = largest(&maps::grid());
     let old = old(&file);
@@ -205,7 +205,9 @@ fn most_blends() {
         Call::Column(127, 32_768),
         Call::Same(whole.bytes().to_vec(), true),
         Call::Set(128, 120, 65_535),
-        Call::Exact([0, 2, 0, 4]),
+        Call::Split([0, 2, 0, 4], 0),
+        Call::Split([0, 2, 0, 4], 128),
+        Call::Split([0, 2, 0, 4], 129),
     ] {
         for file in [&file, &old] {
             compare(&call, &Lent::file(file), &String::new);
@@ -226,14 +228,19 @@ fn table_that_just_fits() {
     }
 }
 
-/// A lengthened split that finds its line as the last of very many.
+/// A split that finds its line as the last of very many, or stops just before it.
 #[test]
 fn longest_search() {
     let (last, first) = maps::fan().split_last().map(|(last, first)| (*last, first.to_vec())).unwrap();
     let before = Lent::buffer(&largest(&first), LARGEST_FILE);
-    let searched = compare(&Call::Lengthened(maps::FAN_GIVEN), &before, &String::new);
-    let drawn = compare(&Call::Exact(last), &before, &String::new);
-    assert_eq!((searched.number, searched.bytes()), (0, drawn.bytes()));
+    let drawn = compare(&Call::Split(last, 0), &before, &String::new);
+    let [.., from, to] = maps::FAN_GIVEN;
+    let needed = 128 - (to - from);
+    for (allowance, left) in [(needed - 1, None), (needed, Some(&drawn)), (128, Some(&drawn))] {
+        let searched = compare(&Call::Split(maps::FAN_GIVEN, allowance), &before, &String::new);
+        let bytes = left.map_or(&before.bytes[..], Outcome::bytes);
+        assert_eq!((searched.number, searched.bytes()), (if left.is_some() { 0 } else { 8 }, bytes));
+    }
 }
 
 /// Calls on different bytes may run at the same time.

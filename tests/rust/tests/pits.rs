@@ -1,5 +1,5 @@
 //! "Pits on paper" of document 01, with the numbers and counts that it gives, and with the marks and the file lengths
-//! of document 02, L5, and the readings of its L6.
+//! of document 02, L5, the readings of its L6 and the allowances of its L7.
 
 use pump_tests::calls::{compare, Call, Lent, Outcome};
 use pump_tests::LARGEST_FILE;
@@ -24,17 +24,8 @@ impl Editor {
     }
 
     /// The number of blends after a split.
-    fn exact(&mut self, split: [usize; 4]) -> Result<usize, usize> {
-        let number = self.call(Call::Exact(split)).number;
-        if number == 0 {
-            Ok(self.blends())
-        } else {
-            Err(number)
-        }
-    }
-
-    fn lengthened(&mut self, split: [usize; 4]) -> Result<usize, usize> {
-        let number = self.call(Call::Lengthened(split)).number;
+    fn split(&mut self, split: [usize; 4], allowance: usize) -> Result<usize, usize> {
+        let number = self.call(Call::Split(split, allowance)).number;
         if number == 0 {
             Ok(self.blends())
         } else {
@@ -74,32 +65,36 @@ fn sides() {
 #[test]
 fn counts_of_blends() {
     let mut map = Editor::fresh(8, 8);
-    assert_eq!(map.exact([0, 4, 0, 8]), Ok(6));
-    assert_eq!(map.exact([1, 4, 0, 8]), Ok(9));
-    assert_eq!(map.exact([0, 2, 0, 4]), Ok(10));
-    assert_eq!(map.exact([1, 2, 0, 2]), Err(8));
-    assert_eq!(map.exact([1, 2, 0, 4]), Err(8));
-    assert_eq!(map.lengthened([1, 2, 0, 2]), Ok(14));
+    assert_eq!(map.split([0, 4, 0, 8], 0), Ok(6));
+    assert_eq!(map.split([1, 4, 0, 8], 0), Ok(9));
+    assert_eq!(map.split([0, 2, 0, 4], 0), Ok(10));
+    assert_eq!(map.split([1, 2, 0, 2], 0), Err(8));
+    assert_eq!(map.split([1, 2, 0, 4], 0), Err(8));
+    assert_eq!(map.split([1, 2, 0, 2], 5), Err(8));
+    assert_eq!(map.split([1, 2, 0, 2], 6), Ok(14));
     let last_split = 8 + 12 * 3;
     assert_eq!(map.0[last_split..last_split + 12], [10, 0, 2, 0, 1, 0, 2, 0, 0, 0, 8, 0]);
     assert_eq!(map.0.len(), 12 + 12 * 4 + 12 * 14);
 
     let mut map = Editor::fresh(8, 8);
-    map.exact([1, 2, 0, 8]).unwrap();
-    map.exact([1, 4, 0, 8]).unwrap();
-    assert_eq!(map.exact([0, 4, 2, 4]), Err(7));
-    assert_eq!(map.exact([0, 4, 0, 4]), Ok(10));
+    map.split([1, 2, 0, 8], 0).unwrap();
+    map.split([1, 4, 0, 8], 0).unwrap();
+    assert_eq!(map.split([0, 4, 2, 4], 0), Err(7));
+    assert_eq!(map.split([0, 4, 0, 4], 0), Ok(10));
 }
 
 #[test]
 fn refused_splits() {
     let mut map = Editor::fresh(8, 8);
-    assert_eq!(map.exact([0, 4, 0, 3]), Err(6));
-    assert_eq!(map.exact([0, 0, 0, 8]), Err(3));
-    assert_eq!(map.exact([0, 8, 0, 8]), Err(3));
-    assert_eq!(map.exact([0, 4, 0, 8]), Ok(6));
-    assert_eq!(map.exact([0, 4, 0, 8]), Err(5));
-    assert_eq!(map.lengthened([0, 4, 0, 8]), Err(5));
+    assert_eq!(map.split([0, 4, 0, 3], 0), Err(6));
+    assert_eq!(map.split([0, 0, 0, 8], 0), Err(3));
+    assert_eq!(map.split([0, 8, 0, 8], 0), Err(3));
+    assert_eq!(map.split([0, 4, 0, 8], 0), Ok(6));
+    assert_eq!(map.split([0, 4, 0, 8], 0), Err(5));
+    assert_eq!(map.split([0, 4, 0, 8], 128), Err(5));
+    assert_eq!(map.split([0, 4, 0, 8], 129), Err(3));
+    assert_eq!(map.split([0, 2, 0, 8], 129), Err(3));
+    assert_eq!(map.split([0, 2, 0, 8], 128), Ok(8));
 }
 
 #[test]
@@ -114,7 +109,7 @@ fn readings() {
     map.call(Call::Set(4, 0, 6));
     map.call(Call::Set(4, 1, 6));
     assert_eq!(map.reading(2, 0), Ok(3));
-    assert_eq!(map.exact([0, 1, 0, 1]), Ok(6));
+    assert_eq!(map.split([0, 1, 0, 1], 0), Ok(6));
     assert_eq!(map.reading(2, 0), Ok(3));
 
     let mut map = Editor::fresh(8, 8);
@@ -179,7 +174,7 @@ fn new_anchors() {
         (127, [1, 1], 64, [1, 1]),
     ] {
         let mut map = with_values(w, 1, [0, 0, values[0], values[1]]);
-        assert_eq!(map.exact([0, position, 0, 1]), Ok(6));
+        assert_eq!(map.split([0, position, 0, 1], 0), Ok(6));
         let value = |line: &str| line.split(' ').nth(6).unwrap().parse().unwrap();
         let held: Vec<u16> = map.text().lines().skip(1).map(value).collect();
         assert_eq!(held, [[0, 0], found, values].concat(), "{position} of {w}");
@@ -201,7 +196,7 @@ fn moved_readings() {
         let mut map = with_values(w, 1, [0, 0, value, value]);
         let mut read = vec![map.reading(u, 0).unwrap()];
         for position in uprights {
-            map.exact([0, position, 0, 1]).unwrap();
+            map.split([0, position, 0, 1], 0).unwrap();
             read.push(map.reading(u, 0).unwrap());
         }
         assert_eq!(read, readings, "{value} on {w} by 1");
@@ -228,7 +223,7 @@ fn marks() {
     map.call(Call::Set(4, 0, 6));
     map.call(Call::Set(0, 1, 0));
     assert_eq!(map.text(), "4\n-1 0 4 -1 0 1 0 0\n-1 0 4 0 1 2 0 1\n0 4 5 -1 0 1 6 1\n0 4 5 0 1 2 0 0\n");
-    map.exact([0, 1, 0, 1]).unwrap();
+    map.split([0, 1, 0, 1], 0).unwrap();
     let (left, middle) = ("-1 0 1 -1 0 1 0 0\n-1 0 1 0 1 2 0 1\n", "0 1 4 -1 0 1 2 0\n0 1 4 0 1 2 0 0\n");
     assert_eq!(map.text(), format!("6\n{left}{middle}1 4 5 -1 0 1 6 1\n1 4 5 0 1 2 0 0\n"));
     let entry = map.call(Call::Place(4)).out()[..16].to_vec();
@@ -245,7 +240,7 @@ fn old_file() {
     assert_eq!(map.text(), "4\n-1 0 2 -1 0 3 7 0\n-1 0 2 0 3 4 0 0\n0 2 3 -1 0 3 0 0\n0 2 3 0 3 4 9 0\n");
     assert_eq!(map.reading(2, 3), Ok(9));
     assert_eq!(map.call(Call::Set(1, 1, 5)).number, 9);
-    assert_eq!(map.exact([1, 1, 0, 1]), Err(6));
+    assert_eq!(map.split([1, 1, 0, 1], 0), Err(6));
     assert_eq!(map.0, old);
     for (size, number) in [(59, 12), (60, 0)] {
         assert_eq!(compare(&Call::Set(2, 0, 5), &Lent::buffer(&old, size), &String::new).number, number);
@@ -254,6 +249,6 @@ fn old_file() {
     let new = [6, 1, 2, 3, 10, 5, 0, 0, 7, 0, 10, 5, 0, 3, 0, 0, 10, 5, 2, 0, 5, 1, 10, 5, 2, 3, 9, 0, 2, 4];
     assert_eq!(map.0, bytes(&new));
     let mut map = Editor(old);
-    assert_eq!(map.exact([0, 1, 0, 3]), Ok(6));
+    assert_eq!(map.split([0, 1, 0, 3], 0), Ok(6));
     assert_eq!(map.0.len(), 12 + 12 + 12 * 6);
 }

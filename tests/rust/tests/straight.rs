@@ -163,8 +163,7 @@ fn splits_leave_a_straight_pump_straight() {
         let straight = Straight::draw(&mut random, map.w, map.h);
         map.values = straight.values(&map.table());
         for _ in 0..random.below(20) {
-            let split = draw::split(&mut random, &map, &map.lines());
-            let call = if random.chance(50) { Call::Exact(split) } else { Call::Lengthened(split) };
+            let call = Call::Split(draw::split(&mut random, &map, &map.lines()), draw::allowance(&mut random));
             let file = map.write();
             let outcome =
                 compare(&call, &Lent::buffer(&file, file.len() + 900), &|| format!("{straight:?} on {map:?}"));

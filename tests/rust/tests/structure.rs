@@ -16,11 +16,7 @@ fn reached(random: &mut Random, (w, h): (usize, usize), length: usize) -> Vec<Ma
             map = Map::read(&map.write()).unwrap();
         }
         let [direction, position, from, to] = draw::split(random, &map, &map.lines());
-        let outcome = match random.chance(50) {
-            true => map.exact_split(direction, position, from, to),
-            false => map.lengthened_split(direction, position, from, to),
-        };
-        if outcome.is_ok() {
+        if map.split(direction, position, from, to, draw::allowance(random)).is_ok() {
             maps.push(map.clone());
         }
     }
@@ -169,7 +165,8 @@ fn same_blends_same_lines() {
 // ---------------------------------------------------------------------------------------------------------- Good ends
 
 /// What was tried: gaps, sound lines, pairs of them of which one lies in the other, their ends inside a gap, lines that
-/// are not sound, and the bad ends of these, by the number of sides on which an anchor lies beside the end.
+/// are not sound, and the bad ends of these, by the number of sides on which an anchor lies beside the end; and splits by
+/// the number of ends at which their line is longer than given.
 #[derive(Default)]
 struct Seen {
     gaps: usize,
@@ -178,6 +175,7 @@ struct Seen {
     inside: usize,
     unsound: usize,
     bad: [usize; 3],
+    longer: [usize; 3],
 }
 
 /// A position of a map at which lines are tried. Its words are those of uprights; for levels, left is below.
@@ -231,25 +229,22 @@ impl Place<'_> {
 
     /// Splits a copy of the map: the line as it then stands in the record and how many live blends it added, or the
     /// refusal.
-    fn split(&self, exact: bool, (from, to): (i64, i64)) -> Result<((i64, i64), usize), usize> {
+    fn split(&self, (from, to): (i64, i64), allowance: usize) -> Result<((i64, i64), usize), usize> {
         let mut map = self.map.clone();
         let [position, from, to] = [self.position, from, to].map(|number| number as usize);
-        match exact {
-            true => map.exact_split(self.direction, position, from, to)?,
-            false => map.lengthened_split(self.direction, position, from, to)?,
-        };
+        map.split(self.direction, position, from, to, allowance)?;
         let last = map.splits.last().unwrap();
         Ok(((last.from, last.to), map.table().len() - self.table.len()))
     }
 
-    /// Tries every line at the position, exact and lengthened.
+    /// Tries every line at the position, as given and with allowances.
     fn check(&self, seen: &mut Seen) {
         let tell = || format!("{:?}, direction {}, position {}", self.map, self.direction, self.position);
 
         // A line that passes 3 to 7 is sound exactly when both its ends are good.
         let (mut passed, mut sound, mut adds) = (vec![], vec![], BTreeMap::new());
         for (from, to) in (0..self.along).flat_map(|from| (from + 1..=self.along).map(move |to| (from, to))) {
-            let split = self.split(true, (from, to));
+            let split = self.split((from, to), 0);
             adds.extend(split);
             let outcome = split.map(|(line, _)| line);
             if matches!(outcome, Err(3..=7)) {
@@ -278,7 +273,7 @@ impl Place<'_> {
         }
 
         // The sound lines that contain a given one have any good from and any good to of its gap. So the one between the
-        // nearest good ends lies in all the others, and a lengthened split takes it.
+        // nearest good ends lies in all the others, and a split takes it as soon as its allowance reaches so far.
         for (from, to) in passed {
             let start = (0..=from).rev().find(|at| self.gap_starts(*at)).unwrap();
             let end = (to..).find(|at| self.gap_ends(*at)).unwrap();
@@ -288,8 +283,13 @@ impl Place<'_> {
             let around: Vec<_> = sound.iter().copied().filter(|line| line.0 <= from && to <= line.1).collect();
             assert_eq!(around, pairs, "{}: the sound lines that contain {from} to {to}", tell());
             let nearest = (froms[froms.len() - 1], tos[0]);
-            let taken = self.split(false, (from, to));
-            assert_eq!(taken, Ok((nearest, adds[&nearest])), "{}: {from} to {to} lengthened", tell());
+            let needed = (nearest.1 - nearest.0 - (to - from)) as usize;
+            for allowance in [needed.saturating_sub(1), needed, needed + 1, 128] {
+                let want = if allowance < needed { Err(8) } else { Ok((nearest, adds[&nearest])) };
+                let taken = self.split((from, to), allowance);
+                assert_eq!(taken, want, "{}: {from} to {to} with {allowance} for {needed}", tell());
+            }
+            seen.longer[(nearest.0 < from) as usize + (to < nearest.1) as usize] += 1;
             assert!(around.iter().all(|line| line.0 <= nearest.0 && nearest.1 <= line.1));
         }
 
@@ -304,8 +304,9 @@ impl Place<'_> {
     }
 }
 
-/// An exact split that passes 3 to 7 says 8 exactly where one of its ends is not good. A lengthened one goes to the
-/// nearest good ends, which add the fewest blends, and never says 8, since the ends of its gap are good.
+/// Without allowance, a split that passes 3 to 7 says 8 exactly where one of its ends is not good. With one it goes to the
+/// nearest good ends, which add the fewest blends, and says 8 exactly where these are too far; with 128 it never does,
+/// since the ends of its gap are good.
 #[test]
 fn sound_lines_have_good_ends() {
     let lists = draw::count() / 4;
@@ -320,7 +321,7 @@ fn sound_lines_have_good_ends() {
             }
         }
     }
-    let Seen { gaps, sound, pairs, inside, unsound, bad: [none, one, both] } = seen;
+    let Seen { gaps, sound, pairs, inside, unsound, bad: [none, one, both], longer } = seen;
     enough("gaps", gaps, 10.0, lists);
     enough("sound lines", sound, 25.0, lists);
     enough("pairs of them, one in the other", pairs, 5.0, lists);
@@ -328,6 +329,8 @@ fn sound_lines_have_good_ends() {
     enough("lines that are not sound", unsound, 3.0, lists);
     enough("bad ends with an anchor on one side", one, 2.0, lists);
     enough("bad ends with anchors on both sides", both, 0.5, lists);
+    enough("lines longer at one end", longer[1], 2.0, lists);
+    enough("lines longer at both ends", longer[2], 0.1, lists);
     // The line that an end lies on has an anchor there, on one side at least.
     assert_eq!(none, 0);
 }

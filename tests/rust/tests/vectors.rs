@@ -1,6 +1,6 @@
-//! Replays the outside vectors: the lists of calls, by document 02 as far as L6, and the files of the table program.
+//! Replays the outside vectors: the lists of calls, by document 02 as far as L7, and the files of the table program.
 
-use pump_tests::model::{Blend, Map, No, Split};
+use pump_tests::model::{Blend, Map, No};
 use pump_tests::{subjects, Pump, LARGEST_FILE};
 use std::fmt::Write;
 use std::path::PathBuf;
@@ -26,7 +26,6 @@ fn numbers(blend: &Blend) -> String {
 /// A call's answer as the vectors write it.
 fn answer(map: &mut Map, words: &[&str]) -> Result<String, No> {
     let n = |at: usize| words[at].parse::<usize>().unwrap();
-    let split = |map: &Map, split: Split| format!("0 {} {} {}", split.from, split.to, map.values.len());
     match words[0] {
         "set" => map.set(n(1), n(2), n(3) as u16).map(|_| "0".into()),
         "place" => {
@@ -41,13 +40,9 @@ fn answer(map: &mut Map, words: &[&str]) -> Result<String, No> {
         }
         "row" => map.row(n(1), n(2)).map(|(count, first)| format!("0 {count} {first}")),
         "column" => map.column(n(1), n(2)).map(|(count, first)| format!("0 {count} {first}")),
-        "exact" => {
-            let taken = map.exact_split(n(1), n(2), n(3), n(4))?;
-            Ok(split(map, taken))
-        }
-        "lengthen" => {
-            let taken = map.lengthened_split(n(1), n(2), n(3), n(4))?;
-            Ok(split(map, taken))
+        "split" => {
+            let taken = map.split(n(1), n(2), n(3), n(4), n(5))?;
+            Ok(format!("0 {} {} {}", taken.from, taken.to, map.values.len()))
         }
         "same" => {
             let other = Map::read(&from_hex(words[1]))?;
@@ -70,8 +65,7 @@ fn answer_over_bytes(pump: &dyn Pump, file: &mut Vec<u8>, words: &[&str]) -> Res
     file.resize(LARGEST_FILE, 0);
     let outcome = match words[0] {
         "set" => pump.set(file, &mut used, n(1), n(2), n(3) as u16),
-        "exact" => pump.exact_split(file, &mut used, [n(1), n(2), n(3), n(4)]),
-        "lengthen" => pump.lengthened_split(file, &mut used, [n(1), n(2), n(3), n(4)]),
+        "split" => pump.split(file, &mut used, [n(1), n(2), n(3), n(4)], n(5)),
         _ => 0,
     };
     file.truncate(used);
@@ -115,11 +109,11 @@ fn answer_over_bytes(pump: &dyn Pump, file: &mut Vec<u8>, words: &[&str]) -> Res
 }
 
 /// How many calls the lists have.
-const CALLS: usize = 2_435;
+const CALLS: usize = 2_475;
 
 /// Goes through the lists of calls; `fresh` starts one, `answer` gives an answer.
 fn lists_of_calls<M>(fresh: impl Fn(usize, usize) -> M, answer: impl Fn(&mut M, &[&str]) -> Result<String, No>) {
-    let text = std::fs::read_to_string(vectors().join("L6.txt")).unwrap();
+    let text = std::fs::read_to_string(vectors().join("L7.txt")).unwrap();
     let (mut calls, mut wrong) = (0, String::new());
     for list in text.split("history ").skip(1) {
         let mut lines = list.lines();

@@ -14,7 +14,7 @@ use std::time::{Duration, Instant};
 struct Case {
     name: &'static str,
     before: Vec<u8>,
-    /// What a lengthened split is given to find the last one, or another.
+    /// What a split with an allowance is given to find the last one, or another.
     given: Split,
     last: Split,
     file: Vec<u8>,
@@ -38,8 +38,7 @@ impl Desk {
         match call {
             Call::Fresh(w, h) => pump.fresh(*w, *h, buffer, used),
             Call::Set(m, n, value) => pump.set(buffer, used, *m, *n, *value),
-            Call::Exact(split) => pump.exact_split(buffer, used, *split),
-            Call::Lengthened(split) => pump.lengthened_split(buffer, used, *split),
+            Call::Split(split, allowance) => pump.split(buffer, used, *split, *allowance),
             Call::Place(place) => pump.place(file, *place, out),
             Call::Reading(u, v) => pump.reading(file, *u, *v, first),
             Call::Weights(u, v) => pump.weights(file, *u, *v, out),
@@ -73,7 +72,7 @@ fn split(file: &[u8], split: Split) -> Option<Vec<u8>> {
     let mut buffer = file.to_vec();
     buffer.resize(LARGEST_FILE, 0);
     let mut used = file.len();
-    let number = Plain.exact_split(&mut buffer, &mut used, split);
+    let number = Plain.split(&mut buffer, &mut used, split, 0);
     buffer.truncate(used);
     (number == 0).then_some(buffer)
 }
@@ -136,6 +135,14 @@ fn cases() -> Vec<Case> {
 /// The map of the most blends.
 const LARGEST: &str = "30 + 30 full splits";
 
+/// A call's name in the table. Splits go by their allowance.
+fn title(call: &Call) -> String {
+    match call {
+        Call::Split(_, allowance) => format!("split by {allowance}"),
+        call => call.name().into(),
+    }
+}
+
 fn micros(time: Duration) -> String {
     format!("{:.2}", time.as_secs_f64() * 1e6)
 }
@@ -176,7 +183,7 @@ fn measure(name: &str, call: &Call, file: &[u8], desk: &mut Desk) {
     let [library, plain] = [&found[0], &found[1]].map(|times| (times[0], times[times.len() / 2]));
     println!(
         "| {name} | {} | {} | {} | {} | {} | {} | {:.1} |",
-        call.name(),
+        title(call),
         left[0].0,
         micros(library.0),
         micros(library.1),
@@ -234,8 +241,9 @@ fn main() {
             (Call::Same(file.clone(), false), &file),
             (Call::Payload(8), &file),
             (Call::Table, &file),
-            (Call::Exact(last), &before),
-            (Call::Lengthened(given), &before),
+            (Call::Split(last, 0), &before),
+            (Call::Split(given, 8), &before),
+            (Call::Split(given, 128), &before),
         ] {
             measure(name, &call, file, &mut desk);
         }
