@@ -147,7 +147,7 @@ size_t pump_set(uint8_t *buffer, size_t size, size_t *used, size_t m, size_t n, 
    that contain the given one, are at most that much longer and would be accepted with allowance 0; the given one may
    be among them. It is the line between the nearest good ends: it lies in all the others, and each of those adds more,
    so it is also the shortest and there is never a tie. More allowance never changes what is drawn: once an allowance
-   is accepted, every larger one draws the same line. The drawn line is the last split of the file.
+   is accepted, every larger one up to the most draws the same line. It is the last split of the file.
    Refusals 3 to 7 look at the line as given. 8 says that the line between the nearest good ends is longer than the
    allowance lets it be; it does not come with PUMP_MOST_ALLOWANCE, since no side is longer and a whole gap has good
    ends.
@@ -156,8 +156,8 @@ size_t pump_set(uint8_t *buffer, size_t size, size_t *used, size_t m, size_t n, 
    down: that one comes from the rounding, and a later split may move it again by one. A straight pump is exact: if
    the value at each anchor (m, n) is A + B m + C n + D m n, the four whole numbers of either sign, then so it is
    after the split, and the reading at every whole point (u, v) is A + B u + C v + D u v, before and after.
-   For pump_exact_split(...) write pump_split(..., 0), and for pump_lengthened_split(...) write
-   pump_split(..., PUMP_MOST_ALLOWANCE).
+   It stands for two older calls: for pump_exact_split(...) write pump_split(..., 0), and for
+   pump_lengthened_split(...) write pump_split(..., PUMP_MOST_ALLOWANCE).
    Refused with 11, 3 to 8, or 12. */
 size_t pump_split(uint8_t *buffer, size_t size, size_t *used, size_t direction, size_t position, size_t from, size_t to,
                   size_t allowance);

@@ -1,4 +1,4 @@
--- Two looks tell whether a line is sound, and the nearest good ends which line a lengthened split takes.
+-- Two looks tell whether a line is sound, and the nearest good ends which line a split takes within its allowance.
 use Prim.Native.Nat.{ℕ, _+_, _-_, _≤_, _<_}
 use native.Mathlib.Omega.{arith}
 use mathlib.Core.Path.{_≡_, refl, sym, ap, subst}
