@@ -3,12 +3,15 @@
 
 use pump_tests::calls::{perform, Call, Lent};
 use pump_tests::draw::{self, Random};
-use pump_tests::files::{anchors, lines, number};
+use pump_tests::files::{anchors, lines, number, put};
 use pump_tests::maps::Split;
-use pump_tests::model::{self, Map, Model, MOST_ALLOWANCE, MOST_SPLITS};
+use pump_tests::model::{self, Map, Model, MOST_SPLITS};
 use pump_tests::plain::Plain;
 use pump_tests::{subjects, Pump};
 use std::collections::BTreeMap;
+
+/// The largest allowance.
+const MOST: usize = 128;
 
 /// Allowances out of range. Some would be in range if they were cut to 8, 16 or 32 bits, or taken as signed.
 const TOO_MUCH: [usize; 14] = [
@@ -90,7 +93,7 @@ impl Asked<'_> {
         let [.., from, to] = self.given;
         let tell = || format!("{}: {:?} on {:?}", pump.name(), self.given, self.file);
         let some = random.between(self.along + 1, 127);
-        let allowances: Vec<usize> = (0..=self.along + 1).chain([some, 127, MOST_ALLOWANCE]).collect();
+        let allowances: Vec<usize> = (0..=self.along + 1).chain([some, 127, MOST]).collect();
         let answers: Vec<_> = allowances.iter().map(|by| split(pump, self.file, self.given, *by)).collect();
 
         // 3 to 7 look at the split as given.
@@ -161,7 +164,8 @@ fn every_allowance() {
     assert!(draw::count() < 1000 || enough && [3, 5, 6, 7].iter().all(|number| refused.contains_key(number)));
 }
 
-/// Allowance 0 accepts what a file may hold as its next split, draws it as given, and nothing else.
+/// Allowance 0 accepts what a file may hold as its next split, draws it as given, and nothing else. A file that tells a
+/// split as given where it was drawn longer is none, though its anchors are those of the longer line.
 #[test]
 fn without_allowance_as_in_a_file() {
     let seed = draw::seed("without_allowance_as_in_a_file");
@@ -191,9 +195,19 @@ fn without_allowance_as_in_a_file() {
                 *seen.entry(*left.as_ref().err().unwrap_or(&0)).or_default() += 1;
                 let tell = || format!("{}: {given:?} on {map:?}", pump.name());
                 assert_eq!(checked, if left.is_ok() { 0 } else { 11 }, "{}", tell());
-                if let Ok(left) = left {
-                    assert_eq!(lines(&left), lines(&more), "{}", tell());
-                    assert!(anchors(&left).keys().eq(anchors(&more).keys()), "{}", tell());
+                match left {
+                    Ok(left) => {
+                        assert_eq!(lines(&left), lines(&more), "{}", tell());
+                        assert!(anchors(&left).keys().eq(anchors(&more).keys()), "{}", tell());
+                    }
+                    Err(8) => {
+                        let mut longer = split(pump, &map.write(), given, MOST).unwrap();
+                        let end = lines(&longer).len();
+                        put(&mut longer, end - 4, from as u16);
+                        put(&mut longer, end - 2, to as u16);
+                        assert_eq!(perform(pump, &Call::Check, &Lent::file(&longer)).number, 11, "{}", tell());
+                    }
+                    Err(_) => (),
                 }
             }
         }
@@ -231,7 +245,7 @@ fn counted_from_the_given_line() {
             for pump in pumps() {
                 let exact = split(pump, &file, turn([direction, position, start, end]), 0);
                 assert!(exact.is_ok());
-                for allowance in 0..=MOST_ALLOWANCE {
+                for allowance in 0..=MOST {
                     let want = if allowance < needed { &Err(8) } else { &exact };
                     let tell = || format!("{}: {given:?} by {allowance} on {splits:?}", pump.name());
                     assert_eq!(split(pump, &file, given, allowance), *want, "{}", tell());
@@ -262,7 +276,7 @@ fn out_of_range_comes_first() {
             let tell = |by: usize| format!("{}: {line:?} by {by}", pump.name());
             assert_eq!(split(pump, &file, line, 0).err().unwrap_or(0), number, "{}", tell(0));
             let most = if number == 8 { 0 } else { number };
-            assert_eq!(split(pump, &file, line, MOST_ALLOWANCE).err().unwrap_or(0), most, "{}", tell(128));
+            assert_eq!(split(pump, &file, line, MOST).err().unwrap_or(0), most, "{}", tell(128));
             for by in TOO_MUCH {
                 assert_eq!(split(pump, &file, line, by), Err(3), "{}", tell(by));
                 assert_eq!(split(pump, damaged, line, by), Err(11), "{}", tell(by));
