@@ -15,9 +15,11 @@ use Rattle.maps.specs.declared.Weight.{Weight}
 use Rattle.maps.specs.declared.Weights.{Weights}
 use Rattle.maps.specs.declared.Pairs.{Pairs}
 use Rattle.maps.specs.Record.{plain}
-use Rattle.maps.specs.Calls.{freshMap, tablePlace, reading, weights}
+use Rattle.maps.specs.Calls.{freshMap, setValue, splitWithin, tablePlace, reading, weights}
 use Rattle.maps.specs.Sameness.{sameness}
 use Rattle.files.specs.File.{word, fileOf}
+use Rattle.pump.specs.declared.changes.Change.{Change}
+use Rattle.pump.specs.declared.changes.Change.the-variants.{Set, Draw}
 use Rattle.files.specs.Calls.{ifRefused, shortOf, answered, writeNumber, readFile, whole, payloadAt}
 
 -- the first refusal of three checks in their order; 0 where none applies
@@ -61,6 +63,11 @@ changeUsed call buffer used = let file = readFile (lent buffer used) in newUsed 
 -- a split by its direction, position, from and to
 abbrev pub splitOf : ℕ → ℕ → ℕ → ℕ → Split
 splitOf direction position from to = record { direction = direction; position = position; from = from; to = to }
+
+-- what a change comes to on a map
+abbrev pub changedBy : Change → Map → Changed
+changedBy (Set m n value) old = setValue old m n value
+changedBy (Draw s allowance) old = splitWithin old s allowance
 
 -- a coordinate as a 16-bit number: −1 as 65,535; no other is negative
 abbrev pub signed : ℤ → ℕ

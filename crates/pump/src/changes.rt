@@ -10,7 +10,7 @@ ghost use mathlib.Core.Path.{_≡_};
 ghost use Rattle.maps.specs.Calls.{changed, setValue, splitWithin};
 ghost use Rattle.maps.specs.Opened.{withTable, Opens};
 ghost use Rattle.files.specs.Calls.{readFile};
-ghost use Rattle.pump.specs.Border.{newNumber, newBytes, newUsed, freshNumber, freshBytes, freshUsed, lent, changeNumber, changeBytes, changeUsed, splitOf};
+ghost use Rattle.pump.specs.Border.{newNumber, newBytes, newUsed, freshNumber, freshBytes, freshUsed, lent, changeNumber, changeBytes, changeUsed, splitOf, changedBy};
 
 // The map whose file the first `used` bytes are, opened. Where they are none, or fewer are lent, the number is 11, and a call
 // that goes on with the fresh 1 by 1 map is refused with it.
@@ -47,6 +47,32 @@ pub extern "C" fn pump_fresh(w: usize, h: usize, buffer: &mut [u8], used: &mut u
     replace(buffer, used, 0, fresh(w, h))
 }
 
+// A change of a map: a value is set at an anchor, or a line is drawn within an allowance.
+pub(crate) enum Change {
+    Set(usize, usize, u16),
+    Draw(Split, usize),
+}
+
+// A change of the map in the buffer, which is read: the tables of reading are gone from the stack before those of a split come. As both changes end
+// here, the compiler keeps this apart from the functions that read.
+fn change_lent(buffer: &mut [u8], used: &mut usize, old: Opened, change: Change) -> usize
+    requires { ⌜ old ≡ withTable (readFile (lent (now buffer) (now used))) ⌝ }
+    ensures { λ r. ⌜ (r ≡ changeNumber (changedBy change) (now (buffer .entry)) (now (used .entry))) ×
+        (now (buffer .exit) ≡ changeBytes (changedBy change) (now (buffer .entry)) (now (used .entry))) ×
+        (now (used .exit) ≡ changeUsed (changedBy change) (now (buffer .entry)) (now (used .entry))) ⌝ }
+{
+    match change {
+        Change::Set(m, n, value) => {
+            let next = old.set(m, n, value);
+            replace(buffer, used, old.number, next)
+        }
+        Change::Draw(s, allowance) => {
+            let next = old.split(s, allowance);
+            replace(buffer, used, old.number, next)
+        }
+    }
+}
+
 #[no_mangle]
 pub extern "C" fn pump_set(
     buffer: &mut [u8],
@@ -61,19 +87,7 @@ pub extern "C" fn pump_set(
 {
     let length = *used;
     let old = read_lent(buffer, length);
-    let next = old.set(m, n, value);
-    replace(buffer, used, old.number, next)
-}
-
-// A split on the map in the buffer, which is read: the tables of reading are gone from the stack before those of the split come.
-fn split_lent(buffer: &mut [u8], used: &mut usize, old: Opened, s: Split, allowance: usize) -> usize
-    requires { ⌜ old ≡ withTable (readFile (lent (now buffer) (now used))) ⌝ }
-    ensures { λ r. ⌜ (r ≡ changeNumber (λ old. splitWithin old s allowance) (now (buffer .entry)) (now (used .entry))) ×
-        (now (buffer .exit) ≡ changeBytes (λ old. splitWithin old s allowance) (now (buffer .entry)) (now (used .entry))) ×
-        (now (used .exit) ≡ changeUsed (λ old. splitWithin old s allowance) (now (buffer .entry)) (now (used .entry))) ⌝ }
-{
-    let next = old.split(s, allowance);
-    replace(buffer, used, old.number, next)
+    change_lent(buffer, used, old, Change::Set(m, n, value))
 }
 
 #[no_mangle]
@@ -98,5 +112,5 @@ pub extern "C" fn pump_split(
     };
     let length = *used;
     let old = read_lent(buffer, length);
-    split_lent(buffer, used, old, s, allowance)
+    change_lent(buffer, used, old, Change::Draw(s, allowance))
 }
