@@ -1,4 +1,4 @@
--- Document 02, L4 and L7, computed on maps of 8 by 8: the candidates of a split, how many live blends each adds, and the line that it takes within an allowance.
+-- Document 02, L4 and L7, computed on maps of 8 by 8: the candidates of a split, how many live blends each adds, the line taken within an allowance.
 use Prim.Native.Nat.{ℕ}
 use mathlib.Core.Path.{_≡_, refl}
 use mathlib.Core.List.{List, [], _∷_, map}
@@ -41,7 +41,8 @@ computed : Row → Row
 computed r =
     let P = layout 8 8 (r .lines) in
     row (r .lines) (r .split) (exactNumber P (r .split))
-    (map (λ c. adding c (adds P c) (length (newAnchors P c))) (only (candidate P) (containing P (r .split)))) (r .allowances) (map (chosen P (r .split)) (r .allowances))
+    (map (λ c. adding c (adds P c) (length (newAnchors P c))) (only (candidate P) (containing P (r .split)))) (r .allowances)
+    (map (chosen P (r .split)) (r .allowances))
 
 Right : List Row → Type 0
 Right [] = Unit

@@ -20,8 +20,8 @@ use Rattle.maps.specs.Calls.{setPlain, setValue, placeOn, tablePlace, re
 use Rattle.maps.specs.Pairs.{rowOn, rowPairs, columnOn, columnPairs}
 use Rattle.maps.specs.Sameness.{samePlain, sameness}
 
--- A call on a map. A value is a 16-bit number: what is left of the given one by 65,536. A split comes with its allowance (document 02, L7). `alongRow` and `alongColumn` are document 02's, L2: a row or a
--- column, and a wanted flow.
+-- A call on a map. A value is a 16-bit number: what is left of the given one by 65,536. A split comes with its allowance (document 02, L7). `alongRow` and
+-- `alongColumn` are document 02's, L2: a row or a column, and a wanted flow.
 pub data Call : Type 0 where
   set : ℕ → ℕ → ℕ → Call
   split : Split → ℕ → Call

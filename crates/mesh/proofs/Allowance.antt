@@ -97,7 +97,8 @@ module _ (P : Layout) (replays : Replays P) (s : Split) (passes : given P s ≡ 
   more-taken : (a b : ℕ) (c : Split) → a ≤ b → chosen P s a ≡ c ∷ [] → chosen P s b ≡ c ∷ []
   more-taken a b c le e =
       if-at-most (stepsOf n) (stepsOf s + a)
-      (λ lo. least .taken b ∙ cond-true _ _ _ (le-leb (stepsOf n) (stepsOf s + b) (omega arith)) ∙ sym (sym e ∙ least .taken a ∙ cond-true _ _ _ (le-leb _ _ lo)))
+      (λ lo. least .taken b ∙ cond-true _ _ _ (le-leb (stepsOf n) (stepsOf s + b) (omega arith)) ∙
+      sym (sym e ∙ least .taken a ∙ cond-true _ _ _ (le-leb _ _ lo)))
       (λ gt. absurd (omega (arith, ap length (sym e ∙ least .taken a ∙ cond-false _ _ _ (lt-leb _ _ gt)))))
 
   sound-exact : soundWith P s ≡ true → exactNumber P s ≡ 0

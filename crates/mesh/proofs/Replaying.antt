@@ -70,7 +70,8 @@ module _ (P : Layout) (s : Split) where
         if-equal (given P s) 0
         (λ e. ap (λ (v : Verdict). v .number) (cond-true _ _ _ (eq-eqb _ _ e)) ∙
         if-at-most (stepsOf (nearestGood P s)) (stepsOf s)
-        (λ le. ap (λ (v : Verdict). v .number) (cond-true _ _ _ (le-leb (stepsOf (nearestGood P s)) (stepsOf s + 0) (omega arith))) ∙ sym (nearest-exact P taken s e le))
+        (λ le. ap (λ (v : Verdict). v .number) (cond-true _ _ _ (le-leb (stepsOf (nearestGood P s)) (stepsOf s + 0) (omega arith))) ∙
+        sym (nearest-exact P taken s e le))
         (λ gt. ap (λ (v : Verdict). v .number) (cond-false _ _ _ (lt-leb (stepsOf (nearestGood P s)) (stepsOf s + 0) (omega arith))) ∙
         sym (exact-unsound P taken s e (λ z. omega (arith, ap stepsOf (exact-nearest P taken s e z))))))
         (λ ne. ap (λ (v : Verdict). v .number) (cond-false _ _ _ (ne-eqb _ 0 ne)) ∙ sym (exact-refused P s ne))

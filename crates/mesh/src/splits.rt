@@ -199,7 +199,8 @@ fn split_in(
     rows: &mut [u8],
     places: &mut [u32],
 ) -> Step
-    requires { ⌜ (allowance ≤ mostAllowance) × HasTable lines table × Cleared (lines .w) (lines .h) (now uprights) (now levels) (now columns) (now rows) (now places) ⌝ }
+    requires { ⌜ (allowance ≤ mostAllowance) × HasTable lines table ×
+        Cleared (lines .w) (lines .h) (now uprights) (now levels) (now columns) (now rows) (now places) ⌝ }
     ensures { λ r. ⌜ r ≡ splitStep lines table s allowance ⌝ }
 {
     let w = lines.w;

@@ -99,7 +99,8 @@ module _ {d e : Desk} (at : At d) (too : At e) (same : d .holds .lines ≡ e .ho
       let P = d .holds in
       let Q = e .holds in
       let call = Maps.split s a in
-      let alike = by-lines (recordOf P) (recordOf Q) (record-good (at .reached .holds) .0) (record-good (too .reached .holds) .0) (records-alike P Q same) s a in
+      let alike =
+      by-lines (recordOf P) (recordOf Q) (record-good (at .reached .holds) .0) (record-good (too .reached .holds) .0) (records-alike P Q same) s a in
       both-shown (step-shown at (split s a)) (step-shown too (split s a))
       (split-alike call _ _ (step-follows P (at .reached) call) (step-follows Q (too .reached) call) alike)
 

@@ -10,7 +10,7 @@ abbrev pub inBuffer : Buffer → Map
 inBuffer b = readFile (lent (b .bytes) (b .used)) .map
 
 -- The whole outcome of a split call but for the values: the answer, how many bytes are then in use, and the lines of the map that the buffer then holds.
--- `border-by-lines` shows it of two buffers of one length, with as many bytes in use, that hold maps with the same lines, and of every split with every allowance.
+-- `border-by-lines` shows it of two buffers of one length, with as many bytes in use, that hold maps with the same lines, and of every split and allowance.
 pub record SameInBuffer (one other : PumpOutcome Buffer) : Type 0 where
   pub same-answer : one .answer ≡ other .answer
   pub same-used : one .next .used ≡ other .next .used
