@@ -249,6 +249,10 @@ fn counted_from_the_given_line() {
                     let want = if allowance < needed { &Err(8) } else { &exact };
                     let tell = || format!("{}: {given:?} by {allowance} on {splits:?}", pump.name());
                     assert_eq!(split(pump, &file, given, allowance), *want, "{}", tell());
+                    // Without room for the line, 8 comes before 12.
+                    let call = Call::Split(given, allowance);
+                    let short = perform(pump, &call, &Lent::buffer(&file, file.len())).number;
+                    assert_eq!(short, if allowance < needed { 8 } else { 12 }, "{}", tell());
                 }
             }
         }
