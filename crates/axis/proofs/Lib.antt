@@ -7,6 +7,7 @@ pub mod Counts
 pub mod Runs
 pub mod Turns
 pub mod Least
+pub mod Extremes
 pub mod Padding
 pub mod Triples
 pub mod Nearest

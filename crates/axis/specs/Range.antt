@@ -1,5 +1,5 @@
 -- Walks over a run of numbers and over a list, as tests and as lists.
-use Prim.Native.Nat.{ℕ, zero, suc, _+_}
+use Prim.Native.Nat.{ℕ, zero, suc, _+_, min, max}
 use mathlib.Core.Bool.{Bool, true, false, cond, _&&_, _||_, not}
 use mathlib.Core.List.{List, [], _∷_, _++_, List·Memᴰ}
 use lib.Dec.{leb}
@@ -47,6 +47,16 @@ only test (x ∷ xs) = let rest = only test xs in cond (test x) (x ∷ rest) res
 -- the entries of a list for which a number is least, in their order
 abbrev pub least {ℓ} : {A : Type ℓ} → (A → ℕ) → List A → List A
 least number xs = only (λ x. all (λ y. leb (number x) (number y)) xs) xs
+
+-- the greatest of some numbers, and the smallest; 0 where there are none
+abbrev pub greatest : List ℕ → ℕ
+greatest [] = 0
+greatest (n ∷ ns) = max n (greatest ns)
+
+abbrev pub smallest : List ℕ → ℕ
+smallest [] = 0
+smallest (n ∷ []) = n
+smallest (n ∷ k ∷ ns) = min n (smallest (k ∷ ns))
 
 -- the lists that the entries give, joined
 abbrev pub joined {ℓ ℓ′} : {A : Type ℓ} {B : Type ℓ′} → (A → List B) → List A → List B

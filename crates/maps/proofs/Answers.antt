@@ -1,7 +1,7 @@
 -- What the table and the reading call answer on the record of a map.
 use Prim.Native.Nat.{ℕ, zero, suc, _-_, _≤_, _<_}
 use native.Mathlib.Omega.{arith}
-use mathlib.Core.Path.{_≡_, ap, _∙_}
+use mathlib.Core.Path.{_≡_, ap, subst, _∙_}
 use mathlib.Core.Logic.{⊎-elim}
 use mathlib.Core.Bool.{false, cond}
 use mathlib.Core.List.{List·Memᴰ}
@@ -20,6 +20,8 @@ use Rattle.maps.specs.Plain.{Plain, blends}
 use Rattle.maps.specs.Values.{readingAt, inDomain}
 use Rattle.maps.specs.Record.{recordOf}
 use Rattle.maps.specs.Calls.{shape, noShape, tablePlace, reading}
+use Rattle.maps.specs.Straight.{tableValues}
+use Rattle.axis.proofs.Members.{each-entry}
 use Rattle.maps.proofs.GoodRecords.{Holds, record-good}
 use Rattle.mesh.proofs.Accepted.{replays-sides}
 
@@ -47,6 +49,14 @@ module _ (P : Plain) (holds : Holds P) where
     -- a place that answers 0 holds a live blend
     pub answers-listed : tablePlace (recordOf P) i .number ≡ 0 → i < length (blends P)
     answers-listed e = ⊎-elim (ltb-true i _) (λ f. absurd (omega (arith, place-none (ltb-false i _ f)))) (either (ltb i (length (blends P))))
+
+  -- the values that the table call gives are those that the map holds
+  pub table-values : tableValues (recordOf P) (length (blends P)) ≡ P .values
+  table-values =
+      subst (λ (k : ℕ). tableValues (recordOf P) k ≡ P .values) (holds .counted)
+      (each-entry (λ i. tablePlace (recordOf P) i .value) 0 (P .values) 0
+      (λ k lt. ap (λ (j : ℕ). tablePlace (recordOf P) j .value) (omega arith) ∙
+      ap (λ (r : Placed). r .value) (place-listed k (omega (arith, holds .counted)))))
 
   -- the anchor of a live blend, in document 01's coordinates; it lies in the domain
   module _ (B : Blend) (m : List·Memᴰ B (blends P)) where

@@ -2,23 +2,30 @@
 use Prim.Native.Nat.{ℕ, suc, _+_, _*_, _≤_, _<_}
 use native.Mathlib.Omega.{arith}
 use mathlib.Core.Path.{_≡_, refl, sym, ap, ap₂, subst, _∙_}
-use mathlib.Core.Logic.{⊎-elim}
-use mathlib.Core.Bool.{Bool, true, _&&_}
+use mathlib.Core.Logic.{_⊎_, inl, inr, ⊎-elim}
+use mathlib.Core.Bool.{Bool, true, false, _&&_}
 use mathlib.Core.List.{List, [], _∷_, map, List·Memᴰ, List·Memᴰ·cases-cons, List·Memᴰ·not-nil}
 use mathlib.Core.List.List·Memᴰ.{List·Memᴰ·head, List·Memᴰ·tail}
-use borrow.Author.Tests.{le-leb}
-use lib.Dec.{leb}
-use lib.ListN.{length, getD}
+use native.Mathlib.Nat.{mul-le-mul-right, eq-of-mul-eq-mul-left}
+use borrow.Author.Tests.{le-leb, ltb-false}
+use lib.Dec.{leb, ltb}
+use lib.ListN.{length, getD, length-map}
 use Rattle.axis.specs.Fraction.{Fraction, total}
 use Rattle.axis.specs.Gap.{corner}
-use Rattle.axis.proofs.Tests.{either, and-of, all-of}
-use Rattle.axis.specs.Range.{all}
+use Rattle.axis.proofs.Tests.{either, and-of, all-at, all-of, only-mem}
+use Rattle.axis.proofs.Scale.{total-positive}
+use Rattle.axis.proofs.Sums.{total-only}
+use Rattle.axis.specs.Range.{all, only, greatest, smallest}
+use Rattle.axis.proofs.Extremes.{at-most-greatest, at-least-smallest}
 use Rattle.axis.proofs.Gaps.{End, corner-end}
 use Rattle.axis.proofs.Members.{map-mem}
 use Rattle.mesh.specs.declared.Blend.{Blend}
 use Rattle.mesh.specs.Lines.{meshOf}
-use Rattle.mesh.specs.Sound.{none, proper, overSquare}
-use Rattle.mesh.proofs.SoundMaps.{live-proper}
+use Rattle.mesh.specs.Sound.{none, proper, overSquare, sound, ProperIn}
+use Rattle.mesh.specs.Weight.{weight}
+use Rattle.mesh.proofs.Cuts.{proper-facts}
+use Rattle.mesh.proofs.BlendTables.{proper-most}
+use Rattle.mesh.proofs.SoundMaps.{live-proper, weights-add-up}
 use Rattle.maps.specs.declared.Map.{Map}
 use Rattle.maps.specs.declared.Placed.{Placed}
 use Rattle.maps.specs.declared.Reading.{Reading}
@@ -29,13 +36,13 @@ use Rattle.maps.specs.Rounding.{rounded, Nearest}
 use Rattle.maps.specs.Values.{sumAt, readingAt, weightAt}
 use Rattle.maps.specs.Record.{recordOf, Full, plain, good}
 use Rattle.maps.specs.Calls.{shape, tablePlace, reading, weights, weightOver}
-use Rattle.maps.specs.ByWeights.{products, ByWeights}
+use Rattle.maps.specs.ByWeights.{fraction, products, weighing, valuesAt, ByWeights}
 use Rattle.maps.specs.Inner.{entriesOver, portions}
-use Rattle.maps.proofs.OverSquare.{entries-only, entry-in}
-use Rattle.maps.proofs.Rounding.{rounds-nearest}
+use Rattle.maps.proofs.OverSquare.{weight-shares, weight-outside, denominator-positive, entries-only, entries-length, entry-in, four-at}
+use Rattle.maps.proofs.Rounding.{nearest-most, nearest-least, rounds-nearest}
 use Rattle.maps.proofs.Adding.{portions-positive, sum-over}
 use Rattle.maps.proofs.GoodRecords.{Holds, record-good, good-facts}
-use Rattle.mesh.proofs.Accepted.{replays-sides}
+use Rattle.mesh.proofs.Accepted.{replays-sides, replays-sound}
 use Rattle.maps.proofs.Answers.{place-listed, point-answers}
 
 -- an entry's blend stands at its place
@@ -68,6 +75,65 @@ module _ (m : Map) (w h u v : ℕ) (values marks : List ℕ) where
       ap₂ _∷_
       (ap (λ (p : Placed). record { num = f .num * p .value; den = f .den }) (told a (List·Memᴰ·head refl)))
       (told-products es (λ b n. told b (List·Memᴰ·tail n)))
+
+-- Values times weights: where each value whose blend weighs more than 0 is at most k, or at least k, the sum is that to k times the sum of the weights.
+module _ (k : ℕ) where
+  products-den : (vs : List ℕ) (es : List Weight) → length vs ≡ length es → total (products vs es) .den ≡ total (map fraction es) .den
+  products-den [] [] long = refl
+  products-den [] (e ∷ es) long = absurd (omega arith)
+  products-den (v ∷ vs) [] long = absurd (omega arith)
+  products-den (v ∷ vs) (e ∷ es) long = ap (λ (n : ℕ). e .denominator * n) (products-den vs es (omega arith))
+
+  -- the value of one blend, and those of the rest, by the test whether it weighs more than 0
+  heavy : (Fits : ℕ → Type 0) (v : ℕ) (vs : List ℕ) (e : Weight) (es : List Weight) → ((x : ℕ) → List·Memᴰ x (weighing (v ∷ vs) (e ∷ es)) → Fits x) →
+      ((e .numerator ≡ 0) ⊎ Fits v) × ((x : ℕ) → List·Memᴰ x (weighing vs es) → Fits x)
+  heavy Fits v vs e es fits =
+      ⊎-elim (λ (t : ltb 0 (e .numerator) ≡ true). let f = rw t at fits in (inr (f v (List·Memᴰ·head refl)), λ x m. f x (List·Memᴰ·tail m)))
+      (λ (t : ltb 0 (e .numerator) ≡ false). (inl (let le = ltb-false 0 (e .numerator) t in omega arith), rw t at fits)) (either (ltb 0 (e .numerator)))
+
+  products-most : (vs : List ℕ) (es : List Weight) → length vs ≡ length es → ((x : ℕ) → List·Memᴰ x (weighing vs es) → x ≤ k) →
+      total (products vs es) .num ≤ k * total (map fraction es) .num
+  products-most [] [] long most = omega arith
+  products-most [] (e ∷ es) long most = absurd (omega arith)
+  products-most (v ∷ vs) [] long most = absurd (omega arith)
+  products-most (v ∷ vs) (e ∷ es) long most =
+      let h = heavy (λ x. x ≤ k) v vs e es most in
+      let D = total (map fraction es) .den in
+      let rest = mul-le-mul-right (e .denominator) (products-most vs es (omega arith) (h .1)) in
+      let here : e .numerator * v ≤ k * e .numerator =
+      ⊎-elim (λ z. rw z (omega arith)) (λ le. omega (arith, mul-le-mul-right (e .numerator) le)) (h .0) in
+      rw (products-den vs es (omega arith)) (omega (arith, mul-le-mul-right D here, rest))
+
+  products-least : (vs : List ℕ) (es : List Weight) → length vs ≡ length es → ((x : ℕ) → List·Memᴰ x (weighing vs es) → k ≤ x) →
+      k * total (map fraction es) .num ≤ total (products vs es) .num
+  products-least [] [] long least = omega arith
+  products-least [] (e ∷ es) long least = absurd (omega arith)
+  products-least (v ∷ vs) [] long least = absurd (omega arith)
+  products-least (v ∷ vs) (e ∷ es) long least =
+      let h = heavy (λ x. k ≤ x) v vs e es least in
+      let D = total (map fraction es) .den in
+      let rest = mul-le-mul-right (e .denominator) (products-least vs es (omega arith) (h .1)) in
+      let here : k * e .numerator ≤ e .numerator * v =
+      ⊎-elim (λ z. rw z (omega arith)) (λ le. omega (arith, mul-le-mul-right (e .numerator) le)) (h .0) in
+      rw (products-den vs es (omega arith)) (omega (arith, mul-le-mul-right D here, rest))
+
+-- So where the weights add up to one, their sum, rounded, lies between the least and the greatest of these values.
+module _ (vs : List ℕ) (es : List Weight) (long : length vs ≡ length es) (one : total (map fraction es) .num ≡ total (map fraction es) .den)
+    (some : 0 < total (map fraction es) .den) where
+  some-products : 0 < total (products vs es) .den
+  some-products = rw (products-den 0 vs es long) some
+
+  pub mean-most : rounded (total (products vs es)) ≤ greatest (weighing vs es)
+  mean-most =
+      let k = greatest (weighing vs es) in
+      nearest-most (total (products vs es) .den) some-products (total (products vs es) .num) k
+      (rw (products-den 0 vs es long, ← one) (products-most k vs es long (at-most-greatest (weighing vs es))))
+
+  pub mean-least : smallest (weighing vs es) ≤ rounded (total (products vs es))
+  mean-least =
+      let k = smallest (weighing vs es) in
+      nearest-least (total (products vs es) .den) some-products (total (products vs es) .num) k
+      (rw (products-den 0 vs es long, ← one) (products-least k vs es long (at-least-smallest (weighing vs es))))
 
 -- the record of a map that a good one holds, at a point of the domain
 module _ {P : Plain} (holds : Holds P) (u v : ℕ) (uw : u ≤ P .lines .w) (vh : v ≤ P .lines .h) where
@@ -123,12 +189,20 @@ module _ {P : Plain} (holds : Holds P) (u v : ℕ) (uw : u ≤ P .lines .w) (vh 
   positive = portions-positive (corner w u + 1) (corner h v + 1) (u + 1) (v + 1) across up (P .values) w h (sides .1) (sides .3) (blends P) all-proper
 
   -- the products of the two calls' answers
+  abbrev told-values : List ℕ
+  told-values = valuesAt (recordOf P) (map (λ (a : Entry). a .place) found)
+
+  as-many : length told-values ≡ length (weights (recordOf P) u v .entries)
+  as-many =
+      length-map (map (λ (a : Entry). a .place) found) (λ i. tablePlace (recordOf P) i .value) ∙ length-map found (λ (a : Entry). a .place) ∙
+      sym (ap length the-weights ∙ length-map (map (λ (a : Entry). a .blend) found) (weightOver w h u v) ∙ length-map found (λ (a : Entry). a .blend))
+
   abbrev told-sums : List Fraction
-  told-sums = products (map (λ i. tablePlace (recordOf P) i .value) (map (λ (a : Entry). a .place) found)) (weights (recordOf P) u v .entries)
+  told-sums = products told-values (weights (recordOf P) u v .entries)
 
   same-sums : sums ≡ told-sums
   same-sums =
-      sym (ap (products (map (λ i. tablePlace (recordOf P) i .value) (map (λ (a : Entry). a .place) found))) the-weights ∙
+      sym (ap (products told-values) the-weights ∙
       told-products (recordOf P) w h u v (P .values) (P .marks) found told)
 
   answered : reading (recordOf P) u v ≡ record { number = 0; litres = rounded (total told-sums) }
@@ -136,10 +210,47 @@ module _ {P : Plain} (holds : Holds P) (u v : ℕ) (uw : u ≤ P .lines .w) (vh 
       point-answers P holds u v uw vh ∙
       ap (λ (n : ℕ). record { number = 0; litres = n }) (summed ∙ ap (λ (fs : List Fraction). rounded (total fs)) same-sums)
 
-  record-weights : ByWeights (recordOf P) u v
+  -- the weights of the four blends over the square add up to one, since all others weigh nothing at the point
+  is-sound : sound w h (blends P) ≡ true
+  is-sound = replays-sound (holds .taken)
+
+  abbrev weight-here : Blend → Fraction
+  weight-here B = weightAt (corner w u + 1) (corner h v + 1) (u + 1) (v + 1) B
+
+  the-fractions : map fraction (weights (recordOf P) u v .entries) ≡ map weight-here (only test (blends P))
+  the-fractions = ap (map fraction) the-weights ∙ as-fractions (map (λ (a : Entry). a .blend) found) ∙ ap (map weight-here) (entries-only test (blends P) 0)
+    where
+      as-fractions : (bs : List Blend) → map fraction (map (weightOver w h u v) bs) ≡ map weight-here bs
+      as-fractions [] = refl
+      as-fractions (B ∷ bs) = ap (λ (l : List Fraction). weight-here B ∷ l) (as-fractions bs)
+
+  in-knots : (B : Blend) → List·Memᴰ B (blends P) → ProperIn 128 128 B
+  in-knots B m = proper-facts 128 128 B (all-at (proper 128 128) (blends P) (proper-most w h (blends P) (sides .1) (sides .3) all-proper) B m)
+
+  weights-one : let sum = total (map fraction (weights (recordOf P) u v .entries)) in (sum .num ≡ sum .den) × (0 < sum .den)
+  unfolding weightAt
+  weights-one =
+      let x = corner w u + 1 in
+      let y = corner h v + 1 in
+      let whole = weights-add-up w h (sides .0) (sides .2) (meshOf (P .lines)) is-sound u v 1 (omega arith) (omega arith) (omega arith) in
+      let same =
+      total-only test (λ (C : Blend). weight C (u + 1) (v + 1) 1) weight-here (blends P)
+      (λ B m t. weight-shares B (in-knots B m) x y (u + 1) (v + 1) across up)
+      (λ B m t. weight-outside B (in-knots B m) x y (u + 1) (v + 1) across up t) in
+      let some = total-positive weight-here (only test (blends P)) (λ B m. denominator-positive B (in-knots B (only-mem test (blends P) B m .0)) x y) in
+      subst (λ (fs : List Fraction). (total fs .num ≡ total fs .den) × (0 < total fs .den)) (sym the-fractions)
+      (eq-of-mul-eq-mul-left _ (whole .1) _ _ (omega (arith, same, ap (λ (n : ℕ). n * total (map weight-here (only test (blends P))) .den) (whole .0))), some)
+
+  pub record-weights : ByWeights (recordOf P) u v
   record-weights =
       record {
         places = map (λ (a : Entry). a .place) found;
+        four = length-map found (λ (a : Entry). a .place) ∙ entries-length test (blends P) 0 ∙ four-at w h (blends P) is-sound u v (sides .0) (sides .2) uw vh;
+        add-up = weights-one;
+        not-below = subst (λ (r : Reading). smallest (weighing told-values (weights (recordOf P) u v .entries)) ≤ r .litres) (sym answered)
+            (mean-least told-values (weights (recordOf P) u v .entries) as-many (weights-one .0) (weights-one .1));
+        not-above = subst (λ (r : Reading). r .litres ≤ greatest (weighing told-values (weights (recordOf P) u v .entries))) (sym answered)
+            (mean-most told-values (weights (recordOf P) u v .entries) as-many (weights-one .0) (weights-one .1));
         taken = λ i m.
             let r = map-mem (λ (a : Entry). a .place) found i m in
             rw (r .2) (ap (λ (p : Placed). p .number) (told (r .0) (r .1)));

@@ -1,9 +1,13 @@
 -- Demand 3 of the product holds of every list of calls.
 use Prim.Native.Nat.{ℕ}
+use native.Mathlib.Omega.{arith}
 use mathlib.Core.Path.{_≡_, sym, ap, ap₂, subst, _∙_}
 use mathlib.Core.Bool.{true}
-use mathlib.Core.List.{List, _++_}
+use mathlib.Core.List.{List, _++_, Memᴰ·append-left, Memᴰ·append-right}
 use lib.IntN.{ℤ}
+use lib.ListN.{length}
+use Rattle.axis.specs.Range.{greatest}
+use Rattle.axis.proofs.Extremes.{at-most-greatest}
 use Rattle.mesh.specs.declared.Split.{Split}
 use Rattle.mesh.specs.Lines.{allowedSide, Layout, layout, meshOf}
 use Rattle.mesh.specs.Blends.{live}
@@ -19,21 +23,23 @@ use Rattle.maps.specs.Plain.{Plain, freshPlain, blends}
 use Rattle.mesh.specs.Splits.{exactNumber}
 use Rattle.mesh.specs.Ends.{nearestGood}
 use Rattle.maps.specs.Values.{drawn}
-use Rattle.maps.specs.Record.{recordOf, plain}
+use Rattle.maps.specs.Record.{recordOf, Held, plain, good}
 use Rattle.maps.specs.Calls.{freshMap}
 use Rattle.maps.specs.Histories.{Call, number, Outcome, byLibrary, byMachine, ending}
 use Rattle.maps.specs.Straight.{ValuesStraight}
-use Rattle.maps.specs.Demand.{leftBy, Tabled, Gentle, IsSplit, is-split, linesBy, meshBy, DemandFrom, Demand3}
-use Rattle.maps.proofs.GoodRecords.{record-good}
+use Rattle.maps.specs.Demand.{leftBy, Tabled, Gentle, IsSplit, is-split, linesBy, meshBy, DemandFrom, Demand3, DemandOf}
+use Rattle.maps.specs.Reads.{Reads, valuesSet}
+use Rattle.maps.proofs.GoodRecords.{record-good, good-facts}
 use Rattle.mesh.proofs.Accepted.{replays-stands}
 use Rattle.mesh.proofs.Allowance.{nearest-accepted}
-use Rattle.maps.proofs.Reached.{Reached, fresh-reached, start-reached, ending-leads}
+use Rattle.maps.proofs.Reached.{Reached, good-reached, fresh-reached, start-reached, ending-leads}
 use Rattle.maps.proofs.Following.{step-follows, outcomes-follow, ending-follows}
 use Rattle.maps.proofs.Tabled.{tabled-once, holds-tabled}
 use Rattle.maps.proofs.Squares.{valued-four, valued-sum}
 use Rattle.maps.proofs.Gentle.{split-gentle}
 use Rattle.maps.proofs.ByEnds.{built, accepted-given, split-draws, ends-tell}
 use Rattle.maps.proofs.Allowance.{reached-allowance}
+use Rattle.maps.proofs.ReadsTold.{Within, readings-within, reached-reads, set-then-reads, list-within}
 use Rattle.maps.proofs.Straight.{reads-straight, carried-straight}
 
 -- The blends after a list of calls are those of its lines.
@@ -124,6 +130,12 @@ both-lined P Q at from wide tall cs ds bs here there =
     let same = sym (tabled-once there (end-tabled Q from ds)) ∙ tabled-once here (end-tabled P at cs) in
     (told-lines P Q at from cs ds wide tall same, told-lines Q P from at ds cs (sym wide) (sym tall) (sym same))
 
+-- no value after a list is above the greatest of those before it and of those that it set
+end-within : (P : Plain) → Reached P → (cs : List Call) → Within (greatest (P .values ++ valuesSet (recordOf P) cs)) (ending byMachine P cs)
+end-within P at cs =
+    let all = P .values ++ valuesSet (recordOf P) cs in
+    list-within cs (greatest all) P at (λ x m. at-most-greatest all x (Memᴰ·append-left _ m)) (λ x m. at-most-greatest all x (Memᴰ·append-right (P .values) m))
+
 -- The demand holds of it,
 pub reached-demand : (P : Plain) → Reached P → (cs : List Call) → DemandFrom P cs
 reached-demand P at cs =
@@ -145,13 +157,23 @@ reached-demand P at cs =
       same-lines = λ R start wide tall ds tabled. both-lined P R at (start-reached R start) wide tall cs ds (blends Q) (end-tabled P at cs) tabled;
       by-ends = rw (ending-follows cs P at) (ends-tell Q (leads .reached));
       by-allowance = rw (ending-follows cs P at) (reached-allowance Q (leads .reached));
+      reads-told =
+          rw (ending-follows cs P at)
+          (subst (λ (L : Layout). Reads (recordOf Q) (L .w) (L .h) (length (blends Q))) (lines-after P at cs) (reached-reads Q (leads .reached)));
+      set-reads = rw (ending-follows cs P at) (set-then-reads Q (leads .reached));
+      none-above = rw (ending-follows cs P at) (readings-within Q (leads .reached) _ (end-within P at cs));
       straight = reads-straight Q (leads .reached) (leftBy P cs) (P .lines .w) (P .lines .h) (ending-follows cs P at) (leads .wide) (leads .tall);
       stays-straight = λ earlier c later e.
           any-split P at earlier (λ m n. (A B C D : ℤ) → ValuesStraight m A B C D → ValuesStraight n A B C D) carried-straight c;
     }
 
--- and so of every list on a fresh map.
+-- and so of every list on a fresh map, whose values are 0,
 pub demand-three : (w h : ℕ) → allowedSide w ≡ true → allowedSide h ≡ true → (cs : List Call) → Demand3 w h cs
-unfolding freshMap
+unfolding freshMap freshPlain
 demand-three w h a b cs =
-    record { made = cond-true _ _ _ (and-of _ _ a b); holds = reached-demand (freshPlain w h) (fresh-reached w h a b) cs }
+    let demand = reached-demand (freshPlain w h) (fresh-reached w h a b) cs in
+    record { made = cond-true _ _ _ (and-of _ _ a b); holds = demand; none-above = λ u v. omega (arith, demand .none-above u v) }
+
+-- and on every good record.
+pub demand-of : (m : Map) → Held m → good m ≡ true → (cs : List Call) → DemandOf m cs
+demand-of m held g cs = record { is-record = good-facts m (held .full) g .is-record; holds = reached-demand (plain m) (good-reached m held g) cs }

@@ -27,4 +27,6 @@ pub mod Tabled
 pub mod Integers
 pub mod Straight
 pub mod ByWeights
+pub mod ReadsTold
+pub mod Numbers
 pub mod StaysOpened

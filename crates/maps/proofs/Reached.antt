@@ -19,7 +19,7 @@ use Rattle.mesh.specs.Ends.{nearestGood}
 use Rattle.maps.specs.Record.{Held, plain, good}
 use Rattle.maps.specs.Calls.{setPlain}
 use Rattle.maps.specs.Histories.{Call, set, split, place, reads, weighs, alongRow, alongColumn, sameAs, Outcome, firstDrawn, byMachine, ending}
-use Rattle.maps.specs.Demand.{Start, fresh, lineBy, linesBy}
+use Rattle.maps.specs.Demand.{Start, fresh, given-record, lineBy, linesBy}
 use Rattle.axis.proofs.Entries.{taken-mem}
 use Rattle.axis.proofs.Members.{placed}
 use Rattle.axis.proofs.Padding.{copies}
@@ -67,6 +67,7 @@ fresh-reached w h a b = holds-reached (freshPlain w h) (fresh-holds w h a b) (λ
 
 pub start-reached : (P : Plain) → Start P → Reached P
 start-reached P (fresh w h a b) = fresh-reached w h a b
+start-reached P (given-record m held g) = good-reached m held g
 
 -- Calls lead from P to Q and draw some lines: sides stay, the lines come after the splits that were there, and Q is such a map again.
 pub record Leads (P : Plain) (lines : List Split) (Q : Plain) : Type 0 where

@@ -105,15 +105,20 @@ module _ (P : Plain) (valued : Valued P) where
       (λ e. cond-false _ _ _ e)
       (either (ltb i (length (blends P))))
 
-  -- A reading in the domain is again one of "0 to 65,535 litres a minute".
-  pub reading-most : (u v : ℕ) → u ≤ P .lines .w → v ≤ P .lines .h → readingAt (blends P) (P .values) u v ≤ 65535
-  reading-most u v u-in v-in =
+  -- A reading in the domain is at most what all values are: no flow that isn't there;
+  pub reading-within : (k : ℕ) → ((x : ℕ) → List·Memᴰ x (P .values) → x ≤ k) → (u v : ℕ) → u ≤ P .lines .w → v ≤ P .lines .h →
+      readingAt (blends P) (P .values) u v ≤ k
+  reading-within k within u v u-in v-in =
       let w = P .lines .w in
       let h = P .lines .h in
       let one = parts-one w h (valued .wide .0) (valued .tall .0) (meshOf (P .lines)) (valued .is-sound) u v u-in v-in in
-      let most = paired-most (part w h (u + 1) (v + 1)) 65535 (blends P) (P .values) (λ x m. omega (arith, valued .small x m)) in
+      let most = paired-most (part w h (u + 1) (v + 1)) k (blends P) (P .values) within in
       rw (reading-rounds w h (blends P) (P .values) blends-proper u v)
-      (nearest-most (scale w h) (scale-positive w h) _ 65535 (omega (arith, most, ap (λ (n : ℕ). 65535 * n) one)))
+      (nearest-most (scale w h) (scale-positive w h) _ k (omega (arith, most, ap (λ (n : ℕ). k * n) one)))
+
+  -- so it is again one of "0 to 65,535 litres a minute".
+  pub reading-most : (u v : ℕ) → u ≤ P .lines .w → v ≤ P .lines .h → readingAt (blends P) (P .values) u v ≤ 65535
+  reading-most = reading-within 65535 (λ x m. omega (arith, valued .small x m))
 
 -- A split that leaves a sound map:
 module _ (P : Plain) (valued : Valued P) (s : Split) (still : sound (P .lines .w) (P .lines .h) (liveOf (withLine (P .lines) s)) ≡ true) where
@@ -138,7 +143,18 @@ module _ (P : Plain) (valued : Valued P) (s : Split) (still : sound (P .lines .w
       entry-map (carried (blends P) (P .values)) (liveOf (withLine (P .lines) s)) i none 0 lt ∙
       carried-reading P valued (getD (liveOf (withLine (P .lines) s)) i none)
 
-  -- the map just after is again a sound one with a 16-bit value for each live blend;
+  -- so none is above what all old values are,
+  pub drawn-within : (k : ℕ) → ((x : ℕ) → List·Memᴰ x (P .values) → x ≤ k) → (x : ℕ) → List·Memᴰ x (drawn P s .values) → x ≤ k
+  unfolding drawn
+  drawn-within k within x m =
+      let r = map-mem (carried (blends P) (P .values)) (liveOf (withLine (P .lines) s)) x m in
+      let p = proper-facts (P .lines .w) (P .lines .h) (r .0) (new-proper (r .0) (r .1)) in
+      let a = p .across in
+      let b = p .up in
+      let most = reading-within P valued k within (r .0 .across .m - 1) (r .0 .up .m - 1) (omega arith) (omega arith) in
+      omega (arith, r .2, carried-reading P valued (r .0), most)
+
+  -- and the map just after is again a sound one with a 16-bit value for each live blend;
   pub drawn-valued : Valued (drawn P s)
   unfolding drawn
   drawn-valued = record {
@@ -146,13 +162,7 @@ module _ (P : Plain) (valued : Valued P) (s : Split) (still : sound (P .lines .w
     tall = valued .tall;
     is-sound = still;
     counted = length-map (liveOf (withLine (P .lines) s)) (carried (blends P) (P .values));
-    small = λ v m.
-        let r = map-mem (carried (blends P) (P .values)) (liveOf (withLine (P .lines) s)) v m in
-        let p = proper-facts (P .lines .w) (P .lines .h) (r .0) (new-proper (r .0) (r .1)) in
-        let a = p .across in
-        let b = p .up in
-        let most = reading-most P valued (r .0 .across .m - 1) (r .0 .up .m - 1) (omega arith) (omega arith) in
-        omega (arith, r .2, carried-reading P valued (r .0), most);
+    small = λ x m. omega (arith, drawn-within 65535 (λ y n. omega (arith, valued .small y n)) x m);
   }
 
   -- a reading just after the split is at most one away from the one just before, up or down;

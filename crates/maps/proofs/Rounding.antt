@@ -32,11 +32,12 @@ module _ (S : ℕ) (pos : 0 < S) where
   pub nearest-most : (n k : ℕ) → n ≤ k * S → nearest S n ≤ k
   nearest-most n k le = let lt : nearest S n < k + 1 = nearest-less n (k + 1) (omega arith) in omega (arith, lt)
 
+  pub nearest-least : (n k : ℕ) → k * S ≤ n → k ≤ nearest S n
+  nearest-least n k le = le-div-iff-mul-le twice .1 (omega arith)
+
   -- it is the number itself where that is whole,
   pub nearest-whole : (n : ℕ) → nearest S (n * S) ≡ n
-  nearest-whole n =
-      let low : n ≤ nearest S (n * S) = le-div-iff-mul-le twice .1 (omega arith) in
-      omega (arith, low, nearest-most (n * S) n (omega arith))
+  nearest-whole n = le-antisymm (nearest-most (n * S) n (omega arith)) (nearest-least (n * S) n (omega arith))
 
   -- and two numbers at most one half apart are at most one apart when both are rounded.
   nearest-near : (n k : ℕ) → 2 * n ≤ 2 * k + S → nearest S n ≤ nearest S k + 1

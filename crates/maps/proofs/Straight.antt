@@ -8,7 +8,7 @@ use mathlib.Core.List.{List, [], _∷_, map}
 use lib.IntN.{ℤ, pos, _*ℤ_}
 use lib.ListN.{length, getD}
 use Rattle.axis.specs.Fraction.{Fraction, times, whole, total}
-use Rattle.axis.proofs.Members.{entry, each-entry}
+use Rattle.axis.proofs.Members.{entry}
 use Rattle.mesh.specs.declared.Split.{Split}
 use Rattle.mesh.specs.declared.Blend.{Blend}
 use Rattle.mesh.specs.Splits.{exactNumber}
@@ -23,10 +23,10 @@ use Rattle.maps.specs.Plain.{Plain, blends}
 use Rattle.maps.specs.Values.{paired, sumAt, readingAt, drawn}
 use Rattle.maps.specs.Record.{recordOf}
 use Rattle.maps.specs.Calls.{tablePlace}
-use Rattle.maps.specs.Straight.{flow, ValuesStraight, tableValues, ReadsStraight}
+use Rattle.maps.specs.Straight.{flow, ValuesStraight, ReadsStraight}
 use Rattle.maps.proofs.Integers.{Difference, as-whole, is-whole, apart}
 use Rattle.maps.proofs.Integers as Integers
-use Rattle.maps.proofs.Answers.{place-listed, answers-listed, anchor-shown, anchor-in, point-answers}
+use Rattle.maps.proofs.Answers.{place-listed, answers-listed, table-values, anchor-shown, anchor-in, point-answers}
 use Rattle.maps.proofs.Rounding.{nearest, nearest-whole}
 use Rattle.maps.proofs.ExactSums.{value-positive}
 use Rattle.mesh.proofs.Passing.{exact-says}
@@ -149,19 +149,12 @@ module _ (P : Plain) (at : Reached P) (A B C D : ℤ) (given : ValuesStraight (r
       flow-whole A B C D _ u v .1
       (quotient _ _ _ _ (sum-positive u v 1 (omega arith) (omega arith) (omega arith)) (sum-flows u v 1 (omega arith) (omega arith) (omega arith)))
 
-  values-told : tableValues (recordOf P) (length (blends P)) ≡ P .values
-  values-told =
-      subst (λ (k : ℕ). tableValues (recordOf P) k ≡ P .values) (at .valued .counted)
-      (each-entry (λ i. tablePlace (recordOf P) i .value) 0 (P .values) 0
-      (λ k lt. ap (λ (j : ℕ). tablePlace (recordOf P) j .value) (omega arith) ∙
-      ap (λ (r : Placed). r .value) (place-listed P (at .holds) k (omega (arith, at .valued .counted)))))
-
   reads : ReadsStraight (recordOf P) (blends P) (P .lines .w) (P .lines .h) A B C D
   reads =
       record {
         readings = λ u v uw vh. rw (point-answers P (at .holds) u v uw vh) (refl, reading-flows u v uw vh);
         sums = λ p q d positive p-in q-in.
-            rw values-told (flow-point A B C D _ _ p q d (sum-flows p q d positive p-in q-in), sum-positive p q d positive p-in q-in);
+            rw (table-values P (at .holds)) (flow-point A B C D _ _ p q d (sum-flows p q d positive p-in q-in), sum-positive p q d positive p-in q-in);
       }
 
 -- of a map that was reached, however it is told

@@ -1,25 +1,46 @@
 -- Document 01, "Values, readings, splits": "The reading at a whole point is the sum of value times weight, exact, then rounded", by the answers of the calls.
-use Prim.Native.Nat.{ℕ, _*_}
+use Prim.Native.Nat.{ℕ, _*_, _≤_, _<_}
 use mathlib.Core.Path.{_≡_}
+use mathlib.Core.Bool.{cond}
 use mathlib.Core.List.{List, [], _∷_, map, List·Memᴰ}
+use lib.Dec.{ltb}
+use lib.ListN.{length}
 use Rattle.axis.specs.Fraction.{Fraction, total}
+use Rattle.axis.specs.Range.{greatest, smallest}
 use Rattle.maps.specs.declared.Map.{Map}
 use Rattle.maps.specs.declared.Weight.{Weight}
 use Rattle.maps.specs.Rounding.{rounded, Nearest}
 use Rattle.maps.specs.Calls.{tablePlace, reading, weights}
 
--- values times weights, one by one
+-- a weight as a fraction; values times weights, one by one
+abbrev pub fraction : Weight → Fraction
+fraction e = record { num = e .numerator; den = e .denominator }
+
 abbrev pub products : List ℕ → List Weight → List Fraction
 products [] es = []
 products (v ∷ vs) [] = []
 products (v ∷ vs) (e ∷ es) = record { num = e .numerator * v; den = e .denominator } ∷ products vs es
 
--- The blends of the weights answer stand at these places of the table, and the reading is the sum of the values there times the weights, rounded: the whole
--- number nearest to it.
+-- the values whose blends weigh more than 0
+abbrev pub weighing : List ℕ → List Weight → List ℕ
+weighing [] es = []
+weighing (v ∷ vs) [] = []
+weighing (v ∷ vs) (e ∷ es) = let rest = weighing vs es in cond (ltb 0 (e .numerator)) (v ∷ rest) rest
+
+-- the table call's values at some places
+abbrev pub valuesAt : Map → List ℕ → List ℕ
+valuesAt m places = map (λ i. tablePlace m i .value) places
+
+-- The four blends of the weights answer stand at these places of the table, their weights add up to exactly one, and the reading is the sum of the values
+-- there times the weights, rounded: the whole number nearest to it.
 pub record ByWeights (m : Map) (u v : ℕ) : Type 0 where
   pub places : List ℕ
+  pub four : length places ≡ 4
   pub taken : (i : ℕ) → List·Memᴰ i places → tablePlace m i .number ≡ 0
   pub same-blends : map (λ i. tablePlace m i .blend) places ≡ map (λ (e : Weight). e .blend) (weights m u v .entries)
-  pub is-sum : reading m u v ≡
-      record { number = 0; litres = rounded (total (products (map (λ i. tablePlace m i .value) places) (weights m u v .entries))) }
-  pub is-nearest : Nearest (total (products (map (λ i. tablePlace m i .value) places) (weights m u v .entries))) (reading m u v .litres)
+  pub add-up : let sum = total (map fraction (weights m u v .entries)) in (sum .num ≡ sum .den) × (0 < sum .den)
+  pub is-sum : reading m u v ≡ record { number = 0; litres = rounded (total (products (valuesAt m places) (weights m u v .entries))) }
+  pub is-nearest : Nearest (total (products (valuesAt m places) (weights m u v .entries))) (reading m u v .litres)
+  -- No flow that isn't there: it lies between the least and the greatest of the values whose blends weigh more than 0.
+  pub not-below : smallest (weighing (valuesAt m places) (weights m u v .entries)) ≤ reading m u v .litres
+  pub not-above : reading m u v .litres ≤ greatest (weighing (valuesAt m places) (weights m u v .entries))

@@ -1,5 +1,5 @@
 -- Demand 3 of the product: one claim about a whole list of calls, in the words of document 01, "Histories"; with it what document 02 asks for of whole lists.
-use Prim.Native.Nat.{ℕ, _+_, _*_, _≤_, _<_}
+use Prim.Native.Nat.{ℕ, _+_, _*_, _%_, _≤_, _<_}
 use mathlib.Core.Path.{_≡_}
 use mathlib.Core.Bool.{true, cond}
 use mathlib.Core.List.{List, [], _∷_, _++_, map, List·Memᴰ}
@@ -20,16 +20,19 @@ use Rattle.mesh.specs.Splits.{given, asked}
 use Rattle.mesh.specs.Lengthening.{within, chosen}
 use Rattle.mesh.specs.Crossings.{anchors, crossings, Tight}
 use Rattle.mesh.specs.Ends.{goodEnds, nearestGood, TwoLooks, LeastSoundLine, Allowances}
-use Rattle.maps.specs.Record.{recordOf, plain}
+use Rattle.maps.specs.Record.{recordOf, Held, plain, good}
 use Rattle.maps.specs.Calls.{changed, freshMap, shape, tablePlace, reading}
 use Rattle.maps.specs.Histories.{Call, set, split, place, reads, weighs, alongRow, alongColumn, sameAs, number, Outcome, outcome, byLibrary, byMachine, outcomes, ending}
 use Rattle.maps.specs.Allowance.{ByAllowance}
 use Rattle.maps.specs.Straight.{ValuesStraight, ReadsStraight}
-use Rattle.axis.specs.Range.{Distinct}
+use Rattle.maps.specs.Reads.{Reads, valuesSet}
+use Rattle.axis.specs.Range.{Distinct, greatest}
 
--- "A history starts from the fresh map of sides W and H": what the map holds at the start of a list.
+-- "A history starts from the fresh map of sides W and H"; beyond that, from any good record as the struct holds it, such as one that was read from a file.
+-- What the map holds at the start of a list:
 pub data Start : Plain → Type 0 where
   fresh : (w h : ℕ) → allowedSide w ≡ true → allowedSide h ≡ true → Start (freshPlain w h)
+  given-record : (m : Map) → Held m → good m ≡ true → Start (plain m)
 
 -- the map that a list of calls leaves; and a machine's outcome, with the record of what it holds
 abbrev pub leftBy : Plain → List Call → Map
@@ -157,6 +160,13 @@ pub record DemandFrom (P : Plain) (cs : List Call) : Type 0 where
   pub by-ends : (s : Split) → let m = leftBy P cs in given (plain m .lines) s ≡ 0 → ByEnds m s
   -- Document 02, L7, of every split that follows the list: what its allowance comes to.
   pub by-allowance : (s : Split) → ByAllowance (leftBy P cs) s
+  -- What the readings after the list are: weights that add up to one, values at anchors, and no flow that isn't there.
+  pub reads-told : Reads (leftBy P cs) (P .lines .w) (P .lines .h) (length blends)
+  -- After a value is set, where that is accepted, the reading at its anchor is that value, a 16-bit number.
+  pub set-reads : (i j v : ℕ) → let m = leftBy P cs in byLibrary m (set i j v) .answer ≡ number 0 →
+      reading (byLibrary m (set i j v) .next) i j ≡ record { number = 0; litres = v % 65536 }
+  -- No reading after the list is above the greatest value that the map had before it or that some accepted call of the list set.
+  pub none-above : (u v : ℕ) → reading (leftBy P cs) u v .litres ≤ greatest (P .values ++ valuesSet (recordOf P) cs)
   -- Document 02, L1: where the value at each anchor (m, n), as the table calls give them after the list, is A + B × m + C × n + D × m × n, the reading at
   -- every whole point (u, v) of the domain is A + B × u + C × v + D × u × v.
   pub straight : (A B C D : ℤ) → ValuesStraight (leftBy P cs) A B C D → ReadsStraight (leftBy P cs) blends (P .lines .w) (P .lines .h) A B C D
@@ -169,3 +179,10 @@ pub record DemandFrom (P : Plain) (cs : List Call) : Type 0 where
 pub record Demand3 (w h : ℕ) (cs : List Call) : Type 0 where
   pub made : freshMap w h ≡ changed 0 (recordOf (freshPlain w h))
   pub holds : DemandFrom (freshPlain w h) cs
+  -- On a fresh map no reading after the list is above the greatest value that some accepted call of it set: 0 where none did.
+  pub none-above : (u v : ℕ) → reading (leftBy (freshPlain w h) cs) u v .litres ≤ greatest (valuesSet (recordOf (freshPlain w h)) cs)
+
+-- and of a list of calls on any good record: it is the record of what it holds, so these are the calls on the record itself.
+pub record DemandOf (m : Map) (cs : List Call) : Type 0 where
+  pub is-record : recordOf (plain m) ≡ m
+  pub holds : DemandFrom (plain m) cs

@@ -9,9 +9,11 @@ pub mod PairsTold
 pub mod Opened
 pub mod Sameness
 pub mod Histories
+pub mod Numbers
 pub mod Straight
+pub mod ByWeights
+pub mod Reads
 pub mod Demand
 pub mod Inner
-pub mod ByWeights
 pub mod ByLines
 pub mod ByMarks
