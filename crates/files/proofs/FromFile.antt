@@ -13,7 +13,7 @@ use Rattle.maps.specs.Histories.{Call, exactly, Outcome, byLibrary, outcomes, e
 use Rattle.maps.specs.Demand.{leftBy, DemandFrom}
 use Rattle.maps.specs.ByMarks.{withoutMarks, butMarks, SameLists}
 use Rattle.axis.proofs.Padding.{copies}
-use Rattle.maps.proofs.Readings.{Valued}
+use Rattle.maps.specs.Holds.{Valued}
 use Rattle.maps.proofs.Reached.{Reached, holds-reached, fresh-reached, Leads, ending-leads}
 use Rattle.maps.proofs.Rebuilding.{AcceptedTo, accepted-join, accepted-ends, accepted-more, library-accepts, ending-join, outcomes-join, withValues, splits-drawn, value-set}
 use Rattle.maps.proofs.Demand3.{both-tabled, both-lined, reached-demand, demand-three}

@@ -25,8 +25,9 @@ use Rattle.maps.specs.Plain.{Plain, freshPlain, blends}
 use Rattle.maps.specs.Values.{paired}
 use Rattle.maps.specs.Record.{isZero, recordOf, Held, plain, good}
 use Rattle.maps.specs.Calls.{changed}
+use Rattle.maps.specs.Holds.{Holds}
 use Rattle.maps.proofs.OverSquare.{four-at}
-use Rattle.maps.proofs.GoodRecords.{Holds, record-good, fresh-holds, GoodFacts, good-facts}
+use Rattle.maps.proofs.GoodRecords.{record-good, fresh-holds, GoodFacts, good-facts}
 use Rattle.maps.proofs.Reached.{good-reached}
 use Rattle.mesh.proofs.Accepted.{replays-sides, replays-stands, replays-sound, replays-short}
 use Rattle.files.specs.File.{largestFile, head, splitEntry, TableEntry, entriesOf, markedEntry, tail, fileWith, fileIn, fileOf, oldFileOf, splitCount, isOld, guessed}

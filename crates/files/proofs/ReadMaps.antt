@@ -17,8 +17,9 @@ use Rattle.maps.specs.Plain.{Plain, freshPlain}
 use Rattle.maps.specs.Record.{isMark, linesOf, recordOf, Held, plain, good}
 use Rattle.maps.specs.Opened.{withTable, Opens}
 use Rattle.maps.specs.Calls.{changed}
+use Rattle.maps.specs.Holds.{Holds}
 use Rattle.maps.proofs.Opening.{good-passes}
-use Rattle.maps.proofs.GoodRecords.{Holds, record-good, fresh-holds}
+use Rattle.maps.proofs.GoodRecords.{record-good, fresh-holds}
 use Rattle.mesh.proofs.Accepted.{replays-short}
 use Rattle.maps.proofs.Changing.{GoodMap, opened-map}
 use Rattle.files.specs.File.{valueSize, wordAt, splitCount, isOld, guessed}

@@ -20,7 +20,8 @@ use Rattle.maps.specs.Plain.{Plain, freshPlain, blends}
 use Rattle.maps.specs.Values.{term, paired}
 use Rattle.maps.specs.Record.{linesOf, recordOf, plain, good}
 use Rattle.maps.specs.Calls.{changed}
-use Rattle.maps.proofs.GoodRecords.{AreMarks, plain-held}
+use Rattle.maps.specs.Holds.{AreMarks}
+use Rattle.maps.proofs.GoodRecords.{plain-held}
 use Rattle.files.specs.File.{valueSize, splitEntry, TableEntry, entriesOf, valueEntry, tail, fileWith, fileIn, wordAt, splitCount, splitAt, isOld, guessed}
 use Rattle.files.specs.Calls.{readFile}
 use Rattle.files.proofs.Taking.{one-more, no-more, guessed-places, guessed-splits, guessed-values, guessed-marks}

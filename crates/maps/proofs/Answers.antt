@@ -22,7 +22,8 @@ use Rattle.maps.specs.Record.{recordOf}
 use Rattle.maps.specs.Calls.{shape, noShape, tablePlace, reading}
 use Rattle.maps.specs.Straight.{tableValues}
 use Rattle.axis.proofs.Members.{each-entry}
-use Rattle.maps.proofs.GoodRecords.{Holds, record-good}
+use Rattle.maps.specs.Holds.{Holds}
+use Rattle.maps.proofs.GoodRecords.{record-good}
 use Rattle.mesh.proofs.Accepted.{replays-sides}
 
 -- a knot, in document 01's coordinates

@@ -38,10 +38,11 @@ use Rattle.maps.specs.Record.{recordOf, Full, plain, good}
 use Rattle.maps.specs.Calls.{shape, tablePlace, reading, weights, weightOver}
 use Rattle.maps.specs.ByWeights.{fraction, products, weighing, valuesAt, ByWeights}
 use Rattle.maps.specs.Inner.{entriesOver, portions}
+use Rattle.maps.specs.Holds.{Holds}
 use Rattle.maps.proofs.OverSquare.{weight-shares, weight-outside, denominator-positive, entries-only, entries-length, entry-in, four-at}
 use Rattle.maps.proofs.Rounding.{nearest-most, nearest-least, rounds-nearest}
 use Rattle.maps.proofs.Adding.{portions-positive, sum-over}
-use Rattle.maps.proofs.GoodRecords.{Holds, record-good, good-facts}
+use Rattle.maps.proofs.GoodRecords.{record-good, good-facts}
 use Rattle.mesh.proofs.Accepted.{replays-sides, replays-sound}
 use Rattle.maps.proofs.Answers.{place-listed, point-answers}
 

@@ -37,11 +37,12 @@ use Rattle.maps.specs.Record.{noSplit, linesOf, recordOf, Full, plain, g
 use Rattle.maps.specs.Calls.{changed, drawnFirst, setPlain, setValue, splitWithin}
 use Rattle.maps.specs.Opened.{withTable, opened, IsTable, Opens}
 use Rattle.maps.specs.Inner.{withSplit, inArray, InTable, Grown, carriedArrays}
+use Rattle.maps.specs.Holds.{Holds}
 use Rattle.maps.proofs.Map.{the-type}
 use Rattle.maps.proofs.opened.Opened as opened
 use Rattle.maps.proofs.Readings.{place-found}
 use Rattle.maps.proofs.Opening.{good-table}
-use Rattle.maps.proofs.GoodRecords.{Holds, record-good, GoodFacts, good-facts, set-holds, drawn-holds}
+use Rattle.maps.proofs.GoodRecords.{record-good, GoodFacts, good-facts, set-holds, drawn-holds}
 use Rattle.mesh.proofs.Passing.{asked-says, exact-says}
 use Rattle.mesh.proofs.OneLineMore.{more-finer}
 use Rattle.maps.proofs.SideBySide.{live-grown}

@@ -21,7 +21,7 @@ use Rattle.maps.specs.Calls.{reading}
 use Rattle.maps.specs.Demand.{Gentle}
 use Rattle.axis.proofs.Members.{entry}
 use Rattle.mesh.proofs.Passing.{exact-says}
-use Rattle.maps.proofs.GoodRecords.{Holds}
+use Rattle.maps.specs.Holds.{Holds}
 use Rattle.maps.proofs.Readings.{drawn-reading, drawn-anchor}
 use Rattle.maps.proofs.Reached.{Reached, drawn-leads}
 use Rattle.maps.proofs.Answers.{place-listed, answers-listed, anchor-shown, anchor-in, point-answers, outside-answers}

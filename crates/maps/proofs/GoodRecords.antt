@@ -26,6 +26,7 @@ use Rattle.maps.specs.Plain.{Plain, freshPlain, blends}
 use Rattle.maps.specs.Values.{placeOf, keptMark, drawn}
 use Rattle.maps.specs.Record.{noSplit, isNoSplit, isZero, isMark, linesOf, recordOf, Full, plain, good}
 use Rattle.maps.specs.Calls.{setPlain}
+use Rattle.maps.specs.Holds.{AreMarks, Holds}
 use Rattle.maps.proofs.Opening.{good-passes, passes-good}
 
 -- the test of a split that is zero
@@ -49,17 +50,6 @@ layout-replay P e =
 layout-replays : {P : Layout} → Replays P → replays (linesOf P) ≡ true
 unfolding replays linesOf
 layout-replays {P} r = rw (take-append-seam (P .splits), r .across, r .up, le-leb _ 60 (r .few), r .all-taken)
-
--- marks are 0 or 1
-abbrev pub AreMarks : List ℕ → Type 0
-AreMarks marks = (k : ℕ) → List·Memᴰ k marks → k ≤ 1
-
--- what a good record holds: such lines, and a value and a mark for each of their blends
-pub record Holds (P : Plain) : Type 0 where
-  pub taken : Replays (P .lines)
-  pub counted : length (P .values) ≡ length (blends P)
-  pub counted-marks : length (P .marks) ≡ length (blends P)
-  pub are-marks : AreMarks (P .marks)
 
 -- The record of a map holds it, where its values and marks are as many as its blends,
 pub plain-held : (P : Plain) → length (P .values) ≡ length (blends P) → length (P .marks) ≡ length (blends P) → plain (recordOf P) ≡ P

@@ -17,9 +17,9 @@ use Rattle.mesh.proofs.SoundMaps.{live-proper}
 use Rattle.maps.specs.Plain.{Plain, blends}
 use Rattle.mesh.specs.Lines.{meshOf}
 use Rattle.maps.specs.Inner.{InTable, AtPoint}
+use Rattle.maps.specs.Holds.{Valued}
 use Rattle.maps.proofs.OverSquare.{four-at}
 use Rattle.axis.proofs.Members.{placed}
-use Rattle.maps.proofs.Readings.{Valued}
 use Rattle.mesh.proofs.BlendTables.{table-blends, table-count}
 
 of-proper : (P : Plain) (w h : ℕ) → P .lines .w ≡ w → P .lines .h ≡ h → 1 ≤ w → 1 ≤ h → AllProper w h (blends P)

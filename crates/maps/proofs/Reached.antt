@@ -24,9 +24,10 @@ use Rattle.axis.proofs.Entries.{taken-mem}
 use Rattle.axis.proofs.Members.{placed}
 use Rattle.axis.proofs.Padding.{copies}
 use Rattle.mesh.proofs.Passing.{asked-says, exact-says}
-use Rattle.maps.proofs.GoodRecords.{Holds, good-facts, fresh-holds, set-holds, drawn-holds}
+use Rattle.maps.specs.Holds.{Holds, Valued}
+use Rattle.maps.proofs.GoodRecords.{good-facts, fresh-holds, set-holds, drawn-holds}
 use Rattle.mesh.proofs.Accepted.{replays-sides, replays-sound}
-use Rattle.maps.proofs.Readings.{Valued, set-valued, drawn-valued}
+use Rattle.maps.proofs.Readings.{set-valued, drawn-valued}
 use Rattle.mesh.proofs.Allowance.{least, nearest-accepted}
 
 -- The splits are accepted in order from the fresh map, the map is sound, and each live blend has a 16-bit value.

@@ -29,6 +29,7 @@ use Rattle.maps.specs.Plain.{Plain, blends}
 use Rattle.maps.specs.Values.{readingAt, placeOf, carried, drawn}
 use Rattle.mesh.specs.Splits.{withLine, liveOf}
 use Rattle.maps.specs.Calls.{setPlain}
+use Rattle.maps.specs.Holds.{Valued}
 use Rattle.maps.proofs.Rounding.{nearest, nearest-whole, nearest-most, means-near}
 use Rattle.maps.proofs.ExactSums.{paired-single, paired-most, paired-map, scale, scale-positive, part, exact, reading-rounds, part-own, part-other, parts-one, exact-reproduced}
 
@@ -50,14 +51,6 @@ place-found (B ∷ bs) m n lt =
     rw (place-here B bs m n e) (eqb-true _ _ (a .0), eqb-true _ _ (a .1)))
     (λ e. rw (place-later B bs m n e) (place-found bs m n (omega (arith, place-later B bs m n e))))
     (either (anchored m n B))
-
--- A sound map of allowed sides with a 16-bit value for each live blend.
-pub record Valued (P : Plain) : Type 0 where
-  pub wide : (1 ≤ P .lines .w) × (P .lines .w ≤ 128)
-  pub tall : (1 ≤ P .lines .h) × (P .lines .h ≤ 128)
-  pub is-sound : sound (P .lines .w) (P .lines .h) (blends P) ≡ true
-  pub counted : length (P .values) ≡ length (blends P)
-  pub small : (v : ℕ) → List·Memᴰ v (P .values) → v < 65536
 
 module _ (P : Plain) (valued : Valued P) where
   pub blends-proper : AllProper (P .lines .w) (P .lines .h) (blends P)

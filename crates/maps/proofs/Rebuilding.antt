@@ -33,7 +33,8 @@ use Rattle.mesh.proofs.Allowance.{exact-taken}
 use Rattle.maps.specs.Record.{recordOf}
 use Rattle.maps.specs.Histories.{Call, set, exactly, number, Outcome, outcome, byLibrary, byMachine, outcomes, ending}
 use Rattle.maps.specs.Demand.{recorded, linesBy}
-use Rattle.maps.proofs.Readings.{Valued, blends-proper}
+use Rattle.maps.specs.Holds.{Valued}
+use Rattle.maps.proofs.Readings.{blends-proper}
 use Rattle.maps.proofs.Reached.{Reached}
 use Rattle.maps.proofs.Following.{outcomes-follow}
 

@@ -14,7 +14,8 @@ use Rattle.mesh.proofs.SoundMaps.{live-distinct, weights-add-up, four-positive}
 use Rattle.maps.specs.Plain.{Plain, blends}
 use Rattle.mesh.specs.Lines.{meshOf}
 use Rattle.maps.specs.Demand.{weightThere, Inside, FourIn, AddUp}
-use Rattle.maps.proofs.Readings.{Valued, blends-proper}
+use Rattle.maps.specs.Holds.{Valued}
+use Rattle.maps.proofs.Readings.{blends-proper}
 
 module _ (P : Plain) (valued : Valued P) where
   pub valued-four : (x y : ℕ) → x < P .lines .w → y < P .lines .h → FourIn (blends P) x y

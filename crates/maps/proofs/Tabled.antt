@@ -15,7 +15,7 @@ use Rattle.maps.specs.Plain.{Plain, blends}
 use Rattle.maps.specs.Record.{recordOf}
 use Rattle.maps.specs.Calls.{shape}
 use Rattle.maps.specs.Demand.{Tabled}
-use Rattle.maps.proofs.GoodRecords.{Holds}
+use Rattle.maps.specs.Holds.{Holds}
 use Rattle.maps.proofs.Answers.{place-listed, place-none}
 
 -- a shape shows the blend

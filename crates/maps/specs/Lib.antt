@@ -2,6 +2,7 @@ pub mod Plain
 pub mod Rounding
 pub mod Values
 pub mod Record
+pub mod Holds
 pub mod Calls
 pub mod Allowance
 pub mod Pairs

@@ -19,7 +19,8 @@ use Rattle.maps.specs.Histories as Maps
 use Rattle.maps.specs.Histories.{Call, Outcome, numberOf, byMachine}
 use Rattle.maps.specs.Demand.{recorded}
 use Rattle.maps.specs.ByLines.{SameButValues}
-use Rattle.maps.proofs.GoodRecords.{Holds, record-good}
+use Rattle.maps.specs.Holds.{Holds}
+use Rattle.maps.proofs.GoodRecords.{record-good}
 use Rattle.maps.proofs.Reached.{step-leads}
 use Rattle.maps.proofs.Following.{step-follows}
 use Rattle.maps.proofs.ByLines.{by-lines}

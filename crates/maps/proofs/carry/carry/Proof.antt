@@ -21,7 +21,8 @@ use Rattle.maps.specs.Plain.{blends}
 use Rattle.maps.specs.Values as Values
 use Rattle.maps.specs.Values.{keptOr, carried, keptMark, readingAt}
 use Rattle.maps.specs.Inner.{AtPoint, AllListed, carriedArrays}
-use Rattle.maps.proofs.Readings.{Valued, reading-most}
+use Rattle.maps.specs.Holds.{Valued}
+use Rattle.maps.proofs.Readings.{reading-most}
 use Rattle.maps.proofs.OverSquare.{all-listed}
 use Rattle.maps.proofs.Adding.{four-read}
 use Rattle.maps.proofs.OldTable.{old-valued, count-most, blends-of, values-of, old-table, old-point, filled, fill-more, fill-zero, fill-all}
