@@ -10,20 +10,20 @@ use Rattle.maps.specs.Plain.{Plain, freshPlain, blends}
 use Rattle.maps.specs.Values.{term, paired}
 use Rattle.maps.specs.Record.{recordOf, plain}
 use Rattle.maps.specs.Histories.{Call, exactly, Outcome, byLibrary, outcomes, ending}
-use Rattle.maps.specs.Demand.{leftBy, DemandFrom}
+use Rattle.maps.specs.Demand.{given-record, leftBy, DemandFrom}
 use Rattle.maps.specs.ByMarks.{withoutMarks, butMarks, SameLists}
 use Rattle.axis.proofs.Padding.{copies}
 use Rattle.maps.specs.Holds.{Valued}
 use Rattle.maps.proofs.Reached.{Reached, holds-reached, fresh-reached, Leads, ending-leads}
 use Rattle.maps.proofs.Rebuilding.{AcceptedTo, accepted-join, accepted-ends, accepted-more, library-accepts, ending-join, outcomes-join, withValues, splits-drawn, value-set}
-use Rattle.maps.proofs.Demand3.{both-tabled, both-lined, reached-demand, demand-three}
+use Rattle.maps.proofs.Demand3.{reached-demand, demand-three}
 use Rattle.maps.proofs.Following.{ending-follows}
 use Rattle.maps.proofs.ByMarks.{same-lists}
 use Rattle.files.specs.File.{guessed}
 use Rattle.files.specs.Calls.{readFile}
 use Rattle.files.specs.FromFile.{readPlain, setting, fileCalls, measured, AllAccepted, FromFile, AnyCall, onMap, writes, payloads, AmongFiles}
 use Rattle.files.proofs.RoundTrip.{accepted-file}
-use Rattle.files.proofs.ReadMaps.{told-held, guessed-holds, guessed-small}
+use Rattle.files.proofs.ReadMaps.{read-good, map-held, told-held, guessed-holds, guessed-small}
 use Rattle.mesh.specs.Lines.{layout}
 
 -- What an accepted file tells is what the map that is read holds, and a map that calls may have reached.
@@ -132,11 +132,7 @@ from-file bytes e =
           ap withoutMarks (ending-join byLibrary start (fileCalls P) cs ∙ ap (λ (m : Map). ending byLibrary m cs) left) ∙ alike .same-left cs;
       whole = λ cs. demand-three (P .lines .w) (P .lines .h) (at .holds .taken .across) (at .holds .taken .up) (fileCalls P ++ cs);
       own = read-demand bytes e;
-      same-blends = λ other o wide tall cs ds f g bs tabled.
-          rw (read-record bytes e) at
-          (both-tabled P (readPlain other) at (read-reached other o) wide tall cs ds f g bs (rw (← read-record other o) at tabled));
-      same-lines = λ other o wide tall cs ds bs tabled others.
-          both-lined P (readPlain other) at (read-reached other o) wide tall cs ds bs (rw (← read-record bytes e) at tabled) (rw (← read-record other o) at others);
+      is-start = given-record (readFile bytes .map) (map-held bytes) (read-good bytes);
     }
 
 -- Writes and payloads leave the map that they got, so they are left out of a list and it answers and ends as before.

@@ -4,15 +4,13 @@ use mathlib.Core.Path.{_≡_}
 use mathlib.Core.List.{List, [], _∷_, _++_, map, List·Memᴰ}
 use lib.ListN.{length, replicate}
 use Rattle.axis.specs.Range.{joined}
-use Rattle.mesh.specs.declared.Blend.{Blend}
-use Rattle.mesh.specs.Order.{Coarser}
 use Rattle.mesh.specs.Weight.{Term}
 use Rattle.maps.specs.declared.Map.{Map}
 use Rattle.maps.specs.Plain.{Plain, freshPlain, blends}
 use Rattle.maps.specs.Values.{paired}
 use Rattle.maps.specs.Record.{recordOf, plain}
 use Rattle.maps.specs.Histories.{Call, set, exactly, Answer, number, Outcome, outcome, byLibrary, outcomes, ending}
-use Rattle.maps.specs.Demand.{leftBy, Tabled, meshBy, DemandFrom, Demand3}
+use Rattle.maps.specs.Demand.{Start, leftBy, DemandFrom, Demand3}
 use Rattle.maps.specs.ByMarks.{withoutMarks, butMarks}
 use Rattle.files.specs.declared.Written.{Written}
 use Rattle.files.specs.File.{guessed}
@@ -58,16 +56,8 @@ pub record FromFile (bytes : List ℕ) : Type 0 where
   -- of which demand 3 holds, with document 02's clauses beside it; and so they do of the list on its own.
   pub whole : (cs : List Call) → let P = readPlain bytes in Demand3 (P .lines .w) (P .lines .h) (fileCalls P ++ cs)
   pub own : (cs : List Call) → DemandFrom (readPlain bytes) cs
-  -- "lists on equal sides whose lines cover the same points end with the same blends", also where both start from files.
-  pub same-blends : (other : List ℕ) → readFile other .number ≡ 0 →
-      let P = readPlain bytes in let Q = readPlain other in Q .lines .w ≡ P .lines .w → Q .lines .h ≡ P .lines .h → (cs ds : List Call) →
-      Coarser (meshBy P cs) (meshBy Q ds) → Coarser (meshBy Q ds) (meshBy P cs) →
-      (bs : List Blend) → Tabled (ending byLibrary (readFile other .map) ds) bs → Tabled (ending byLibrary (readFile bytes .map) cs) bs
-  -- And those that end with the same blends have lines that cover the same points.
-  pub same-lines : (other : List ℕ) → readFile other .number ≡ 0 →
-      let P = readPlain bytes in let Q = readPlain other in Q .lines .w ≡ P .lines .w → Q .lines .h ≡ P .lines .h → (cs ds : List Call) →
-      (bs : List Blend) → Tabled (ending byLibrary (readFile bytes .map) cs) bs → Tabled (ending byLibrary (readFile other .map) ds) bs →
-      Coarser (meshBy P cs) (meshBy Q ds) × Coarser (meshBy Q ds) (meshBy P cs)
+  -- A list may start from it as from a fresh map: what `own` says of two lists on equal sides holds where both start from files.
+  pub is-start : Start (readPlain bytes)
 
 -- "Writing and asking for a record's payload change no map, so they may come anywhere between these calls": a call of such a list, on the map,
 -- a write of it to a lent buffer, or a payload at a byte place of lent bytes.

@@ -89,7 +89,7 @@ same-lines P Q at from cs ds wide tall f g =
     ending-blends ds Q from ∙ ap₂ (λ (w h : ℕ). live w h (meshBy Q ds)) wide tall ∙
     same-steps (P .lines .w) (P .lines .h) (meshBy Q ds) (meshBy P cs) (λ d z k. same-test _ _ (g d z k) (f d z k)) ∙ sym (ending-blends cs P at)
 
-pub both-tabled : (P Q : Plain) → Reached P → Reached Q → Q .lines .w ≡ P .lines .w → Q .lines .h ≡ P .lines .h → (cs ds : List Call) →
+both-tabled : (P Q : Plain) → Reached P → Reached Q → Q .lines .w ≡ P .lines .w → Q .lines .h ≡ P .lines .h → (cs ds : List Call) →
     Coarser (meshBy P cs) (meshBy Q ds) → Coarser (meshBy Q ds) (meshBy P cs) → (bs : List Blend) → Tabled (leftBy Q ds) bs → Tabled (leftBy P cs) bs
 both-tabled P Q at from wide tall cs ds f g bs tabled =
     rw (tabled-once tabled (end-tabled Q from ds) ∙ same-lines P Q at from cs ds wide tall f g) (end-tabled P at cs)
@@ -124,7 +124,7 @@ told-lines P Q at from cs ds wide tall same =
     (blends-tell-lines (A .lines) (B .lines) (built-after P at cs) (built-after Q from ds) (replays-stands (l .reached .holds .taken) .ranges)
     (replays-stands (k .reached .holds .taken) .ranges) (k .wide ∙ wide ∙ sym (l .wide)) (k .tall ∙ tall ∙ sym (l .tall)) same))
 
-pub both-lined : (P Q : Plain) → Reached P → Reached Q → Q .lines .w ≡ P .lines .w → Q .lines .h ≡ P .lines .h → (cs ds : List Call) →
+both-lined : (P Q : Plain) → Reached P → Reached Q → Q .lines .w ≡ P .lines .w → Q .lines .h ≡ P .lines .h → (cs ds : List Call) →
     (bs : List Blend) → Tabled (leftBy P cs) bs → Tabled (leftBy Q ds) bs → Coarser (meshBy P cs) (meshBy Q ds) × Coarser (meshBy Q ds) (meshBy P cs)
 both-lined P Q at from wide tall cs ds bs here there =
     let same = sym (tabled-once there (end-tabled Q from ds)) ∙ tabled-once here (end-tabled P at cs) in

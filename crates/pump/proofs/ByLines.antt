@@ -4,7 +4,7 @@ use Prim.Native.Nat.{ℕ}
 use mathlib.Core.Path.{_≡_, refl, sym, ap, subst, _∙_}
 use mathlib.Core.Logic.{⊎-elim}
 use mathlib.Core.Bool.{true, false}
-use mathlib.Core.List.{[]}
+use mathlib.Core.List.{List, []}
 use lib.Dec.{leb, ltb}
 use lib.ListN.{length}
 use Rattle.axis.proofs.Tests.{either}
@@ -45,27 +45,42 @@ held-lines h = sym (ap (λ (P : Plain). P .lines) (record-good h .1))
 files-alike : {P Q : Plain} → Holds P → Holds Q → P .lines ≡ Q .lines → length (fileOf P) ≡ length (fileOf Q)
 files-alike {P} {Q} p q e = file-length P (p .counted) (p .counted-marks) false ∙ rw e (sym (file-length Q (q .counted) (q .counted-marks) false))
 
--- two buffers with the files of maps with the same lines
-left-alike : {d e : Desk} → At d → At e → d .holds .lines ≡ e .holds .lines → length (d .file) ≡ length (e .file) → (a : PumpAnswer) →
-    SameInBuffer (outcome a (lentBy d)) (outcome a (lentBy e))
-left-alike {d} {e} at too same long a =
-    record {
-      same-answer = refl;
-      same-used = long;
-      same-lines =
-          ap (λ (r : Changed). r .map .lines) (is-read at) ∙ records-alike (d .holds) (e .holds) same ∙ sym (ap (λ (r : Changed). r .map .lines) (is-read too));
-    }
-
--- what the machine shows is what the calls give
-both-shown : {x y u v : PumpOutcome Buffer} → x ≡ u → y ≡ v → SameInBuffer u v → SameInBuffer x y
-both-shown {x} {y} {u} {v} p q s = rw (p, q) s
+-- the map in the buffer of a desk is the record of what the desk holds
+in-buffer : {d : Desk} → At d → inBuffer (lentBy d) ≡ recordOf (d .holds)
+in-buffer at = ap (λ (r : Changed). r .map) (is-read at)
 
 module _ {d e : Desk} (at : At d) (too : At e) (same : d .holds .lines ≡ e .holds .lines) (used : length (d .file) ≡ length (e .file))
     (room : length (d .bytes) ≡ length (e .bytes)) where
+  abbrev Alike : PumpOutcome Buffer → PumpOutcome Buffer → Type 0
+  Alike one other = SameInBuffer (lentBy d) (lentBy e) one other
+
+  abbrev SameMarks : Plain → Plain → Type 0
+  SameMarks P Q = recordOf (d .holds) .marks ≡ recordOf (e .holds) .marks → recordOf P .marks ≡ recordOf Q .marks
+
+  -- two buffers that are left with the files of maps with the same lines
+  left-alike : {f g : Desk} → At f → At g → f .holds .lines ≡ g .holds .lines → SameMarks (f .holds) (g .holds) → length (f .file) ≡ length (g .file) →
+      (a : PumpAnswer) → Alike (outcome a (lentBy f)) (outcome a (lentBy g))
+  left-alike {f} {g} here there lines marks long a =
+      record {
+        same-answer = refl;
+        same-used = long;
+        same-lines =
+            ap (λ (m : Map). m .lines) (in-buffer here) ∙ records-alike (f .holds) (g .holds) lines ∙ sym (ap (λ (m : Map). m .lines) (in-buffer there));
+        same-marks = λ k.
+            let marks-of : Map → List ℕ = λ m. m .marks in
+            ap marks-of (in-buffer here) ∙ marks (sym (ap marks-of (in-buffer at)) ∙ k ∙ ap marks-of (in-buffer too)) ∙
+            sym (ap marks-of (in-buffer there));
+      }
+
+  -- what stays as it was
+  stays-alike : (a : PumpAnswer) → Alike (outcome a (lentBy d)) (outcome a (lentBy e))
+  stays-alike = left-alike at too same (λ k. k) used
+
   -- a change that the machine answers alike, and that leaves the same lines,
   changes-alike : (c : Call) → numberOf (byMachine (d .holds) c .answer) ≡ numberOf (byMachine (e .holds) c .answer) →
-      byMachine (d .holds) c .next .lines ≡ byMachine (e .holds) c .next .lines → SameInBuffer (shown (changes d c)) (shown (changes e c))
-  changes-alike c number lines =
+      byMachine (d .holds) c .next .lines ≡ byMachine (e .holds) c .next .lines → SameMarks (byMachine (d .holds) c .next) (byMachine (e .holds) c .next) →
+      Alike (shown (changes d c)) (shown (changes e c))
+  changes-alike c number lines marks =
       let n = numberOf (byMachine (e .holds) c .answer) in
       let P = byMachine (d .holds) c .next in
       let Q = byMachine (e .holds) c .next in
@@ -74,43 +89,46 @@ module _ {d e : Desk} (at : At d) (too : At e) (same : d .holds .lines ≡ e .ho
       let long = files-alike (p .holds) (q .holds) lines in
       let short = ltb (length (e .bytes)) (length (fileOf Q)) in
       let both : ltb (length (d .bytes)) (length (fileOf P)) ≡ short = rw (room, long) in
-      ⊎-elim (λ (t : leb 1 n ≡ true). rw (number, t) (left-alike at too same used (says n [] [])))
+      ⊎-elim (λ (t : leb 1 n ≡ true). rw (number, t) (stays-alike (says n [] [])))
       (λ (f : leb 1 n ≡ false).
       rw (number, f)
-      (⊎-elim (λ (t : short ≡ true). rw (both ∙ t, t) (left-alike at too same used (says 12 [] [])))
+      (⊎-elim (λ (t : short ≡ true). rw (both ∙ t, t) (stays-alike (says 12 [] [])))
       (λ (u : short ≡ false).
       rw (both ∙ u, u)
-      (left-alike (put-at P p (d .bytes)) (put-at Q q (e .bytes)) lines long (says 0 [] []))) (either short)))
+      (left-alike (put-at P p (d .bytes)) (put-at Q q (e .bytes)) lines marks long (says 0 [] []))) (either short)))
       (either (leb 1 n))
 
   -- and so a split,
   split-alike : (c : Call) (r q : Changed) → Maps.outcome (Maps.number (r .number)) (r .map) ≡ recorded (byMachine (d .holds) c) →
-      Maps.outcome (Maps.number (q .number)) (q .map) ≡ recorded (byMachine (e .holds) c) → SameButValues r q →
-      SameInBuffer (shown (changes d c)) (shown (changes e c))
+      Maps.outcome (Maps.number (q .number)) (q .map) ≡ recorded (byMachine (e .holds) c) →
+      SameButValues (recordOf (d .holds)) (recordOf (e .holds)) r q → Alike (shown (changes d c)) (shown (changes e c))
   split-alike c r q f g alike =
       let number : Outcome Map → ℕ = λ o. numberOf (o .answer) in
       let lines : Outcome Map → Lines = λ o. o .next .lines in
+      let marks : Outcome Map → List ℕ = λ o. o .next .marks in
       changes-alike c (sym (ap number f) ∙ alike .same-number ∙ ap number g)
       (held-lines (step-leads (d .holds) (at .reached) c .reached .holds) ∙ ap layoutOf (sym (ap lines f) ∙ alike .same-lines ∙ ap lines g) ∙
       sym (held-lines (step-leads (e .holds) (too .reached) c .reached .holds)))
+      (λ k. sym (ap marks f) ∙ alike .same-marks k ∙ ap marks g)
 
   -- on the buffers of both desks.
-  border-alike : (s : Split) (a : ℕ) → SameInBuffer (byBorder (lentBy d) (split s a)) (byBorder (lentBy e) (split s a))
+  border-alike : (s : Split) (a : ℕ) → Alike (byBorder (lentBy d) (split s a)) (byBorder (lentBy e) (split s a))
   border-alike s a =
       let P = d .holds in
       let Q = e .holds in
       let call = Maps.split s a in
       let alike =
       by-lines (recordOf P) (recordOf Q) (record-good (at .reached .holds) .0) (record-good (too .reached .holds) .0) (records-alike P Q same) s a in
-      both-shown (step-shown at (split s a)) (step-shown too (split s a))
+      rw (step-shown at (split s a), step-shown too (split s a))
       (split-alike call _ _ (step-follows P (at .reached) call) (step-follows Q (too .reached) call) alike)
 
 pub border-by-lines : (one other : Buffer) → readFile (lent (one .bytes) (one .used)) .number ≡ 0 → readFile (lent (other .bytes) (other .used)) .number ≡ 0 →
     inBuffer one .lines ≡ inBuffer other .lines → one .used ≡ other .used → length (one .bytes) ≡ length (other .bytes) → (s : Split) (a : ℕ) →
-    SameInBuffer (byBorder one (split s a)) (byBorder other (split s a))
+    SameInBuffer one other (byBorder one (split s a)) (byBorder other (split s a))
 unfolding plain
 border-by-lines one other e f same used room s a =
-    subst (λ (b : Buffer). SameInBuffer (byBorder b (split s a)) (byBorder other (split s a))) (file-lent one e)
-    (subst (λ (b : Buffer). SameInBuffer (byBorder (lentBy (file-desk one e)) (split s a)) (byBorder b (split s a))) (file-lent other f)
+    subst (λ (b : Buffer). SameInBuffer b other (byBorder b (split s a)) (byBorder other (split s a))) (file-lent one e)
+    (subst (λ (b : Buffer). SameInBuffer (lentBy (file-desk one e)) b (byBorder (lentBy (file-desk one e)) (split s a)) (byBorder b (split s a)))
+    (file-lent other f)
     (border-alike (file-at one e) (file-at other f) (ap layoutOf same)
     (ap (λ (b : Buffer). b .used) (file-lent one e) ∙ used ∙ sym (ap (λ (b : Buffer). b .used) (file-lent other f))) room s a))
