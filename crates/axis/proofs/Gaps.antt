@@ -12,6 +12,7 @@ use Rattle.axis.specs.Triple.{hat, spans, Rises}
 use Rattle.axis.specs.Gap.{corner, gap, share}
 use Rattle.axis.specs.declared.Triple.{Triple}
 use Rattle.axis.proofs.Tests.{either, and-fails}
+use Rattle.axis.proofs.Runs.{if-equal}
 use Rattle.axis.proofs.Triples.{Rise}
 use Rattle.axis.proofs.Hats.{hat-outside}
 
@@ -43,6 +44,16 @@ module _ (t : Triple) (x : ℕ) where
 
   pub share-most : (u : ℕ) → Rises t → End x u → share t x u ≤ 129
   share-most u r e = by-side u (λ s g. s ≤ 129) (λ h. omega arith) (λ h. omega arith)
+
+  pub share-gap : (u : ℕ) → End x u → share t x u ≤ gap t x
+  share-gap u e = by-side u (λ s g. s ≤ g) (λ h. omega arith) (λ h. omega arith)
+
+  -- Over a step of a side the gap is at most the side, where the triple reaches past the side only with its middle at the end.
+  pub gap-side : (side : ℕ) → 1 ≤ x → x ≤ side → 1 ≤ t .m → t .m ≤ side + 1 → t .r ≤ side + 2 → (t .l ≡ 0 → t .m ≡ 1) →
+      (t .r ≡ side + 2 → t .m ≡ side + 1) → gap t x ≤ side
+  gap-side side lo hi low high far near end =
+      by-side x (λ s g. g ≤ side) (λ h. if-equal (t .l) 0 (λ e. omega (arith, near e)) (λ ne. omega (arith, ne)))
+      (λ h. if-equal (t .r) (side + 2) (λ e. omega (arith, end e)) (λ ne. omega (arith, ne)))
 
   -- at an end of the step the hat is the share over the gap
   pub hat-share : (u : ℕ) → End x u → Equal (hat t u 1) (record { num = share t x u; den = gap t x })

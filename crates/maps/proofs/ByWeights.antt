@@ -6,7 +6,7 @@ use mathlib.Core.Logic.{_⊎_, inl, inr, ⊎-elim}
 use mathlib.Core.Bool.{Bool, true, false, _&&_}
 use mathlib.Core.List.{List, [], _∷_, map, List·Memᴰ, List·Memᴰ·cases-cons, List·Memᴰ·not-nil}
 use mathlib.Core.List.List·Memᴰ.{List·Memᴰ·head, List·Memᴰ·tail}
-use native.Mathlib.Nat.{mul-le-mul-right, eq-of-mul-eq-mul-left}
+use native.Mathlib.Nat.{le-trans, mul-le-mul, mul-le-mul-right, eq-of-mul-eq-mul-left}
 use borrow.Author.Tests.{le-leb, ltb-false}
 use lib.Dec.{leb, ltb}
 use lib.ListN.{length, getD, length-map}
@@ -17,14 +17,15 @@ use Rattle.axis.proofs.Scale.{total-positive}
 use Rattle.axis.proofs.Sums.{total-only}
 use Rattle.axis.specs.Range.{all, only, greatest, smallest}
 use Rattle.axis.proofs.Extremes.{at-most-greatest, at-least-smallest}
-use Rattle.axis.proofs.Gaps.{End, corner-end}
+use Rattle.axis.proofs.Gaps.{End, corner-end, corner-in, share-gap, gap-side}
 use Rattle.axis.proofs.Members.{map-mem}
 use Rattle.mesh.specs.declared.Blend.{Blend}
-use Rattle.mesh.specs.Lines.{meshOf}
+use Rattle.mesh.specs.Lines.{upright, level, meshOf}
 use Rattle.mesh.specs.Sound.{none, proper, overSquare, sound, ProperIn}
 use Rattle.mesh.specs.Weight.{weight}
 use Rattle.mesh.proofs.Cuts.{proper-facts}
 use Rattle.mesh.proofs.BlendTables.{proper-most}
+use Rattle.mesh.proofs.MapView.{one-way}
 use Rattle.mesh.proofs.SoundMaps.{live-proper, weights-add-up}
 use Rattle.maps.specs.declared.Map.{Map}
 use Rattle.maps.specs.declared.Placed.{Placed}
@@ -242,12 +243,32 @@ module _ {P : Plain} (holds : Holds P) (u v : ℕ) (uw : u ≤ P .lines .w) (vh 
       subst (λ (fs : List Fraction). (total fs .num ≡ total fs .den) × (0 < total fs .den)) (sym the-fractions)
       (eq-of-mul-eq-mul-left _ (whole .1) _ _ (omega (arith, same, ap (λ (n : ℕ). n * total (map weight-here (only test (blends P))) .den) (whole .0))), some)
 
+  -- a weight is at most one, and over the square of the point no gap is longer than its side
+  weight-small : (B : Blend) → List·Memᴰ B (blends P) → (weight-here B .num ≤ weight-here B .den) × (weight-here B .den ≤ 16384)
+  unfolding weightAt
+  weight-small B m =
+      let x = corner w u + 1 in
+      let y = corner h v + 1 in
+      let i = corner-in w u (corner w u) (sides .0) uw refl in
+      let j = corner-in h v (corner h v) (sides .2) vh refl in
+      let one = one-way w h (sides .0) (sides .2) (P .lines .splits) in
+      let a = one upright .rises B m in
+      let b = one level .rises B m in
+      let wide = gap-side (B .across) x w (i .0) (i .1) (omega arith) (omega arith) (omega arith) (one upright .near B m) (one upright .far B m) in
+      let tall = gap-side (B .up) y h (j .0) (j .1) (omega arith) (omega arith) (omega arith) (one level .near B m) (one level .far B m) in
+      (mul-le-mul (share-gap (B .across) x (u + 1) across) (share-gap (B .up) y (v + 1) up), mul-le-mul (le-trans wide (sides .1)) (le-trans tall (sides .3)))
+
   pub record-weights : ByWeights (recordOf P) u v
   record-weights =
       record {
         places = map (λ (a : Entry). a .place) found;
         four = length-map found (λ (a : Entry). a .place) ∙ entries-length test (blends P) 0 ∙ four-at w h (blends P) is-sound u v (sides .0) (sides .2) uw vh;
         add-up = weights-one;
+        at-most-one = λ e m.
+            let r = map-mem (weightOver w h u v) _ e (subst (List·Memᴰ e) the-weights m) in
+            let b = map-mem (λ (a : Entry). a .blend) found (r .0) (r .1) in
+            let in-table = entry-in test (blends P) 0 (b .0) (b .1) .1 in
+            rw (r .2, b .2) (weight-small (b .0 .blend) in-table);
         not-below = subst (λ (r : Reading). smallest (weighing told-values (weights (recordOf P) u v .entries)) ≤ r .litres) (sym answered)
             (mean-least told-values (weights (recordOf P) u v .entries) as-many (weights-one .0) (weights-one .1));
         not-above = subst (λ (r : Reading). r .litres ≤ greatest (weighing told-values (weights (recordOf P) u v .entries))) (sym answered)
