@@ -219,7 +219,7 @@ module _ {A : Blend} (xs : List Blend) (B : Blend) (ys : List Blend) where
       ⊎-elim (λ m. inr (Memᴰ·append-left ys m)) (λ m. ⊎-elim inl (λ m. inr (Memᴰ·append-right xs m)) (List·Memᴰ·cases-cons m))
       (List·Memᴰ·append-cases xs m)
 
-  middle : A ≡ B → List·Memᴰ A (xs ++ B ∷ ys)
+  pub middle : A ≡ B → List·Memᴰ A (xs ++ B ∷ ys)
   middle e = Memᴰ·append-right xs (List·Memᴰ.List·Memᴰ·head e)
 
   around : List·Memᴰ A (xs ++ ys) → List·Memᴰ A (xs ++ B ∷ ys)
@@ -238,7 +238,7 @@ module _ {A : Blend} (xs : List Blend) (B : Blend) (ys : List Blend) (d : Direct
   around-halves m = around xs (halve d lower z B) (halve d upper z B ∷ ys) (around xs (halve d upper z B) ys m)
 
 -- A step keeps what is left.
-step-rises : {M : Mesh} {xs ys : List Blend} → Step M xs ys → Rising xs → Rising ys
+pub step-rises : {M : Mesh} {xs ys : List Blend} → Step M xs ys → Rising xs → Rising ys
 step-rises {M} (replace xs B ys d z p) h A m =
     ⊎-elim (λ r. subst RiseB (sym (r .1)) (halve-rises d (r .0) z B (h B (middle xs B ys refl)) (cut-fact M d z B p .inside)))
     (λ m. h A (around xs B ys m))

@@ -10,13 +10,14 @@ use borrow.Author.Tests.{eqb-true}
 use Rattle.axis.specs.Range.{only, Distinct}
 use Rattle.mesh.specs.Lines.{Mesh, Direction}
 use Rattle.mesh.specs.Blends.{live, leavesOf, firstFour, cuts}
-use Rattle.mesh.specs.Order.{Comes, Uncut, Cutting}
+use Rattle.mesh.specs.Order.{Comes, Uncut, Cutting, done, CuttingEnds}
 use Rattle.mesh.specs.Sound.{proper, overSquare, fourEverywhere, noneNested, sound}
 use Rattle.mesh.specs.Weight.{Term, weight, value, interpolated}
 use Rattle.axis.specs.Fraction.{times, whole, total, Equal}
 use Rattle.mesh.specs.declared.Blend.{Blend}
 use Rattle.axis.proofs.Tests.{and-both, every-at}
 use Rattle.mesh.proofs.Order.{cut-or-not, LeftOf, SameMembers, any-order, comes-trans}
+use Rattle.mesh.proofs.CuttingEnds.{cutting-ends}
 use Rattle.mesh.proofs.Cuts.{proper-facts, proper-rises}
 use Rattle.mesh.proofs.Places.{sound-own}
 use Rattle.mesh.proofs.Ascending.{OwnAnchors}
@@ -41,6 +42,14 @@ module _ (w h : ℕ) (hw : 1 ≤ w) (hh : 1 ≤ h) (M : Mesh) where
       let a = any-order M (firstFour w h) cs (firstFour-rises w h hw hh) way C in
       let r = live-leaves C in
       (λ m. r .1 (a .0 m), λ m. a .1 (r .0 m))
+
+  -- Each of them does end,
+  pub cutting-ends-live : CuttingEnds M (firstFour w h)
+  cutting-ends-live = cutting-ends M (firstFour w h) (firstFour-rises w h hw hh)
+
+  -- so there is one, and the live blends are what it leaves.
+  pub some-order-live : (cs : List Blend) × Cutting M (firstFour w h) cs × SameMembers cs (live w h M)
+  some-order-live = let r = cutting-ends-live .goes-on done in (r .0, r .1, any-order-live (r .0) (r .1))
 
   pub live-proper : AllProper w h (live w h M)
   unfolding live
