@@ -70,7 +70,7 @@ module _ (x y u v : ℕ) (e : End x u) (f : End y v) (values : List ℕ) where
       ⊎-elim
       (λ o. subst as-one (sym (cond-true _ _ _ o))
       (rw (← here) (plus-equal (times (whole c) (weight B u v 1)) (portion x y u v B c) _ _
-      (multiple-equal c (weight B u v 1) _ _ (weight-shares B facts x y u v e f)) rest)))
+      (multiple-equal c (weight B u v 1) _ _ (weight-shares B facts x y u v e f .equal)) rest)))
       (λ o. subst as-one (sym (cond-false _ _ _ o))
       (plus-nothing (times (whole c) (weight B u v 1)) _ _ (rw (weight-outside B facts x y u v e f o) (omega arith)) rest))
       (either (overSquare x y B))

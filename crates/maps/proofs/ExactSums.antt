@@ -17,10 +17,10 @@ use Rattle.mesh.specs.Weight.{Term, weight, value}
 use Rattle.axis.proofs.Tests.{and-both}
 use Rattle.axis.specs.Range.{Distinct}
 use Rattle.mesh.proofs.Order.{cut-or-not}
-use Rattle.axis.proofs.Scale.{Multiple, common, Scaled, scaled-total, total-positive, sum, scaled-nothing, scaled-whole}
+use Rattle.axis.proofs.Scale.{Multiple, common, Scaled, scaled-total, sum, scaled-nothing, scaled-whole}
 use Rattle.mesh.proofs.Cuts.{proper-rises}
 use Rattle.mesh.proofs.Live.{AllProper}
-use Rattle.mesh.proofs.Weights.{scaledWeight, scaled-weight, scaled-value, weight-den, Covered, terms-reproduced}
+use Rattle.mesh.proofs.Weights.{scaledWeight, scaled-weight, scaled-value, weight-den, multiples-den, Covered, terms-reproduced}
 use Rattle.mesh.proofs.SoundMaps.{live-proper, live-distinct, weights-add-up, one-at-anchor, none-at-anchor}
 use Rattle.maps.specs.Values.{paired, sumAt, readingAt}
 use Rattle.axis.proofs.Members.{entry}
@@ -76,7 +76,7 @@ paired-of (B ∷ bs) (v ∷ vs) t m =
 -- a sum over proper blends has a denominator
 pub value-positive : (w h : ℕ) (bs : List Blend) (vs : List ℕ) → AllProper w h bs → (p q d : ℕ) → 0 < d → 0 < value (paired bs vs) p q d .den
 value-positive w h bs vs ok p q d pos =
-    total-positive _ (paired bs vs) (λ t m. mul-pos (omega arith) (weight-den w h (t .of) (ok (t .of) (paired-of bs vs t m)) p q d pos))
+    multiples-den w h (paired bs vs) (λ t m. ok (t .of) (paired-of bs vs t m)) p q d pos
 
 -- A reading, multiplied out.
 module _ (w h : ℕ) where

@@ -132,7 +132,8 @@ module _ (P : Plain) (at : Reached P) (A B C D : ℤ) (given : ValuesStraight (r
     sum-flows =
         let v = at .valued in
         let kept : (F : Flow) → _ = λ F.
-        live-straight (P .lines .w) (P .lines .h) (v .wide .0) (v .tall .0) (meshOf (P .lines)) (v .is-sound) F p q d positive p-in q-in in
+        live-straight (P .lines .w) (P .lines .h) (v .wide .0) (v .tall .0) (meshOf (P .lines)) (v .is-sound)
+        F p q d positive p-in q-in .equal in
         let weighs : Blend → Fraction = λ X. weight X (p + d) (q + d) d in
         let j = sums-join weighs (atAnchor (below A B C D)) (atAnchor (above A B C D)) (blends P) (P .values) (v .counted) at-place in
         moved _ _ _ _ _ _ _ _ _ (j .num) (j .den) (j .den′) (kept (below A B C D)) (kept (above A B C D))

@@ -13,7 +13,7 @@ use Rattle.mesh.specs.Blends.{live, leavesOf, firstFour, cuts}
 use Rattle.mesh.specs.Order.{Comes, Uncut, Cutting, done, CuttingEnds}
 use Rattle.mesh.specs.Sound.{proper, overSquare, fourEverywhere, noneNested, sound}
 use Rattle.mesh.specs.Weight.{Term, weight, value, interpolated}
-use Rattle.axis.specs.Fraction.{times, whole, total, Equal}
+use Rattle.axis.specs.Fraction.{times, whole, total, SameNumber}
 use Rattle.mesh.specs.declared.Blend.{Blend}
 use Rattle.axis.proofs.Tests.{and-both, every-at}
 use Rattle.mesh.proofs.Order.{cut-or-not, LeftOf, SameMembers, any-order, comes-trans}
@@ -86,7 +86,7 @@ module _ (w h : ℕ) (hw : 1 ≤ w) (hh : 1 ≤ h) (M : Mesh) where
 
     -- and a straight flow is the sum of its values at the anchors times the weights;
     pub live-straight : (F : Flow) (p q d : ℕ) → 0 < d → p ≤ w * d → q ≤ h * d →
-        Equal (total (map (λ (C : Blend). times (whole (atAnchor F C)) (weight C (p + d) (q + d) d)) (live w h M)))
+        SameNumber (total (map (λ (C : Blend). times (whole (atAnchor F C)) (weight C (p + d) (q + d) d)) (live w h M)))
         (record { num = flowAt F p q d; den = d * d })
     live-straight = flow-kept M w h (live w h M) decide live-distinct apart live-proper first-covered hw hh
 
@@ -116,5 +116,5 @@ module _ (w h : ℕ) (hw : 1 ≤ w) (hh : 1 ≤ h) (M : Mesh) where
 
     -- and each sum of multiples of blends that come before the live ones equals the sum of its values at the anchors times the live blends.
     pub live-reproduce : (ts : List Term) → CoveredTerms M w h (live w h M) ts → (p q d : ℕ) → 0 < d →
-        Equal (value ts p q d) (interpolated ts (live w h M) p q d)
+        SameNumber (value ts p q d) (interpolated ts (live w h M) p q d)
     live-reproduce = reproduced M w h (live w h M) decide live-distinct apart live-proper

@@ -7,7 +7,7 @@ use mathlib.Core.Path.{_≡_, refl, ap, subst, _∙_}
 use mathlib.Core.Logic.{_⊎_}
 use mathlib.Core.Bool.{true}
 use mathlib.Core.List.{List, map, List·Memᴰ}
-use Rattle.axis.specs.Fraction.{Fraction, times, whole, total, Equal}
+use Rattle.axis.specs.Fraction.{Fraction, times, whole, total, Equal, SameNumber}
 use Rattle.axis.specs.Range.{Distinct}
 use Rattle.mesh.specs.declared.Blend.{Blend}
 use Rattle.mesh.specs.Lines.{Direction, Mesh}
@@ -91,10 +91,10 @@ module _ (M : Mesh) (w h : ℕ) (L : List Blend)
         flow = first-flow K w h hw hh (omega arith) (omega arith) F
 
     -- and at each point of the domain, in document 01's own coordinates
-    pub flow-kept : (p q d : ℕ) → 0 < d → p ≤ w * d → q ≤ h * d →
+    flow-equal : (p q d : ℕ) → 0 < d → p ≤ w * d → q ≤ h * d →
         Equal (total (map (λ (C : Blend). times (whole (atAnchor F C)) (weight C (p + d) (q + d) d)) L))
         (record { num = flowAt F p q d; den = d * d })
-    flow-kept p q d pos p-in q-in =
+    flow-equal p q d pos p-in q-in =
         let x : p + d - d ≡ p = omega arith in
         let y : q + d - d ≡ q = omega arith in
         let known = rw (x, y) at (scaled-flow (p + d) (q + d) d (omega arith) (omega arith) (omega arith) (omega arith)) in
@@ -106,6 +106,18 @@ module _ (M : Mesh) (w h : ℕ) (L : List Blend)
         unscaled : (k f s n m : ℕ) → 0 < k → s ≡ k * k * f → s * m ≡ n * (k * d * (k * d)) → n * (d * d) ≡ f * m
         unscaled k f s n m k-pos e scaled =
             eq-of-mul-eq-mul-left (k * k) (mul-pos k-pos k-pos) _ _ (omega (arith, ap (λ (x : ℕ). x * m) e))
+
+    pub flow-kept : (p q d : ℕ) → 0 < d → p ≤ w * d → q ≤ h * d →
+        SameNumber (total (map (λ (C : Blend). times (whole (atAnchor F C)) (weight C (p + d) (q + d) d)) L))
+        (record { num = flowAt F p q d; den = d * d })
+    flow-kept p q d pos p-in q-in =
+        record {
+          equal = flow-equal p q d pos p-in q-in;
+          defined =
+              total-positive (λ (C : Blend). times (whole (atAnchor F C)) (weight C (p + d) (q + d) d)) L
+              (λ C m. mul-pos (omega arith) (weight-den w h C (rise C m) (p + d) (q + d) d pos));
+          also-defined = mul-pos pos pos;
+        }
 
   -- the weights alone add up to one
   pub adds-up : (p q d : ℕ) → 0 < d → p ≤ w * d → q ≤ h * d →

@@ -7,7 +7,7 @@ use mathlib.Core.Logic.{_⊎_, _↔_, inl, inr, ⊎-elim}
 use mathlib.Core.Bool.{true, false, _&&_, not}
 use mathlib.Core.List.{List, [], _∷_, List·Memᴰ}
 use borrow.Author.Tests.{not-false}
-use Rattle.axis.specs.Fraction.{times, whole, Equal}
+use Rattle.axis.specs.Fraction.{times, whole, Equal, SameNumber}
 use Rattle.axis.specs.Triple.{hat, Side, lower, upper, spans, between}
 use Rattle.mesh.specs.Lines.{Direction, upright, level, Mesh}
 use Rattle.mesh.specs.Blends.{crossed, cuts, halve, size, same}
@@ -17,7 +17,7 @@ use Rattle.mesh.specs.Weight.{weight, Term, value, interpolated}
 use Rattle.mesh.specs.declared.Blend.{Blend}
 use Rattle.axis.proofs.Tests.{and-both, and-of, and-fails}
 use Rattle.axis.specs.Range.{Distinct}
-use Rattle.axis.proofs.Scale.{Multiple, common, Scaled, scaled-times, scaled-total, scaled-more, scaled-multiple, scaled-equal, sum, sum-zero, sum-multiple, sum-linear, sum-single}
+use Rattle.axis.proofs.Scale.{Multiple, common, Scaled, scaled-times, scaled-total, total-positive, scaled-more, scaled-multiple, scaled-equal, sum, sum-zero, sum-multiple, sum-linear, sum-single}
 use Rattle.axis.proofs.Hats.{hat-den, hat-middle, hat-off, step-positive, scaledHat, scaled-hat, two-scale, scaled-middle, scaled-off}
 use Rattle.axis.proofs.Triples.{Inside, rise-of}
 use Rattle.mesh.proofs.Cuts.{proper-facts, proper-of, proper-rises, halve-proper, halve-smaller, size-positive, cut-fact, same-blend}
@@ -45,6 +45,19 @@ module _ (w h : ℕ) (B : Blend) (ok : proper w h B ≡ true) where
       factors zero j pos = absurd (omega arith)
       factors (suc i) zero pos = absurd (omega arith)
       factors (suc i) (suc j) pos = omega arith
+
+-- so a sum of multiples of proper blends has a denominator, and so has the one over the anchors
+module _ (w h : ℕ) (ts : List Term) (ok : (t : Term) → List·Memᴰ t ts → proper w h (t .of) ≡ true) where
+  pub multiples-den : (p q d : ℕ) → 0 < d → 0 < value ts p q d .den
+  multiples-den p q d pos =
+      total-positive (λ (t : Term). times (whole (t .multiple)) (weight (t .of) p q d)) ts
+      (λ t m. mul-pos (omega arith) (weight-den w h (t .of) (ok t m) p q d pos))
+
+  interpolated-den : (L : List Blend) → ((C : Blend) → List·Memᴰ C L → proper w h C ≡ true) → (p q d : ℕ) → 0 < d →
+      0 < interpolated ts L p q d .den
+  interpolated-den L rise p q d pos =
+      total-positive (λ (C : Blend). times (value ts (C .across .m) (C .up .m) 1) (weight C p q d)) L
+      (λ C m. mul-pos (multiples-den (C .across .m) (C .up .m) 1 (omega arith)) (weight-den w h C (rise C m) p q d pos))
 
 -- where no anchor is strictly inside another's support, it is off that support on one axis at least
 clear : (L : List Blend) → noneNested L ≡ true → (B C : Blend) → List·Memᴰ B L → List·Memᴰ C L → (B ≡ C → ⊥) →
@@ -254,5 +267,11 @@ module _ (M : Mesh) (w h : ℕ) (L : List Blend)
         (scaled-interpolated K w h wide tall ts L (λ t m. cov t m .0) rise p q d)
 
   -- what is reproduced, in fractions: at every point, inside the domain or not
-  pub reproduced : (ts : List Term) → CoveredTerms M w h L ts → (p q d : ℕ) → 0 < d → Equal (value ts p q d) (interpolated ts L p q d)
-  reproduced = reproduced-with (common (w + h + 2)) (omega arith) (omega arith)
+  pub reproduced : (ts : List Term) → CoveredTerms M w h L ts → (p q d : ℕ) → 0 < d →
+      SameNumber (value ts p q d) (interpolated ts L p q d)
+  reproduced ts cov p q d pos =
+      record {
+        equal = reproduced-with (common (w + h + 2)) (omega arith) (omega arith) ts cov p q d pos;
+        defined = multiples-den w h ts (λ t m. cov t m .0) p q d pos;
+        also-defined = interpolated-den w h ts (λ t m. cov t m .0) L rise p q d pos;
+      }
