@@ -14,8 +14,8 @@ use Rattle.axis.specs.Range.{all}
 use Rattle.axis.proofs.Tests.{either, and-both, all-at, cond-true, cond-false}
 use Rattle.axis.proofs.Scale.{total-positive}
 use Rattle.axis.proofs.Sums.{multiple-equal, plus-equal, plus-nothing}
-use Rattle.axis.specs.Gap.{corner}
-use Rattle.axis.proofs.Gaps.{End, corner-end}
+use Rattle.axis.specs.Gap.{corner, End}
+use Rattle.axis.proofs.Gaps.{corner-end}
 use Rattle.mesh.specs.declared.Blend.{Blend}
 use Rattle.mesh.specs.declared.Table.{Table}
 use Rattle.mesh.specs.Weight.{weight, value}

@@ -10,10 +10,10 @@ use borrow.Author.Tests.{le-leb}
 use lib.Dec.{leb}
 use lib.ListN.{length, getD}
 use Rattle.axis.specs.Fraction.{Fraction, total}
-use Rattle.axis.specs.Gap.{corner}
+use Rattle.axis.specs.Gap.{corner, End}
 use Rattle.axis.proofs.Tests.{either, and-of, all-of}
 use Rattle.axis.specs.Range.{all}
-use Rattle.axis.proofs.Gaps.{End, corner-end}
+use Rattle.axis.proofs.Gaps.{corner-end}
 use Rattle.axis.proofs.Members.{map-mem}
 use Rattle.mesh.specs.declared.Blend.{Blend}
 use Rattle.mesh.specs.Lines.{meshOf}

@@ -21,13 +21,13 @@ use Rattle.axis.proofs.Tests.{either, and-both, and-fails, every-at, all-at}
 use Rattle.mesh.proofs.BlendTables.{proper-most}
 use Rattle.mesh.proofs.Cuts.{proper-of}
 use Rattle.mesh.proofs.Weights.{weight-den}
-use Rattle.axis.specs.Gap.{gap, share, corner}
+use Rattle.axis.specs.Gap.{gap, share, corner, End}
 use Rattle.axis.proofs.Sums.{times-equal}
 use Rattle.axis.proofs.Triples.{rise-of}
 use Rattle.maps.specs.declared.values.Entry.{Entry}
 use Rattle.maps.specs.declared.values.Four.{Four}
 use Rattle.maps.specs.Inner.{AtPoint, entriesOver, entries, Listed, AllListed}
-use Rattle.axis.proofs.Gaps.{End, corner-in, gap-most, gap-positive, hat-outside-step, hat-share, share-most}
+use Rattle.axis.proofs.Gaps.{corner-in, gap-most, gap-positive, hat-outside-step, hat-share, share-most}
 
 -- the weight of a blend at a corner of a square, over the gaps in which the square lies: both numbers are small
 module _ (B : Blend) (ok : ProperIn 128 128 B) (x y : ℕ) where

@@ -14,8 +14,7 @@ use Rattle.mesh.specs.declared.Blend.{Blend}
 use Rattle.mesh.specs.Splits.{exactNumber}
 use Rattle.mesh.specs.Lines.{meshOf}
 use Rattle.mesh.specs.Sound.{none}
-use Rattle.mesh.specs.Weight.{Term, weight, value}
-use Rattle.mesh.proofs.Straight.{Flow, flowAt, atAnchor}
+use Rattle.mesh.specs.Weight.{Term, weight, value, Flow, flowAt, atAnchor}
 use Rattle.mesh.proofs.SoundMaps.{live-straight}
 use Rattle.maps.specs.declared.Map.{Map}
 use Rattle.maps.specs.declared.Placed.{Placed}

@@ -16,10 +16,11 @@ use Rattle.mesh.specs.Splits.{liveOf, withLine, exactNumber, accepted}
 use Rattle.mesh.specs.Replay.{replays, Replays}
 use Rattle.mesh.specs.declared.Split.{Split}
 use Rattle.mesh.specs.declared.Lines.{Lines}
+use Rattle.mesh.specs.Crossings.{Built}
 use Rattle.mesh.proofs.Ranges.{side-says}
 use Rattle.mesh.proofs.AtMost.{at-most}
 use Rattle.mesh.proofs.Quadrants.{four-sound}
-use Rattle.mesh.proofs.TightMaps.{Built, fresh-built}
+use Rattle.mesh.proofs.TightMaps.{fresh-built}
 use Rattle.mesh.proofs.Passing.{exact-says}
 use Rattle.mesh.proofs.TwoLooks.{stays-built}
 

@@ -9,22 +9,21 @@ use mathlib.Core.List.List·Memᴰ.{List·Memᴰ·head}
 use lib.Dec.{ltb, eqb}
 use lib.ListN.{length}
 use borrow.Author.Tests.{eq-eqb, ltb-true}
-use Rattle.axis.specs.Range.{all, any, only}
-use Rattle.axis.specs.Triple.{Side, lower, upper}
+use Rattle.axis.specs.Range.{any, only}
+use Rattle.axis.specs.Triple.{Side, lower, upper, Knots, KnotOf, OnSide}
 use Rattle.axis.specs.declared.Triple.{Triple}
 use Rattle.axis.proofs.Tests.{true-not-false, and-both, and-of, or-either, or-left, or-right, same-test, all-at, any-at, any-of, only-mem, mem-only, each-same}
 use Rattle.axis.proofs.Runs.{if-at-most, if-equal}
 use Rattle.axis.proofs.Members.{map-each}
 use Rattle.axis.proofs.Counts.{one-at-most}
-use Rattle.axis.proofs.Triples.{Knots, AtFresh}
-use Rattle.axis.proofs.Sides.{KnotOf, StepIn, column}
-use Rattle.axis.proofs.Parts.{OnSide}
-use Rattle.mesh.specs.Lines.{Direction, upright, level, other, side, direction, mesh, freshMesh, draws, inRange, Layout, meshOf}
+use Rattle.axis.proofs.Triples.{AtFresh}
+use Rattle.axis.proofs.Sides.{StepIn, column}
+use Rattle.mesh.specs.Lines.{Direction, upright, level, other, side, direction, mesh, freshMesh, draws, inRange, Layout, meshOf, Ranges}
 use Rattle.mesh.specs.Blends.{anchored, once, leavesOf, inTableOrder, refine, live, firstFour, crossed}
 use Rattle.mesh.specs.Order.{Coarser}
 use Rattle.mesh.specs.Sound.{sound}
 use Rattle.mesh.specs.Splits.{liveOf}
-use Rattle.mesh.specs.Crossings.{point, crosses, crossings, anchors, onGrid, Tight}
+use Rattle.mesh.specs.Crossings.{point, crosses, crossings, anchors, onGrid, Tight, Gridded, Built}
 use Rattle.mesh.specs.declared.Split.{Split}
 use Rattle.mesh.specs.declared.Blend.{Blend}
 use Rattle.mesh.proofs.TableOrder.{anchored-at, order-mem, mem-order, once-distinct}
@@ -36,7 +35,7 @@ use Rattle.mesh.proofs.AnchorsCross.{Crossing, crossing-anchored, ancho
 use Rattle.mesh.proofs.MapView.{live-grid}
 use Rattle.mesh.proofs.Grids.{grid-says, grid-of}
 use Rattle.mesh.proofs.OneLineMore.{Ranged, Row, ranged, draws-says, draws-of}
-use Rattle.mesh.proofs.TightMaps.{Built, Gridded, viewOf, soundOf, tight-view}
+use Rattle.mesh.proofs.TightMaps.{viewOf, soundOf, tight-view}
 
 -- a crossing, as the test of it says
 module _ (P : Layout) (m n : ℕ) where
@@ -131,10 +130,6 @@ module _ (P : Layout) (b : Built P) where
           if-equal z 1 (λ one. at-edge upper (omega arith, omega arith) (λ B m i. omega (arith, known .x .rises B m)))
           (λ ne. if-at-most z (side d (P .w) (P .h)) (λ le. b .tight d z k (omega arith, le) (lk, omega arith) on)
           (λ gt. at-edge lower (omega arith, omega arith) (λ B m i. omega (arith, known .x .rises B m))))
-
--- all splits of a layout are in range
-abbrev Ranges : Layout → Type 0
-Ranges P = all (inRange (P .w) (P .h)) (P .splits) ≡ true
 
 -- a unit step of a layout is a fresh line's, or one that a split in range draws
 pub data StepOf (P : Layout) (d : Direction) (z k : ℕ) : Type 0 where

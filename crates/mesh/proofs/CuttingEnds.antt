@@ -8,11 +8,11 @@ use mathlib.Core.Logic.{_⊎_, inl, inr, ⊎-elim}
 use mathlib.Core.List.{List, [], _∷_, _++_, List·Memᴰ, List·Memᴰ·cases-cons, List·Memᴰ·not-nil}
 use Rattle.axis.specs.Triple.{lower, upper}
 use Rattle.mesh.specs.Lines.{Mesh}
-use Rattle.mesh.specs.Blends.{halve, size}
+use Rattle.mesh.specs.Blends.{halve, size, Rising}
 use Rattle.mesh.specs.Order.{Uncut, Step, replace, drop, Steps, done, step, Cutting, taken, mostSteps, CuttingEnds}
 use Rattle.mesh.specs.declared.Blend.{Blend}
 use Rattle.mesh.proofs.Cuts.{cut-fact, halve-smaller}
-use Rattle.mesh.proofs.Order.{Rising, cut-or-not, middle, step-rises}
+use Rattle.mesh.proofs.Order.{cut-or-not, middle, step-rises}
 
 -- two smaller areas count less than one larger
 two-smaller : (a b c : ℕ) → a < c → b < c → 3 ^ a + 3 ^ b < 3 ^ c

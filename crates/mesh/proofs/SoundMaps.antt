@@ -10,20 +10,20 @@ use borrow.Author.Tests.{eqb-true}
 use Rattle.axis.specs.Range.{only, Distinct}
 use Rattle.mesh.specs.Lines.{Mesh, Direction}
 use Rattle.mesh.specs.Blends.{live, leavesOf, firstFour, cuts}
-use Rattle.mesh.specs.Order.{Comes, Uncut, Cutting, done, CuttingEnds}
-use Rattle.mesh.specs.Sound.{proper, overSquare, fourEverywhere, noneNested, sound}
-use Rattle.mesh.specs.Weight.{Term, weight, value, interpolated}
+use Rattle.mesh.specs.Order.{Comes, Uncut, Cutting, done, CuttingEnds, LeftOf, SameMembers, CoveredBy}
+use Rattle.mesh.specs.Sound.{proper, overSquare, fourEverywhere, noneNested, sound, AllProperIn}
+use Rattle.mesh.specs.Weight.{Term, weight, value, interpolated, CoveredTerms, Flow, flowAt, atAnchor}
 use Rattle.axis.specs.Fraction.{times, whole, total, SameNumber}
 use Rattle.mesh.specs.declared.Blend.{Blend}
 use Rattle.axis.proofs.Tests.{and-both, every-at}
-use Rattle.mesh.proofs.Order.{cut-or-not, LeftOf, SameMembers, any-order, comes-trans}
+use Rattle.mesh.proofs.Order.{cut-or-not, any-order, comes-trans}
 use Rattle.mesh.proofs.CuttingEnds.{cutting-ends}
 use Rattle.mesh.proofs.Cuts.{proper-facts, proper-rises}
 use Rattle.mesh.proofs.Places.{sound-own}
 use Rattle.mesh.proofs.Ascending.{OwnAnchors}
-use Rattle.mesh.proofs.Live.{AllProper, refine-left, left-refine, refine-leaves, refine-proper, refine-distinct}
-use Rattle.mesh.proofs.Weights.{square-positive, own-anchor, other-anchor, Covered, CoveredTerms, reproduced}
-use Rattle.mesh.proofs.Straight.{Flow, flowAt, atAnchor, flow-kept, adds-up}
+use Rattle.mesh.proofs.Live.{refine-left, left-refine, refine-leaves, refine-proper, refine-distinct}
+use Rattle.mesh.proofs.Weights.{square-positive, own-anchor, other-anchor, reproduced}
+use Rattle.mesh.proofs.Straight.{flow-kept, adds-up}
 use Rattle.mesh.proofs.Fresh.{first-proper, firstFour-rises}
 
 module _ (w h : ℕ) (hw : 1 ≤ w) (hh : 1 ≤ h) (M : Mesh) where
@@ -51,7 +51,7 @@ module _ (w h : ℕ) (hw : 1 ≤ w) (hh : 1 ≤ h) (M : Mesh) where
   pub some-order-live : (cs : List Blend) × Cutting M (firstFour w h) cs × SameMembers cs (live w h M)
   some-order-live = let r = cutting-ends-live .goes-on done in (r .0, r .1, any-order-live (r .0) (r .1))
 
-  pub live-proper : AllProper w h (live w h M)
+  pub live-proper : AllProperIn w h (live w h M)
   unfolding live
   live-proper = refine-proper w h M (firstFour w h) (first-proper w h hw hh)
 
@@ -60,10 +60,10 @@ module _ (w h : ℕ) (hw : 1 ≤ w) (hh : 1 ≤ h) (M : Mesh) where
   live-distinct = refine-distinct w h M (firstFour w h) (first-proper w h hw hh)
 
   -- a blend that comes before the live ones: all that is left of it is live
-  pub before-live : (B C : Blend) → List·Memᴰ B (firstFour w h) → Comes M B C → Covered M (live w h M) C
+  pub before-live : (B C : Blend) → List·Memᴰ B (firstFour w h) → Comes M B C → CoveredBy M (live w h M) C
   before-live B C m c D l = live-left D .1 (B, m, record { comes = comes-trans c (l .comes); uncut = l .uncut })
 
-  first-covered : (B : Blend) → List·Memᴰ B (firstFour w h) → Covered M (live w h M) B
+  first-covered : (B : Blend) → List·Memᴰ B (firstFour w h) → CoveredBy M (live w h M) B
   first-covered B m C l = live-left C .1 (B, m, l)
 
   decide : (B : Blend) → proper w h B ≡ true → Uncut M B ⊎ ((d : Direction) × (z : ℕ) × (cuts M d z B ≡ true))

@@ -11,9 +11,9 @@ use Rattle.axis.specs.Fraction.{times, whole, Equal, SameNumber}
 use Rattle.axis.specs.Triple.{hat, Side, lower, upper, spans, between}
 use Rattle.mesh.specs.Lines.{Direction, upright, level, Mesh}
 use Rattle.mesh.specs.Blends.{crossed, cuts, halve, size, same}
-use Rattle.mesh.specs.Order.{Left, Uncut}
+use Rattle.mesh.specs.Order.{Uncut, CoveredBy}
 use Rattle.mesh.specs.Sound.{proper, overSquare, noneNested}
-use Rattle.mesh.specs.Weight.{weight, Term, value, interpolated}
+use Rattle.mesh.specs.Weight.{weight, Term, value, interpolated, CoveredTerms}
 use Rattle.mesh.specs.declared.Blend.{Blend}
 use Rattle.axis.proofs.Tests.{and-both, and-of, and-fails}
 use Rattle.axis.specs.Range.{Distinct}
@@ -212,24 +212,18 @@ module _ (w h : ℕ) (L : List Blend) (distinct : Distinct L) (apart : noneNeste
       sym (sum-single (λ (C : Blend). scaledWeight K B (C .across .m) (C .up .m) 1 * scaledWeight K C p q d) L distinct B m
       (λ C mC differ. zero-left _ _ (scaled-other C B mC m differ)))
 
--- all that is left of B is in L
-abbrev pub Covered : Mesh → List Blend → Blend → Type 0
-Covered M L B = (C : Blend) → Left M B C → List·Memᴰ C L
-
+-- a half of a covered blend is covered
 half-covered : (M : Mesh) (L : List Blend) (B : Blend) (d : Direction) (s : Side) (z : ℕ) → cuts M d z B ≡ true →
-    Covered M L B → Covered M L (halve d s z B)
+    CoveredBy M L B → CoveredBy M L (halve d s z B)
 half-covered M L B d s z e cov C left = cov C (left-front d z s e left)
-
--- terms whose blends are proper and covered
-abbrev pub CoveredTerms : Mesh → ℕ → ℕ → List Blend → List Term → Type 0
-CoveredTerms M w h L ts = (t : Term) → List·Memᴰ t ts → (proper w h (t .of) ≡ true) × Covered M L (t .of)
 
 module _ (M : Mesh) (w h : ℕ) (L : List Blend)
     (decide : (B : Blend) → proper w h B ≡ true → Uncut M B ⊎ ((d : Direction) × (z : ℕ) × (cuts M d z B ≡ true)))
     (distinct : Distinct L) (apart : noneNested L ≡ true) (rise : (C : Blend) → List·Memᴰ C L → proper w h C ≡ true) where
   module _ {n : ℕ} (K : Multiple n) (wide : w + 2 ≤ n) (tall : h + 2 ≤ n) where
     -- A covered blend is in L, or is cut, and then its halves are covered too: by induction on its size it is reproduced.
-    covered-within : (f : ℕ) (B : Blend) → size B ≤ f → proper w h B ≡ true → Covered M L B → Reproduced K L (scaledWeight K B)
+    covered-within : (f : ℕ) (B : Blend) → size B ≤ f → proper w h B ≡ true → CoveredBy M L B →
+        Reproduced K L (scaledWeight K B)
     covered-within zero B le ok cov = absurd (omega (arith, size-positive B (proper-rises w h B ok)))
     covered-within (suc f) B le ok cov =
         ⊎-elim (λ u. member-reproduced w h L distinct apart rise K wide tall B (cov B (left-itself u)))
@@ -239,12 +233,12 @@ module _ (M : Mesh) (w h : ℕ) (L : List Blend)
         (proper-of w h _ (halve-proper (c .0) s (c .1) B (proper-facts w h B ok) i)) (half-covered M L B (c .0) s (c .1) (c .2) cov)))
         (decide B ok)
 
-    pub covered-reproduced : (B : Blend) → proper w h B ≡ true → Covered M L B → Reproduced K L (scaledWeight K B)
+    pub covered-reproduced : (B : Blend) → proper w h B ≡ true → CoveredBy M L B → Reproduced K L (scaledWeight K B)
     covered-reproduced B ok cov = covered-within (size B) B (omega arith) ok cov
 
     -- and so is a sum of multiples of such blends
     pub sum-reproduced : {A : Type 0} (c : A → ℕ) (b : A → Blend) (xs : List A) →
-        ((x : A) → List·Memᴰ x xs → (proper w h (b x) ≡ true) × Covered M L (b x)) →
+        ((x : A) → List·Memᴰ x xs → (proper w h (b x) ≡ true) × CoveredBy M L (b x)) →
         Reproduced K L (λ p q d. sum (λ x. c x * scaledWeight K (b x) p q d) xs)
     sum-reproduced c b [] cov = reproduced-none K L
     sum-reproduced c b (x ∷ xs) cov =

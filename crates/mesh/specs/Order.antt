@@ -22,6 +22,18 @@ pub record Left (M : Mesh) (B C : Blend) : Type 0 where
   pub comes : Comes M B C
   pub uncut : Uncut M C
 
+-- C is left of one of some blends.
+abbrev pub LeftOf : Mesh → List Blend → Blend → Type 0
+LeftOf M bs C = (B : Blend) × List·Memᴰ B bs × Left M B C
+
+-- A list covers a blend: all that is left of the blend stands in the list.
+abbrev pub CoveredBy : Mesh → List Blend → Blend → Type 0
+CoveredBy M bs B = (C : Blend) → Left M B C → List·Memᴰ C bs
+
+-- Two lists have the same members: what stands in either stands in the other.
+abbrev pub SameMembers : List Blend → List Blend → Type 0
+SameMembers xs ys = (C : Blend) → (List·Memᴰ C xs → List·Memᴰ C ys) × (List·Memᴰ C ys → List·Memᴰ C xs)
+
 -- One step of cutting a list: a cut blend, wherever it stands, is replaced by its halves, or one of two equal blends is dropped.
 pub data Step (M : Mesh) : List Blend → List Blend → Type 0 where
   replace : (xs : List Blend) (B : Blend) (ys : List Blend) (d : Direction) (z : ℕ) →
