@@ -61,8 +61,9 @@ at-point m n (B ∷ []) false here few some none = absurd (none refl B (List·Me
 at-point m n (B ∷ C ∷ ys) b here few some none = absurd (omega arith)
 
 module _ (P : Layout) (b : Built P) where
-  is-sound : sound (P .w) (P .h) (liveOf P) ≡ true
-  is-sound = four-sound (P .w) (P .h) (b .wide) (b .high) (P .splits) (b .four)
+  -- Four live blends over every square make the map sound.
+  pub built-sound : sound (P .w) (P .h) (liveOf P) ≡ true
+  built-sound = four-sound (P .w) (P .h) (b .wide) (b .high) (P .splits) (b .four)
 
   -- The anchors in table order are the crossings in the same order.
   pub anchors-are-crossings : anchors (liveOf P) ≡ crossings (P .w) (P .h) (meshOf P)
@@ -79,8 +80,8 @@ module _ (P : Layout) (b : Built P) where
           (λ B C mB mC e f.
           let i = anchored-at m n B e in
           let j = anchored-at m n C f in
-          own-anchors (P .w) (P .h) (b .wide) (b .high) (meshOf P) is-sound B C (listed B mB (i .0) (i .1)) (listed C mC (j .0) (j .1)) (i .0 ∙ sym (j .0))
-          (i .1 ∙ sym (j .1))))
+          own-anchors (P .w) (P .h) (b .wide) (b .high) (meshOf P) built-sound B C
+          (listed B mB (i .0) (i .1)) (listed C mC (j .0) (j .1)) (i .0 ∙ sym (j .0)) (i .1 ∙ sym (j .1))))
           (λ e. let a = crossing-anchored (viewOf upright P) (tight-view P b upright) m n (crosses-says P m n hm hn e) in (
             a .blend,
             mem-only (anchored m n) bs (a .blend) (order-mem (P .w) (P .h) bs (a .blend) (a .live) .0)

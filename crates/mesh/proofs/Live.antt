@@ -5,7 +5,7 @@ use mathlib.Core.Bool.{true}
 use mathlib.Core.List.{List, List·Memᴰ}
 use Rattle.mesh.specs.Lines.{Mesh}
 use Rattle.mesh.specs.Blends.{once, inTableOrder, leavesOf, refine, place, Rising}
-use Rattle.mesh.specs.Order.{Left, LeftOf, SameMembers}
+use Rattle.mesh.specs.Order.{Comes, Left, LeftOf, SameMembers}
 use Rattle.mesh.specs.Sound.{proper, AllProperIn}
 use Rattle.mesh.specs.declared.Blend.{Blend}
 use Rattle.axis.specs.Range.{Distinct}
@@ -17,11 +17,14 @@ use Rattle.mesh.proofs.Places.{proper-anchored}
 use Rattle.mesh.proofs.Ascending.{OwnAnchors, order-ascending}
 use Rattle.axis.proofs.Distinct.{ascending-unique}
 
--- what is left of a proper blend is proper
-pub left-proper : (w h : ℕ) (M : Mesh) (B C : Blend) → proper w h B ≡ true → Left M B C → proper w h C ≡ true
-left-proper w h M B C e l =
+-- what comes from a proper blend is proper, and so is what is left of it
+pub comes-proper : (w h : ℕ) {M : Mesh} {B C : Blend} → proper w h B ≡ true → Comes M B C → proper w h C ≡ true
+comes-proper w h {M} {B} {C} e c =
     let r = proper-rises w h B e in
-    proper-of w h C (proper-within (proper-facts w h B e) (comes-rises r (l .comes)) (comes-within r (l .comes)))
+    proper-of w h C (proper-within (proper-facts w h B e) (comes-rises r c) (comes-within r c))
+
+pub left-proper : (w h : ℕ) (M : Mesh) (B C : Blend) → proper w h B ≡ true → Left M B C → proper w h C ≡ true
+left-proper w h M B C e l = comes-proper w h e (l .comes)
 
 module _ (w h : ℕ) (M : Mesh) (bs : List Blend) (ok : AllProperIn w h bs) where
   rising : Rising bs

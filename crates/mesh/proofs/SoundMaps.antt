@@ -21,7 +21,7 @@ use Rattle.mesh.proofs.CuttingEnds.{cutting-ends}
 use Rattle.mesh.proofs.Cuts.{proper-facts, proper-rises}
 use Rattle.mesh.proofs.Places.{sound-own}
 use Rattle.mesh.proofs.Ascending.{OwnAnchors}
-use Rattle.mesh.proofs.Live.{refine-left, left-refine, refine-leaves, refine-proper, refine-distinct}
+use Rattle.mesh.proofs.Live.{comes-proper, refine-left, left-refine, refine-leaves, refine-proper, refine-distinct}
 use Rattle.mesh.proofs.Weights.{square-positive, own-anchor, other-anchor, reproduced}
 use Rattle.mesh.proofs.Straight.{flow-kept, adds-up}
 use Rattle.mesh.proofs.Fresh.{first-proper, firstFour-rises}
@@ -62,6 +62,14 @@ module _ (w h : ℕ) (hw : 1 ≤ w) (hh : 1 ≤ h) (M : Mesh) where
   -- a blend that comes before the live ones: all that is left of it is live
   pub before-live : (B C : Blend) → List·Memᴰ B (firstFour w h) → Comes M B C → CoveredBy M (live w h M) C
   before-live B C m c D l = live-left D .1 (B, m, record { comes = comes-trans c (l .comes); uncut = l .uncut })
+
+  -- so a sum of multiples of such blends is one of those that `live-reproduce` speaks of
+  pub before-terms : (ts : List Term) →
+      ((t : Term) → List·Memᴰ t ts → (B : Blend) × List·Memᴰ B (firstFour w h) × Comes M B (t .of)) →
+      CoveredTerms M w h (live w h M) ts
+  before-terms ts from t m =
+      let b = from t m in
+      (comes-proper w h (first-proper w h hw hh (b .0) (b .1)) (b .2), before-live (b .0) (t .of) (b .1) (b .2))
 
   first-covered : (B : Blend) → List·Memᴰ B (firstFour w h) → CoveredBy M (live w h M) B
   first-covered B m C l = live-left C .1 (B, m, l)

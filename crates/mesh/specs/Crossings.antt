@@ -62,7 +62,7 @@ Gridded P d z k = (B : Blend) × List·Memᴰ B (liveOf P) × OnGrid d z k B
 
 -- What accepted splits build: a map with sides of at least 1, over each of whose unit squares four
 -- live blends lie, and each of whose unit steps strictly inside the domain, edges left out, lies on
--- the grid of a live blend. It is sound (`four-sound`), and `Tight` with its live blends
+-- the grid of a live blend. It is sound (`built-sound`), and `Tight` with its live blends
 -- (`lines-are-grids`).
 pub record Built (P : Layout) : Type 0 where
   pub wide : 1 ≤ P .w
