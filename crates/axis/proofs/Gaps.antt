@@ -8,12 +8,11 @@ use mathlib.Core.Bool.{true, false}
 use borrow.Author.Tests.{ltb-true, ltb-false, leb-true, leb-false, le-leb, eqb-true, eqb-false}
 use lib.Dec.{ltb, leb, eqb}
 use Rattle.axis.specs.Fraction.{Equal}
-use Rattle.axis.specs.Triple.{hat, spans, Rises}
-use Rattle.axis.specs.Gap.{corner, gap, share}
+use Rattle.axis.specs.Triple.{hat, spans, Rises, Rise}
+use Rattle.axis.specs.Gap.{corner, gap, share, End}
 use Rattle.axis.specs.declared.Triple.{Triple}
 use Rattle.axis.proofs.Tests.{either, and-fails}
 use Rattle.axis.proofs.Runs.{if-equal}
-use Rattle.axis.proofs.Triples.{Rise}
 use Rattle.axis.proofs.Hats.{hat-outside}
 
 -- the unit step from knot x lies in a triple's support
@@ -23,11 +22,6 @@ pub record Spans (t : Triple) (x : ℕ) : Type 0 where
 
 pub not-spans : (t : Triple) (x : ℕ) → spans x t ≡ false → (x < t .l) ⊎ (t .r ≤ x)
 not-spans t x e = ⊎-elim (λ s. inl (leb-false _ _ s)) (λ s. inr (ltb-false _ _ s)) (and-fails (leb (t .l) x) (ltb x (t .r)) e)
-
--- knot u is an end of that step
-pub record End (x u : ℕ) : Type 0 where
-  pub from : x ≤ u
-  pub to : u ≤ x + 1
 
 -- the share and the gap by the side of the middle on which the step lies
 module _ (t : Triple) (x : ℕ) where

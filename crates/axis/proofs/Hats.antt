@@ -8,10 +8,9 @@ use mathlib.Core.Bool.{true, false}
 use borrow.Author.Tests.{ltb-true, ltb-false, leb-true, leb-false}
 use lib.Dec.{ltb, leb}
 use Rattle.axis.specs.Fraction.{Fraction}
-use Rattle.axis.specs.Triple.{triple, ascent, descent, hat, lower, upper, half, low, high, spans, between}
+use Rattle.axis.specs.Triple.{triple, ascent, descent, hat, lower, upper, half, low, high, spans, between, Rise}
 use Rattle.axis.specs.declared.Triple.{Triple}
 use Rattle.axis.proofs.Tests.{either, within-of, within-at, cond-true, cond-false}
-pub use Rattle.axis.proofs.Triples.{Rise}
 use Rattle.axis.proofs.Triples.{Inside, not-between, rise-of, is-low, is-high, first-rises, half-below, half-above}
 use Rattle.axis.proofs.Scale.{Multiple, Scaled}
 

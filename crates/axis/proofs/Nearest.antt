@@ -9,9 +9,10 @@ use borrow.Author.Tests.{eqb-true, eqb-false, eq-eqb, ne-eqb, ltb-true, ltb-fals
 use lib.Dec.{eqb, ltb}
 use Rattle.axis.specs.Nearest.{below, above, nearest}
 use Rattle.axis.specs.declared.Triple.{Triple}
+use Rattle.axis.specs.Triple.{Rise}
 use Rattle.axis.proofs.Tests.{either, true-not-false}
 use Rattle.axis.proofs.Runs.{if-equal}
-use Rattle.axis.proofs.Triples.{Rise, Inside}
+use Rattle.axis.proofs.Triples.{Inside}
 
 -- What a search over the places 1 to n for a line answers: one of them that has a line, or 0 where none has.
 record Search (line : ℕ → Bool) (place : ℕ → ℕ) (n v : ℕ) : Type 0 where

@@ -7,11 +7,11 @@ use mathlib.Core.Logic.{⊎-elim}
 use mathlib.Core.Bool.{Bool, true, false}
 use lib.Dec.{leb, ltb, eqb}
 use borrow.Author.Tests.{leb-true, leb-false, ltb-true, ltb-false, eqb-true, eqb-false, le-leb, lt-leb, lt-ltb}
-use Rattle.axis.specs.Triple.{Side, lower, upper, half, low, high, spans, RisesIn}
+use Rattle.axis.specs.Triple.{Side, lower, upper, half, low, high, spans, RisesIn, Rise, OnSide}
 use Rattle.axis.specs.declared.Triple.{Triple}
 use Rattle.axis.proofs.Tests.{either, within, within-of, within-at}
 use Rattle.axis.proofs.Counts.{ones}
-use Rattle.axis.proofs.Triples.{Rise, Inside}
+use Rattle.axis.proofs.Triples.{Inside}
 
 -- the unit step from knot x lies in l to m, the lower part of a triple, or in m to r, its upper part
 abbrev pub lies : Side → ℕ → Triple → Bool
@@ -46,10 +46,7 @@ half-lies p x z t e =
     onto-lower lower c e = let i = within-at (t .l) (t .m) x e in within-of _ _ x (omega arith) (omega arith)
     onto-lower upper c e = let i = within-at (t .m) (t .r) x e in within-of _ _ x (omega arith) (omega arith)
 
--- a unit step of a side; and the first triple that has them all in its lower, or in its upper, part
-abbrev pub OnSide : ℕ → ℕ → Type 0
-OnSide s x = (1 ≤ x) × (x < 1 + s)
-
+-- the first triple that has all unit steps of a side in its lower, or in its upper, part
 abbrev pub first : Side → ℕ → Triple
 first lower s = high s
 first upper s = low s

@@ -7,11 +7,11 @@ use mathlib.Core.Logic.{_⊎_, inl, inr, ⊎-elim}
 use mathlib.Core.Bool.{true, _||_}
 use lib.Dec.{ltb, eqb}
 use borrow.Author.Tests.{eqb-true, eq-eqb, ltb-true, lt-ltb}
-use Rattle.axis.specs.Triple.{triple, Side, lower, upper, half, isKnot, knotIn, RisesIn}
+use Rattle.axis.specs.Triple.{triple, Side, lower, upper, half, isKnot, knotIn, RisesIn, Rise, Knots, KnotOf, OnSide}
 use Rattle.axis.specs.declared.Triple.{Triple}
 use Rattle.axis.proofs.Tests.{and-both, and-of, or-either, or-left, or-right, within-of, within-at}
-use Rattle.axis.proofs.Triples.{Rise, Inside, Knots, keeps-middle, half-below, half-above}
-use Rattle.axis.proofs.Parts.{OnSide, lies}
+use Rattle.axis.proofs.Triples.{Inside, keeps-middle, half-below, half-above}
+use Rattle.axis.proofs.Parts.{lies}
 use Rattle.axis.proofs.Runs.{if-below, neither}
 
 -- the unit step from knot j lies in the lower or the upper part of a triple
@@ -102,10 +102,7 @@ pub lies-at : (p : Side) (x : ℕ) (t : Triple) → lies p x t ≡ true → Step
 lies-at lower x t e = within-at (t .l) (t .m) x e
 lies-at upper x t e = within-at (t .m) (t .r) x e
 
--- one of its three knots
-abbrev pub KnotOf : ℕ → Triple → Type 0
-KnotOf z t = (z ≡ t .l) ⊎ ((z ≡ t .m) ⊎ (z ≡ t .r))
-
+-- the test of its three knots
 pub knot-says : (z : ℕ) (t : Triple) → isKnot z t ≡ true → KnotOf z t
 knot-says z t e =
     ⊎-elim (λ f. ⊎-elim (λ g. inl (eqb-true _ _ g)) (λ g. inr (inl (eqb-true _ _ g))) (or-either (eqb z (t .l)) (eqb z (t .m)) f))

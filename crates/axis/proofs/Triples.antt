@@ -7,15 +7,10 @@ use mathlib.Core.Logic.{_⊎_, inl, inr, ⊎-elim}
 use mathlib.Core.Bool.{true, false, _&&_, not}
 use borrow.Author.Tests.{ltb-true, ltb-false, leb-true, eqb-true, eqb-false, not-true, lt-ltb, le-leb, eq-eqb, ne-eqb}
 use lib.Dec.{leb, ltb, eqb}
-use Rattle.axis.specs.Triple.{triple, Side, lower, upper, half, inside, between, spans, rising, low, high, sameTriple, RisesIn}
+use Rattle.axis.specs.Triple.{triple, Side, lower, upper, half, inside, between, spans, rising, low, high, sameTriple, RisesIn, Rise, Knots}
 use Rattle.axis.specs.declared.Triple.{Triple}
 use Rattle.axis.proofs.Runs.{if-at-most}
 use Rattle.axis.proofs.Tests.{and-both, and-of, and-fails, within-of}
-
--- the numbers rise
-pub record Rise (t : Triple) : Type 0 where
-  pub low : t .l < t .m
-  pub high : t .m < t .r
 
 -- it rises within the knots of a side: what the test says; and so within those of a longer side
 pub rising-facts : (side : ℕ) (t : Triple) → rising side t ≡ true → RisesIn side t
@@ -123,12 +118,7 @@ pub keeps-middle : (z : ℕ) (t : Triple) → (s : Side) × (half s z t .m ≡ t
 unfolding half
 keeps-middle z t = ⊎-elim (λ p. (upper, omega arith)) (λ p. (lower, omega arith)) (either-way z (t .m))
 
--- something that is true of each of a triple's knots; it is true of those of a half if it is true of the cut's
-pub record Knots (P : ℕ → Type 0) (t : Triple) : Type 0 where
-  pub l : P (t .l)
-  pub m : P (t .m)
-  pub r : P (t .r)
-
+-- what is true of each of a triple's knots is true of those of a half, if it is true of the cut's
 min-is : (P : ℕ → Type 0) (a b : ℕ) → P a → P b → P (min a b)
 min-is P a b p q =
     ⊎-elim (λ h. let e : a ≡ min a b = omega arith in subst P e p) (λ h. let e : b ≡ min a b = omega arith in subst P e q) (either-way a b)

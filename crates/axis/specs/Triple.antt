@@ -1,5 +1,7 @@
 -- One axis of a blend: document 01, "Blends", on one triple (l, m, r) of knots. Nothing here knows how many axes there are.
 use Prim.Native.Nat.{ℕ, _+_, _-_, _*_, _≤_, _<_, min, max}
+use mathlib.Core.Path.{_≡_}
+use mathlib.Core.Logic.{_⊎_}
 use mathlib.Core.Bool.{Bool, _&&_, _||_, not, cond}
 use lib.Dec.{ltb, leb, eqb}
 use Rattle.axis.specs.Fraction.{Fraction}
@@ -27,6 +29,11 @@ low side = triple 0 1 (side + 1)
 abbrev pub high : ℕ → Triple
 high side = triple 1 (side + 1) (side + 2)
 
+-- "both rising", of one triple
+pub record Rise (t : Triple) : Type 0 where
+  pub low : t .l < t .m
+  pub high : t .m < t .r
+
 -- rising, and within −1 to side + 1
 abbrev pub rising : ℕ → Triple → Bool
 rising side t = ltb (t .l) (t .m) && ltb (t .m) (t .r) && leb (t .r) (side + 2)
@@ -39,6 +46,10 @@ pub record RisesIn (side : ℕ) (t : Triple) : Type 0 where
 -- within the knots of the longest side, 0 to 130
 abbrev pub Rises : Triple → Type 0
 Rises t = RisesIn 128 t
+
+-- the unit step from knot x to knot x + 1 lies on a side of s steps, 0 to s
+abbrev pub OnSide : ℕ → ℕ → Type 0
+OnSide s x = (1 ≤ x) × (x < 1 + s)
 
 -- the unit step from knot x to knot x + 1 lies in l to r
 abbrev pub spans : ℕ → Triple → Bool
@@ -56,6 +67,16 @@ knotIn upper z t = ltb (t .m) z && ltb z (t .r)
 -- z is one of its three knots
 abbrev pub isKnot : ℕ → Triple → Bool
 isKnot z t = eqb z (t .l) || eqb z (t .m) || eqb z (t .r)
+
+-- the same as a statement
+abbrev pub KnotOf : ℕ → Triple → Type 0
+KnotOf z t = (z ≡ t .l) ⊎ ((z ≡ t .m) ⊎ (z ≡ t .r))
+
+-- something is true of each of a triple's three knots
+pub record Knots (P : ℕ → Type 0) (t : Triple) : Type 0 where
+  pub l : P (t .l)
+  pub m : P (t .m)
+  pub r : P (t .r)
 
 abbrev pub sameTriple : Triple → Triple → Bool
 sameTriple s t = eqb (s .l) (t .l) && eqb (s .m) (t .m) && eqb (s .r) (t .r)

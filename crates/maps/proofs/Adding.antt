@@ -14,8 +14,8 @@ use Rattle.axis.specs.Range.{all}
 use Rattle.axis.proofs.Tests.{either, and-both, all-at, cond-true, cond-false}
 use Rattle.axis.proofs.Scale.{total-positive}
 use Rattle.axis.proofs.Sums.{multiple-equal, plus-equal, plus-nothing}
-use Rattle.axis.specs.Gap.{corner}
-use Rattle.axis.proofs.Gaps.{End, corner-end}
+use Rattle.axis.specs.Gap.{corner, End}
+use Rattle.axis.proofs.Gaps.{corner-end}
 use Rattle.mesh.specs.declared.Blend.{Blend}
 use Rattle.mesh.specs.declared.Table.{Table}
 use Rattle.mesh.specs.Weight.{weight, value}
@@ -70,7 +70,7 @@ module _ (x y u v : ℕ) (e : End x u) (f : End y v) (values : List ℕ) where
       ⊎-elim
       (λ o. subst as-one (sym (cond-true _ _ _ o))
       (rw (← here) (plus-equal (times (whole c) (weight B u v 1)) (portion x y u v B c) _ _
-      (multiple-equal c (weight B u v 1) _ _ (weight-shares B facts x y u v e f)) rest)))
+      (multiple-equal c (weight B u v 1) _ _ (weight-shares B facts x y u v e f .equal)) rest)))
       (λ o. subst as-one (sym (cond-false _ _ _ o))
       (plus-nothing (times (whole c) (weight B u v 1)) _ _ (rw (weight-outside B facts x y u v e f o) (omega arith)) rest))
       (either (overSquare x y B))

@@ -13,8 +13,8 @@ use Rattle.mesh.specs.declared.Split.{Split}
 use Rattle.mesh.specs.Splits.{given, asked, exactNumber}
 use Rattle.mesh.specs.Lengthening.{within, chosen}
 use Rattle.mesh.specs.Ends.{goodEnds, nearestGood, TwoLooks, LeastSoundLine, Allowances}
+use Rattle.mesh.specs.Crossings.{Built}
 use Rattle.mesh.proofs.Passing.{asked-given, asked-says}
-use Rattle.mesh.proofs.TightMaps.{Built}
 use Rattle.mesh.proofs.TwoLooks.{two-looks}
 use Rattle.mesh.proofs.Accepted.{replays-stands}
 use Rattle.mesh.proofs.Allowance.{least, nearest-accepted, allowances}

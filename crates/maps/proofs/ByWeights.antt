@@ -11,13 +11,13 @@ use borrow.Author.Tests.{le-leb, ltb-false}
 use lib.Dec.{leb, ltb}
 use lib.ListN.{length, getD, length-map}
 use Rattle.axis.specs.Fraction.{Fraction, total}
-use Rattle.axis.specs.Gap.{corner}
+use Rattle.axis.specs.Gap.{corner, End}
 use Rattle.axis.proofs.Tests.{either, and-of, all-at, all-of, only-mem}
 use Rattle.axis.proofs.Scale.{total-positive}
 use Rattle.axis.proofs.Sums.{total-only}
 use Rattle.axis.specs.Range.{all, only, greatest, smallest}
 use Rattle.axis.proofs.Extremes.{at-most-greatest, at-least-smallest}
-use Rattle.axis.proofs.Gaps.{End, corner-end, corner-in, share-gap, gap-side}
+use Rattle.axis.proofs.Gaps.{corner-end, corner-in, share-gap, gap-side}
 use Rattle.axis.proofs.Members.{map-mem}
 use Rattle.mesh.specs.declared.Blend.{Blend}
 use Rattle.mesh.specs.Lines.{upright, level, meshOf}
@@ -237,7 +237,7 @@ module _ {P : Plain} (holds : Holds P) (u v : ℕ) (uw : u ≤ P .lines .w) (vh 
       let whole = weights-add-up w h (sides .0) (sides .2) (meshOf (P .lines)) is-sound u v 1 (omega arith) (omega arith) (omega arith) in
       let same =
       total-only test (λ (C : Blend). weight C (u + 1) (v + 1) 1) weight-here (blends P)
-      (λ B m t. weight-shares B (in-knots B m) x y (u + 1) (v + 1) across up)
+      (λ B m t. weight-shares B (in-knots B m) x y (u + 1) (v + 1) across up .equal)
       (λ B m t. weight-outside B (in-knots B m) x y (u + 1) (v + 1) across up t) in
       let some = total-positive weight-here (only test (blends P)) (λ B m. denominator-positive B (in-knots B (only-mem test (blends P) B m .0)) x y) in
       subst (λ (fs : List Fraction). (total fs .num ≡ total fs .den) × (0 < total fs .den)) (sym the-fractions)

@@ -13,10 +13,9 @@ use Rattle.mesh.specs.Lines.{allowedSide, Layout, layout, meshOf}
 use Rattle.mesh.specs.Blends.{live}
 use Rattle.mesh.specs.declared.Blend.{Blend}
 use Rattle.mesh.specs.Order.{Coarser}
-use Rattle.mesh.specs.Crossings.{anchors, crossings, Tight}
+use Rattle.mesh.specs.Crossings.{anchors, crossings, Tight, Built}
 use Rattle.axis.proofs.Tests.{and-of, same-test, cond-true}
 use Rattle.mesh.proofs.Order.{same-steps}
-use Rattle.mesh.proofs.TightMaps.{Built}
 use Rattle.mesh.proofs.CrossingList.{anchors-are-crossings, lines-are-grids, blends-tell-lines}
 use Rattle.maps.specs.declared.Map.{Map}
 use Rattle.maps.specs.Plain.{Plain, freshPlain, blends}

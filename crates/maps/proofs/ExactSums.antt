@@ -12,15 +12,15 @@ use Rattle.mesh.specs.declared.Blend.{Blend}
 use Rattle.axis.specs.Fraction.{total}
 use Rattle.mesh.specs.Lines.{Mesh}
 use Rattle.mesh.specs.Blends.{live}
-use Rattle.mesh.specs.Sound.{none, proper, fourEverywhere, noneNested, sound}
+use Rattle.mesh.specs.Sound.{none, proper, fourEverywhere, noneNested, sound, AllProperIn}
 use Rattle.mesh.specs.Weight.{Term, weight, value}
+use Rattle.mesh.specs.Order.{CoveredBy}
 use Rattle.axis.proofs.Tests.{and-both}
 use Rattle.axis.specs.Range.{Distinct}
 use Rattle.mesh.proofs.Order.{cut-or-not}
-use Rattle.axis.proofs.Scale.{Multiple, common, Scaled, scaled-total, total-positive, sum, scaled-nothing, scaled-whole}
+use Rattle.axis.proofs.Scale.{Multiple, common, Scaled, scaled-total, sum, scaled-nothing, scaled-whole}
 use Rattle.mesh.proofs.Cuts.{proper-rises}
-use Rattle.mesh.proofs.Live.{AllProper}
-use Rattle.mesh.proofs.Weights.{scaledWeight, scaled-weight, scaled-value, weight-den, Covered, terms-reproduced}
+use Rattle.mesh.proofs.Weights.{scaledWeight, scaled-weight, scaled-value, weight-den, multiples-den, terms-reproduced}
 use Rattle.mesh.proofs.SoundMaps.{live-proper, live-distinct, weights-add-up, one-at-anchor, none-at-anchor}
 use Rattle.maps.specs.Values.{paired, sumAt, readingAt}
 use Rattle.axis.proofs.Members.{entry}
@@ -74,9 +74,10 @@ paired-of (B ∷ bs) (v ∷ vs) t m =
     ⊎-elim (λ q. List·Memᴰ·head (ap (λ (t : Term). t .of) q)) (λ m. List·Memᴰ·tail (paired-of bs vs t m)) (List·Memᴰ·cases-cons m)
 
 -- a sum over proper blends has a denominator
-pub value-positive : (w h : ℕ) (bs : List Blend) (vs : List ℕ) → AllProper w h bs → (p q d : ℕ) → 0 < d → 0 < value (paired bs vs) p q d .den
+pub value-positive : (w h : ℕ) (bs : List Blend) (vs : List ℕ) → AllProperIn w h bs → (p q d : ℕ) → 0 < d →
+    0 < value (paired bs vs) p q d .den
 value-positive w h bs vs ok p q d pos =
-    total-positive _ (paired bs vs) (λ t m. mul-pos (omega arith) (weight-den w h (t .of) (ok (t .of) (paired-of bs vs t m)) p q d pos))
+    multiples-den w h (paired bs vs) (λ t m. ok (t .of) (paired-of bs vs t m)) p q d pos
 
 -- A reading, multiplied out.
 module _ (w h : ℕ) where
@@ -105,7 +106,7 @@ module _ (w h : ℕ) where
   part-scaled B ok p q = scaled-weight K w h (omega arith) (omega arith) B ok p q 1
 
   -- "exact, then rounded"
-  pub reading-rounds : (bs : List Blend) (vs : List ℕ) → AllProper w h bs → (u v : ℕ) →
+  pub reading-rounds : (bs : List Blend) (vs : List ℕ) → AllProperIn w h bs → (u v : ℕ) →
       readingAt bs vs u v ≡ nearest scale (exact bs vs (u + 1) (v + 1))
   unfolding readingAt sumAt scale part
   reading-rounds bs vs ok u v =
@@ -115,7 +116,7 @@ module _ (w h : ℕ) where
 
   -- The live blends of a sound map:
   module _ (hw : 1 ≤ w) (hh : 1 ≤ h) (M : Mesh) (s : sound w h (live w h M) ≡ true) where
-    ok : AllProper w h (live w h M)
+    ok : AllProperIn w h (live w h M)
     ok = live-proper w h hw hh M
 
     -- at an anchor its own blend is the whole of the scale, and every other nothing;
@@ -139,7 +140,8 @@ module _ (w h : ℕ) where
         (λ C m. part-scaled C (ok C m) (u + 1) (v + 1)))
 
     -- and a sum over blends that come before them is the sum of its values at the anchors times them.
-    pub exact-reproduced : (bs : List Blend) (vs : List ℕ) → ((B : Blend) → List·Memᴰ B bs → (proper w h B ≡ true) × Covered M (live w h M) B) →
+    pub exact-reproduced : (bs : List Blend) (vs : List ℕ) →
+        ((B : Blend) → List·Memᴰ B bs → (proper w h B ≡ true) × CoveredBy M (live w h M) B) →
         (p q : ℕ) → scale * exact bs vs p q ≡ sum (λ (C : Blend). exact bs vs (C .across .m) (C .up .m) * part p q C) (live w h M)
     unfolding sound scale part
     exact-reproduced bs vs cov p q =

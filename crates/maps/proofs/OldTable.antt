@@ -10,9 +10,8 @@ use lib.Seq.{getD-take, take-length, take-suc, length-take-le, set-at}
 use Rattle.mesh.specs.declared.Table.{Table}
 use Rattle.mesh.specs.Blends.{at}
 use Rattle.axis.specs.Range.{all}
-use Rattle.mesh.specs.Sound.{proper, sound, blendsOf}
+use Rattle.mesh.specs.Sound.{proper, sound, blendsOf, AllProperIn}
 use Rattle.axis.proofs.Tests.{all-of}
-use Rattle.mesh.proofs.Live.{AllProper}
 use Rattle.mesh.proofs.SoundMaps.{live-proper}
 use Rattle.maps.specs.Plain.{Plain, blends}
 use Rattle.mesh.specs.Lines.{meshOf}
@@ -22,7 +21,7 @@ use Rattle.maps.proofs.OverSquare.{four-at}
 use Rattle.axis.proofs.Members.{placed}
 use Rattle.mesh.proofs.BlendTables.{table-blends, table-count}
 
-of-proper : (P : Plain) (w h : ℕ) → P .lines .w ≡ w → P .lines .h ≡ h → 1 ≤ w → 1 ≤ h → AllProper w h (blends P)
+of-proper : (P : Plain) (w h : ℕ) → P .lines .w ≡ w → P .lines .h ≡ h → 1 ≤ w → 1 ≤ h → AllProperIn w h (blends P)
 of-proper P w h e f hw hh = rw (← e, ← f) (live-proper (P .lines .w) (P .lines .h) (omega arith) (omega arith) (meshOf (P .lines)))
 
 -- The old map of a split, as a table and an array of values.
@@ -39,7 +38,7 @@ module _ {w h : ℕ} {t : Table} {values : List ℕ} (old : InTable w h t values
   pub values-of : take (t .count) values ≡ old .of .values
   values-of = rw count-of (sym (old .are-values))
 
-  old-proper : AllProper w h (blends (old .of))
+  old-proper : AllProperIn w h (blends (old .of))
   old-proper = of-proper (old .of) w h (old .across) (old .up) (old .sides .0) (old .sides .2)
 
   pub old-table : (all (proper w h) (blendsOf t) ≡ true) × (sound w h (blendsOf t) ≡ true)

@@ -11,7 +11,7 @@ use lib.ListN.{length, take, drop, length-map, length-append, length-drop, lengt
 use mathlib.Core.List.{List, [], _∷_, _++_, map, List·Memᴰ, List·Memᴰ·cases-cons, List·Memᴰ·not-nil}
 use mathlib.Core.List.List·Memᴰ.{List·Memᴰ·head, List·Memᴰ·tail}
 use Rattle.axis.specs.Triple.{hat, spans}
-use Rattle.axis.specs.Fraction.{Equal}
+use Rattle.axis.specs.Fraction.{SameNumber}
 use Rattle.mesh.specs.Weight.{weight}
 use Rattle.axis.specs.Range.{every, all, only}
 use Rattle.mesh.specs.Sound.{overSquare, proper, blendsOf, sound, fourEverywhere, noneNested, ProperIn}
@@ -19,13 +19,15 @@ use Rattle.mesh.specs.declared.Table.{Table}
 use Rattle.mesh.specs.declared.Blend.{Blend}
 use Rattle.axis.proofs.Tests.{either, and-both, and-fails, every-at, all-at}
 use Rattle.mesh.proofs.BlendTables.{proper-most}
-use Rattle.axis.specs.Gap.{gap, share, corner}
+use Rattle.mesh.proofs.Cuts.{proper-of}
+use Rattle.mesh.proofs.Weights.{weight-den}
+use Rattle.axis.specs.Gap.{gap, share, corner, End}
 use Rattle.axis.proofs.Sums.{times-equal}
 use Rattle.axis.proofs.Triples.{rise-of}
 use Rattle.maps.specs.declared.values.Entry.{Entry}
 use Rattle.maps.specs.declared.values.Four.{Four}
 use Rattle.maps.specs.Inner.{AtPoint, entriesOver, entries, Listed, AllListed}
-use Rattle.axis.proofs.Gaps.{End, corner-in, gap-most, gap-positive, hat-outside-step, hat-share, share-most}
+use Rattle.axis.proofs.Gaps.{corner-in, gap-most, gap-positive, hat-outside-step, hat-share, share-most}
 
 -- the weight of a blend at a corner of a square, over the gaps in which the square lies: both numbers are small
 module _ (B : Blend) (ok : ProperIn 128 128 B) (x y : ℕ) where
@@ -40,11 +42,17 @@ module _ (B : Blend) (ok : ProperIn 128 128 B) (x y : ℕ) where
     numerator-most = mul-le-mul (share-most (B .across) x u (ok .across) e) (share-most (B .up) y v (ok .up) f)
 
     pub weight-shares :
-        Equal (weight B u v 1) (record { num = share (B .across) x u * share (B .up) y v; den = gap (B .across) x * gap (B .up) y })
+        SameNumber (weight B u v 1)
+        (record { num = share (B .across) x u * share (B .up) y v; den = gap (B .across) x * gap (B .up) y })
     weight-shares =
-        times-equal (hat (B .across) u 1) (record { num = share (B .across) x u; den = gap (B .across) x })
-        (hat (B .up) v 1) (record { num = share (B .up) y v; den = gap (B .up) y })
-        (hat-share (B .across) x u e) (hat-share (B .up) y v f)
+        record {
+          equal =
+              times-equal (hat (B .across) u 1) (record { num = share (B .across) x u; den = gap (B .across) x })
+              (hat (B .up) v 1) (record { num = share (B .up) y v; den = gap (B .up) y })
+              (hat-share (B .across) x u e) (hat-share (B .up) y v f);
+          defined = weight-den 128 128 B (proper-of 128 128 B ok) u v 1 (omega arith);
+          also-defined = denominator-positive;
+        }
 
     pub weight-outside : overSquare x y B ≡ false → weight B u v 1 .num ≡ 0
     weight-outside o =

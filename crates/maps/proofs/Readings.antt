@@ -14,20 +14,19 @@ use Rattle.mesh.specs.declared.Split.{Split}
 use Rattle.mesh.specs.declared.Blend.{Blend}
 use Rattle.mesh.specs.Lines.{meshOf}
 use Rattle.mesh.specs.Blends.{anchored}
-use Rattle.mesh.specs.Sound.{none, proper, sound}
+use Rattle.mesh.specs.Sound.{none, proper, sound, AllProperIn}
 use Rattle.axis.proofs.Tests.{either, and-both, cond-true, cond-false}
 use Rattle.mesh.proofs.OneLineMore.{more-finer}
 use Rattle.mesh.proofs.Order.{finer-back}
 use Rattle.mesh.proofs.Cuts.{proper-facts}
-use Rattle.mesh.proofs.Live.{AllProper}
 use Rattle.axis.proofs.Members.{map-mem, entry, placed, entry-map, set-mem}
 use Rattle.axis.proofs.Scale.{sum, sum-same}
-use Rattle.mesh.proofs.Weights.{Covered}
 use Rattle.mesh.proofs.SoundMaps.{live-left, live-proper, live-distinct}
 use Rattle.mesh.proofs.NewAnchors.{anchor-kept}
 use Rattle.maps.specs.Plain.{Plain, blends}
 use Rattle.maps.specs.Values.{readingAt, placeOf, carried, drawn}
 use Rattle.mesh.specs.Splits.{withLine, liveOf}
+use Rattle.mesh.specs.Order.{CoveredBy}
 use Rattle.maps.specs.Calls.{setPlain}
 use Rattle.maps.specs.Holds.{Valued}
 use Rattle.maps.proofs.Rounding.{nearest, nearest-whole, nearest-most, means-near}
@@ -53,7 +52,7 @@ place-found (B ∷ bs) m n lt =
     (either (anchored m n B))
 
 module _ (P : Plain) (valued : Valued P) where
-  pub blends-proper : AllProper (P .lines .w) (P .lines .h) (blends P)
+  pub blends-proper : AllProperIn (P .lines .w) (P .lines .h) (blends P)
   blends-proper = live-proper (P .lines .w) (P .lines .h) (valued .wide .0) (valued .tall .0) (meshOf (P .lines))
 
   -- a reading at the anchor of a proper blend, on its knots
@@ -117,7 +116,8 @@ module _ (P : Plain) (valued : Valued P) where
 module _ (P : Plain) (valued : Valued P) (s : Split) (still : sound (P .lines .w) (P .lines .h) (liveOf (withLine (P .lines) s)) ≡ true) where
   -- every live blend of the map just before comes before the new ones;
   pub old-covered : (B : Blend) → List·Memᴰ B (blends P) →
-      (proper (P .lines .w) (P .lines .h) B ≡ true) × Covered (meshOf (withLine (P .lines) s)) (liveOf (withLine (P .lines) s)) B
+      (proper (P .lines .w) (P .lines .h) B ≡ true) ×
+      CoveredBy (meshOf (withLine (P .lines) s)) (liveOf (withLine (P .lines) s)) B
   old-covered B m = (
     blends-proper P valued B m,
     λ C l. let r = live-left (P .lines .w) (P .lines .h) (valued .wide .0) (valued .tall .0) (meshOf (P .lines)) B .0 m in
@@ -125,7 +125,7 @@ module _ (P : Plain) (valued : Valued P) (s : Split) (still : sound (P .lines .w
         (r .0, r .1, finer-back (more-finer (P .lines) s) (r .2) l),
   )
 
-  new-proper : AllProper (P .lines .w) (P .lines .h) (liveOf (withLine (P .lines) s))
+  new-proper : AllProperIn (P .lines .w) (P .lines .h) (liveOf (withLine (P .lines) s))
   new-proper = live-proper (P .lines .w) (P .lines .h) (valued .wide .0) (valued .tall .0) (meshOf (withLine (P .lines) s))
 
   -- each new value is the old map's reading at the anchor;

@@ -14,8 +14,7 @@ use Rattle.mesh.specs.declared.Blend.{Blend}
 use Rattle.mesh.specs.Splits.{exactNumber}
 use Rattle.mesh.specs.Lines.{meshOf}
 use Rattle.mesh.specs.Sound.{none}
-use Rattle.mesh.specs.Weight.{Term, weight, value}
-use Rattle.mesh.proofs.Straight.{Flow, flowAt, atAnchor}
+use Rattle.mesh.specs.Weight.{Term, weight, value, Flow, flowAt, atAnchor}
 use Rattle.mesh.proofs.SoundMaps.{live-straight}
 use Rattle.maps.specs.declared.Map.{Map}
 use Rattle.maps.specs.declared.Placed.{Placed}
@@ -132,7 +131,8 @@ module _ (P : Plain) (at : Reached P) (A B C D : ℤ) (given : ValuesStraight (r
     sum-flows =
         let v = at .valued in
         let kept : (F : Flow) → _ = λ F.
-        live-straight (P .lines .w) (P .lines .h) (v .wide .0) (v .tall .0) (meshOf (P .lines)) (v .is-sound) F p q d positive p-in q-in in
+        live-straight (P .lines .w) (P .lines .h) (v .wide .0) (v .tall .0) (meshOf (P .lines)) (v .is-sound)
+        F p q d positive p-in q-in .equal in
         let weighs : Blend → Fraction = λ X. weight X (p + d) (q + d) d in
         let j = sums-join weighs (atAnchor (below A B C D)) (atAnchor (above A B C D)) (blends P) (P .values) (v .counted) at-place in
         moved _ _ _ _ _ _ _ _ _ (j .num) (j .den) (j .den′) (kept (below A B C D)) (kept (above A B C D))

@@ -8,20 +8,26 @@ use borrow.Author.Tests.{leb-true, eqb-true, eq-eqb}
 use lib.Dec.{eqb, leb}
 use lib.ListN.{length, length-append}
 use lib.Seq.{length-take-le}
-use Rattle.axis.specs.Range.{all}
 use Rattle.axis.proofs.Tests.{and-both, and-of, all-append}
-use Rattle.mesh.specs.Lines.{Layout, layout, layoutOf, splitsOf, allowedSide, inRange}
+use Rattle.mesh.specs.Lines.{Layout, layout, layoutOf, splitsOf, allowedSide, Ranges}
 use Rattle.mesh.specs.Sound.{sound}
 use Rattle.mesh.specs.Splits.{liveOf, withLine, exactNumber, accepted}
 use Rattle.mesh.specs.Replay.{replays, Replays}
 use Rattle.mesh.specs.declared.Split.{Split}
 use Rattle.mesh.specs.declared.Lines.{Lines}
+use Rattle.mesh.specs.Crossings.{Built}
 use Rattle.mesh.proofs.Ranges.{side-says}
 use Rattle.mesh.proofs.AtMost.{at-most}
 use Rattle.mesh.proofs.Quadrants.{four-sound}
-use Rattle.mesh.proofs.TightMaps.{Built, fresh-built}
+use Rattle.mesh.proofs.TightMaps.{fresh-built}
 use Rattle.mesh.proofs.Passing.{exact-says}
 use Rattle.mesh.proofs.TwoLooks.{stays-built}
+
+-- An accepted split leaves a sound map whose lines are its grids, if the map before is one.
+pub accepted-built : (P : Layout) (s : Split) → Built P → exactNumber P s ≡ 0 → Built (withLine P s)
+accepted-built P s b e =
+    let r = exact-says P s e in
+    stays-built P b s (r .0 .fits) (r .0 .apart) (r .0 .ends) (r .0 .cut) (r .1)
 
 -- splits after those of a layout
 abbrev withLines : Layout → List Split → Layout
@@ -29,7 +35,7 @@ withLines P ss = layout (P .w) (P .h) (P .splits ++ ss)
 
 -- accepted ones leave splits in range and a sound map, whose lines are its grids
 pub record Standing (P : Layout) : Type 0 where
-  pub ranges : all (inRange (P .w) (P .h)) (P .splits) ≡ true
+  pub ranges : Ranges P
   pub built : Built P
 
 accepted-stands : (ss : List Split) (P : Layout) → Standing P → accepted P ss ≡ true → Standing (withLines P ss)
@@ -42,7 +48,7 @@ accepted-stands (s ∷ ss) P ok e =
     (accepted-stands ss (withLine P s)
     (record {
       ranges = all-append _ (P .splits) (s ∷ []) (ok .ranges) (and-of _ true (r .0 .fits) refl);
-      built = stays-built P (ok .built) s (r .0 .fits) (r .0 .apart) (r .0 .ends) (r .0 .cut) (r .1);
+      built = accepted-built P s (ok .built) (eqb-true _ _ (a .0));
     })
     (a .1))
 

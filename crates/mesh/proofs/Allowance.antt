@@ -18,11 +18,11 @@ use Rattle.mesh.specs.Lengthening.{containing, Contains, stepsOf, candid
 use Rattle.mesh.specs.Ends.{goodEnds, nearestGood, LeastSoundLine, Allowances}
 use Rattle.mesh.specs.Replay.{Replays}
 use Rattle.mesh.specs.declared.Split.{Split}
+use Rattle.mesh.specs.Crossings.{Built}
 use Rattle.mesh.proofs.Ranges.{side-most}
 use Rattle.mesh.proofs.Containing.{contains-same, containing-complete}
 use Rattle.mesh.proofs.Passing.{Given, given-says, asked-given, exact-passes, ends-in}
 use Rattle.mesh.proofs.ChosenLine.{candidate-exact}
-use Rattle.mesh.proofs.TightMaps.{Built}
 use Rattle.mesh.proofs.TwoLooks.{two-looks}
 use Rattle.mesh.proofs.LeastLine.{least-sound-line}
 use Rattle.mesh.proofs.Accepted.{replays-sides, replays-stands}

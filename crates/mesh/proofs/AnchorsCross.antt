@@ -3,8 +3,7 @@ use Prim.Native.Nat.{ℕ, _+_, _-_, _≤_, _<_}
 use native.Mathlib.Omega.{arith}
 use mathlib.Core.Path.{_≡_, refl, sym, ap, subst}
 use mathlib.Core.Bool.{true}
-use Rattle.axis.specs.Triple.{Side, lower, upper}
-use Rattle.axis.proofs.Parts.{OnSide}
+use Rattle.axis.specs.Triple.{Side, lower, upper, OnSide}
 use Rattle.axis.proofs.Runs.{if-at-most, if-below, if-equal}
 use Rattle.mesh.specs.declared.Blend.{Blend}
 use Rattle.mesh.proofs.View.{View, turn, flip, Live, Over, Knot, SoundView, TightView, turned, turn-sound, turn-tight, flip-tight}

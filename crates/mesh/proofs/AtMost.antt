@@ -12,17 +12,18 @@ use lib.ListN.{length, length-append, length-map}
 use borrow.Author.Tests.{eqb-true, ne-eqb, leb-true, leb-false}
 use Rattle.axis.specs.Limits.{largestSide, mostSplits, mostBlends}
 use Rattle.axis.specs.Range.{any, only, joined, Distinct}
-use Rattle.mesh.specs.Lines.{Direction, upright, level, mesh, freshMesh, draws, start, end, number, other, side}
+use Rattle.mesh.specs.Lines.{Direction, upright, level, mesh, freshMesh, draws, start, end, number, other, side, HasLine}
 use Rattle.mesh.specs.Blends.{crossed, live, at, place}
 use Rattle.mesh.specs.Sound.{sound}
 use Rattle.mesh.specs.declared.Split.{Split}
 use Rattle.axis.specs.declared.Triple.{Triple}
+use Rattle.axis.specs.Triple.{Knots}
 use Rattle.mesh.specs.declared.Blend.{Blend}
 use Rattle.axis.proofs.Tests.{either, and-both, or-either, or-left, any-at, mem-only, mem-joined}
 use Rattle.axis.proofs.Distinct.{distinct-length, map-distinct}
 use Rattle.axis.proofs.Members.{map-mem, mem-map}
-use Rattle.axis.proofs.Triples.{Knots, First, is-low, is-high, AtFresh}
-use Rattle.mesh.proofs.Order.{OnLine, comes-on-lines}
+use Rattle.axis.proofs.Triples.{First, is-low, is-high, AtFresh}
+use Rattle.mesh.proofs.Order.{comes-on-lines}
 use Rattle.mesh.proofs.Cuts.{proper-facts}
 use Rattle.mesh.proofs.Places.{at-inj}
 use Rattle.mesh.proofs.Ascending.{OwnAnchors}
@@ -71,12 +72,15 @@ square-of-sum a b s =
     subst (λ (n : ℕ). n ≤ 1024) (sym c) (most (30 - b) (2 + a) (2 + b) (omega arith) (omega arith)))
     (either (leb a 30))
 
-first-on-lines : (w h : ℕ) (splits : List Split) (d : Direction) (t : Triple) → First (side d w h) t → Knots (OnLine (mesh w h splits) d) t
+first-on-lines : (w h : ℕ) (splits : List Split) (d : Direction) (t : Triple) → First (side d w h) t →
+    Knots (HasLine (mesh w h splits) d) t
 first-on-lines w h splits d t is-low =
-    let on : (z : ℕ) → AtFresh (side d w h) z → OnLine (mesh w h splits) d z = λ z e. (0, fresh-line w h splits d z 0 e (omega arith)) in
+    let on : (z : ℕ) → AtFresh (side d w h) z → HasLine (mesh w h splits) d z =
+    λ z e. (0, fresh-line w h splits d z 0 e (omega arith)) in
     record { l = on _ (inl refl); m = on _ (inr (inl refl)); r = on _ (inr (inr (inl refl))) }
 first-on-lines w h splits d t is-high =
-    let on : (z : ℕ) → AtFresh (side d w h) z → OnLine (mesh w h splits) d z = λ z e. (0, fresh-line w h splits d z 0 e (omega arith)) in
+    let on : (z : ℕ) → AtFresh (side d w h) z → HasLine (mesh w h splits) d z =
+    λ z e. (0, fresh-line w h splits d z 0 e (omega arith)) in
     record { l = on _ (inr (inl refl)); m = on _ (inr (inr (inl refl))); r = on _ (inr (inr (inr refl))) }
 
 -- the splits of a direction, and the line positions within the domain
@@ -101,7 +105,8 @@ both (s ∷ rest) =
     (λ (f : eqb (s .direction) 1 ≡ false). rw (e, f) (omega arith)) (either (eqb (s .direction) 1)))
     (either (eqb (s .direction) 0))
 
-on-position : (w h : ℕ) (splits : List Split) (d : Direction) (z : ℕ) → 1 ≤ z → z ≤ side d w h + 1 → OnLine (mesh w h splits) d z →
+on-position : (w h : ℕ) (splits : List Split) (d : Direction) (z : ℕ) → 1 ≤ z → z ≤ side d w h + 1 →
+    HasLine (mesh w h splits) d z →
     List·Memᴰ z (positions w h d splits)
 unfolding mesh draws positions of-direction
 on-position w h splits d z lo hi on =
@@ -122,7 +127,7 @@ on-position w h splits d z lo hi on =
 
 -- the knots of a live blend stand on lines
 pub live-knots : (w h : ℕ) → 1 ≤ w → 1 ≤ h → (splits : List Split) (d : Direction) (B : Blend) → List·Memᴰ B (live w h (mesh w h splits)) →
-    Knots (OnLine (mesh w h splits) d) (crossed d B)
+    Knots (HasLine (mesh w h splits) d) (crossed d B)
 live-knots w h hw hh splits d B m =
     let l = live-left w h hw hh (mesh w h splits) B .0 m in
     comes-on-lines d (firstFour-rises w h hw hh (l .0) (l .1))

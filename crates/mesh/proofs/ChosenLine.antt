@@ -12,10 +12,10 @@ use Rattle.mesh.specs.declared.Split.{Split}
 use Rattle.mesh.specs.declared.Blend.{Blend}
 use Rattle.axis.specs.Range.{any}
 use Rattle.mesh.specs.Lines.{Layout, Mesh, Direction, direction, inRange, meshOf}
-use Rattle.mesh.specs.Blends.{isCut}
+use Rattle.mesh.specs.Blends.{isCut, RiseB}
 use Rattle.mesh.specs.Order.{Coarser}
 use Rattle.axis.proofs.Tests.{and-of, any-at, any-of}
-use Rattle.mesh.proofs.Cuts.{RiseB, cut-exactly, proper-rises}
+use Rattle.mesh.proofs.Cuts.{cut-exactly, proper-rises}
 use Rattle.mesh.proofs.Order.{finer-cuts}
 use Rattle.mesh.proofs.SoundMaps.{live-proper}
 use Rattle.mesh.proofs.Containing.{contains-spanning, chosen-least}

@@ -9,22 +9,21 @@ use mathlib.Core.List.List·Memᴰ.{List·Memᴰ·head}
 use lib.Dec.{ltb, eqb}
 use lib.ListN.{length}
 use borrow.Author.Tests.{eq-eqb, ltb-true}
-use Rattle.axis.specs.Range.{all, any, only}
-use Rattle.axis.specs.Triple.{Side, lower, upper}
+use Rattle.axis.specs.Range.{any, only}
+use Rattle.axis.specs.Triple.{Side, lower, upper, Knots, KnotOf, OnSide}
 use Rattle.axis.specs.declared.Triple.{Triple}
 use Rattle.axis.proofs.Tests.{true-not-false, and-both, and-of, or-either, or-left, or-right, same-test, all-at, any-at, any-of, only-mem, mem-only, each-same}
 use Rattle.axis.proofs.Runs.{if-at-most, if-equal}
 use Rattle.axis.proofs.Members.{map-each}
 use Rattle.axis.proofs.Counts.{one-at-most}
-use Rattle.axis.proofs.Triples.{Knots, AtFresh}
-use Rattle.axis.proofs.Sides.{KnotOf, StepIn, column}
-use Rattle.axis.proofs.Parts.{OnSide}
-use Rattle.mesh.specs.Lines.{Direction, upright, level, other, side, direction, mesh, freshMesh, draws, inRange, Layout, meshOf}
+use Rattle.axis.proofs.Triples.{AtFresh}
+use Rattle.axis.proofs.Sides.{StepIn, column}
+use Rattle.mesh.specs.Lines.{Direction, upright, level, other, side, direction, mesh, freshMesh, draws, inRange, Layout, meshOf, Ranges}
 use Rattle.mesh.specs.Blends.{anchored, once, leavesOf, inTableOrder, refine, live, firstFour, crossed}
 use Rattle.mesh.specs.Order.{Coarser}
 use Rattle.mesh.specs.Sound.{sound}
 use Rattle.mesh.specs.Splits.{liveOf}
-use Rattle.mesh.specs.Crossings.{point, crosses, crossings, anchors, onGrid, Tight}
+use Rattle.mesh.specs.Crossings.{point, crosses, crossings, anchors, onGrid, Tight, Gridded, Built}
 use Rattle.mesh.specs.declared.Split.{Split}
 use Rattle.mesh.specs.declared.Blend.{Blend}
 use Rattle.mesh.proofs.TableOrder.{anchored-at, order-mem, mem-order, once-distinct}
@@ -36,7 +35,7 @@ use Rattle.mesh.proofs.AnchorsCross.{Crossing, crossing-anchored, ancho
 use Rattle.mesh.proofs.MapView.{live-grid}
 use Rattle.mesh.proofs.Grids.{grid-says, grid-of}
 use Rattle.mesh.proofs.OneLineMore.{Ranged, Row, ranged, draws-says, draws-of}
-use Rattle.mesh.proofs.TightMaps.{Built, Gridded, viewOf, soundOf, tight-view}
+use Rattle.mesh.proofs.TightMaps.{viewOf, soundOf, tight-view}
 
 -- a crossing, as the test of it says
 module _ (P : Layout) (m n : ℕ) where
@@ -62,8 +61,9 @@ at-point m n (B ∷ []) false here few some none = absurd (none refl B (List·Me
 at-point m n (B ∷ C ∷ ys) b here few some none = absurd (omega arith)
 
 module _ (P : Layout) (b : Built P) where
-  is-sound : sound (P .w) (P .h) (liveOf P) ≡ true
-  is-sound = four-sound (P .w) (P .h) (b .wide) (b .high) (P .splits) (b .four)
+  -- Four live blends over every square make the map sound.
+  pub built-sound : sound (P .w) (P .h) (liveOf P) ≡ true
+  built-sound = four-sound (P .w) (P .h) (b .wide) (b .high) (P .splits) (b .four)
 
   -- The anchors in table order are the crossings in the same order.
   pub anchors-are-crossings : anchors (liveOf P) ≡ crossings (P .w) (P .h) (meshOf P)
@@ -80,8 +80,8 @@ module _ (P : Layout) (b : Built P) where
           (λ B C mB mC e f.
           let i = anchored-at m n B e in
           let j = anchored-at m n C f in
-          own-anchors (P .w) (P .h) (b .wide) (b .high) (meshOf P) is-sound B C (listed B mB (i .0) (i .1)) (listed C mC (j .0) (j .1)) (i .0 ∙ sym (j .0))
-          (i .1 ∙ sym (j .1))))
+          own-anchors (P .w) (P .h) (b .wide) (b .high) (meshOf P) built-sound B C
+          (listed B mB (i .0) (i .1)) (listed C mC (j .0) (j .1)) (i .0 ∙ sym (j .0)) (i .1 ∙ sym (j .1))))
           (λ e. let a = crossing-anchored (viewOf upright P) (tight-view P b upright) m n (crosses-says P m n hm hn e) in (
             a .blend,
             mem-only (anchored m n) bs (a .blend) (order-mem (P .w) (P .h) bs (a .blend) (a .live) .0)
@@ -131,10 +131,6 @@ module _ (P : Layout) (b : Built P) where
           if-equal z 1 (λ one. at-edge upper (omega arith, omega arith) (λ B m i. omega (arith, known .x .rises B m)))
           (λ ne. if-at-most z (side d (P .w) (P .h)) (λ le. b .tight d z k (omega arith, le) (lk, omega arith) on)
           (λ gt. at-edge lower (omega arith, omega arith) (λ B m i. omega (arith, known .x .rises B m))))
-
--- all splits of a layout are in range
-abbrev Ranges : Layout → Type 0
-Ranges P = all (inRange (P .w) (P .h)) (P .splits) ≡ true
 
 -- a unit step of a layout is a fresh line's, or one that a split in range draws
 pub data StepOf (P : Layout) (d : Direction) (z k : ℕ) : Type 0 where

@@ -7,22 +7,17 @@ use mathlib.Core.Logic.{_⊎_, inl, inr, ⊎-elim}
 use mathlib.Core.Bool.{true, false, _&&_, not}
 use borrow.Author.Tests.{not-true, ne-eqb, eqb-false}
 use lib.Dec.{eqb}
-use Rattle.axis.specs.Triple.{Side, half, inside, between, rising, sameTriple}
+use Rattle.axis.specs.Triple.{Side, half, inside, between, rising, sameTriple, Rise, Knots}
 use Rattle.mesh.specs.Lines.{Direction, upright, level, other, Mesh}
-use Rattle.mesh.specs.Blends.{blend, crossed, along, coversBlend, cuts, halve, cutter, isCut, size, same}
+use Rattle.mesh.specs.Blends.{blend, crossed, along, coversBlend, cuts, halve, cutter, isCut, size, same, RiseB}
 use Rattle.mesh.specs.Sound.{proper, nested, ProperIn}
 use Rattle.axis.specs.declared.Triple.{Triple}
 use Rattle.mesh.specs.declared.Blend.{Blend}
 use Rattle.axis.proofs.Tests.{either, true-not-false, false-of, and-both, and-of, or-either, or-left, or-right, every-at, every-of}
 use Rattle.axis.proofs.Nearest.{nearest-first}
-use Rattle.axis.proofs.Triples.{Rise, rising-facts, rising-of, rise-of, rises-wider, rises-within, Inside, inside-fact, inside-test, Within, within-refl, within-trans, same-triple, triple-same, half-rises, half-within, half-narrower, Knots, half-knots, keeps-middle, From, whole, part, cut-again, cut-once}
+use Rattle.axis.proofs.Triples.{rising-facts, rising-of, rise-of, rises-wider, rises-within, Inside, inside-fact, inside-test, Within, within-refl, within-trans, same-triple, triple-same, half-rises, half-within, half-narrower, half-knots, keeps-middle, From, whole, part, cut-again, cut-once}
 
--- both triples rise
-pub record RiseB (B : Blend) : Type 0 where
-  pub across : Rise (B .across)
-  pub up : Rise (B .up)
-
--- so do those of a proper blend, within the knots of its sides
+-- both triples of a proper blend rise, within the knots of its sides
 pub proper-facts : (w h : ℕ) (B : Blend) → proper w h B ≡ true → ProperIn w h B
 proper-facts w h B e =
     let b = and-both (rising w (B .across)) (rising h (B .up)) e in

@@ -4,9 +4,8 @@ use native.Mathlib.Omega.{arith}
 use mathlib.Core.Path.{_≡_, sym, ap, subst, _∙_}
 use mathlib.Core.Logic.{_⊎_, inl, inr, ⊎-elim}
 use mathlib.Core.Bool.{Bool, true, false}
-use Rattle.axis.specs.Triple.{triple, Side, lower, upper, RisesIn}
+use Rattle.axis.specs.Triple.{triple, Side, lower, upper, RisesIn, OnSide}
 use Rattle.axis.proofs.Tests.{true-not-false}
-use Rattle.axis.proofs.Parts.{OnSide}
 use Rattle.axis.proofs.Runs.{if-at-most, if-below, if-equal}
 use Rattle.axis.proofs.Triples.{rise-of}
 use Rattle.axis.proofs.Sides.{StepIn, KnotIn, opposite, from, to, knot-step, past-start, knots-from, part-within, inside-of, mirror, in-mirror}

@@ -10,20 +10,20 @@ use lib.ListN.{length}
 use borrow.Author.Tests.{eqb-true, eq-eqb, lt-ltb}
 use Rattle.axis.specs.Triple.{low, high}
 use Rattle.mesh.specs.Lines.{Direction, upright, level, mesh, freshMesh, side, other}
-use Rattle.mesh.specs.Blends.{blend, same, once, leavesOf, refine, live, firstFour, crossed, along, place}
+use Rattle.mesh.specs.Blends.{blend, same, once, leavesOf, refine, live, firstFour, crossed, along, place, Rising}
 use Rattle.mesh.specs.Order.{Uncut}
-use Rattle.mesh.specs.Sound.{overSquare, fourEverywhere, noneNested, nested, sound}
+use Rattle.mesh.specs.Sound.{overSquare, fourEverywhere, noneNested, nested, sound, AllProperIn}
 use Rattle.axis.specs.declared.Triple.{Triple}
 use Rattle.mesh.specs.declared.Split.{Split}
 use Rattle.mesh.specs.declared.Blend.{Blend}
 use Rattle.axis.proofs.Tests.{true-not-false, and-both, and-of, or-either, or-left, false-of, every-of, all-of, only-all}
 use Rattle.axis.proofs.Triples.{between-fact, First, is-low, is-high, AtFresh, first-rises, first-spans, first-uncut, first-apart}
 use Rattle.mesh.proofs.Cuts.{cut-fact, proper-of, proper-rises, blend-same, nested-facts}
-use Rattle.mesh.proofs.Order.{left-uncut, left-itself, Rising}
+use Rattle.mesh.proofs.Order.{left-uncut, left-itself}
 use Rattle.mesh.proofs.TableOrder.{once-mem, once-distinct}
 use Rattle.axis.proofs.Distinct.{Ascending, ascending-unique}
 use Rattle.mesh.proofs.Ascending.{OwnAnchors, order-ascending}
-use Rattle.mesh.proofs.Live.{AllProper, refine-left, left-refine, refine-leaves}
+use Rattle.mesh.proofs.Live.{refine-left, left-refine, refine-leaves}
 
 -- both triples of a first blend are first triples
 pub record FirstBlend (w h : ℕ) (B : Blend) : Type 0 where
@@ -40,7 +40,7 @@ first-four w h B m =
     at-head : {C : Blend} {bs : List Blend} → FirstBlend w h C → (List·Memᴰ B bs → FirstBlend w h B) → List·Memᴰ B (C ∷ bs) → FirstBlend w h B
     at-head f rest k = ⊎-elim (λ q. subst (FirstBlend w h) (sym q) f) rest (List·Memᴰ·cases-cons k)
 
-pub first-proper : (w h : ℕ) → 1 ≤ w → 1 ≤ h → AllProper w h (firstFour w h)
+pub first-proper : (w h : ℕ) → 1 ≤ w → 1 ≤ h → AllProperIn w h (firstFour w h)
 first-proper w h hw hh B m =
     let f = first-four w h B m in
     proper-of w h B (record { across = first-rises w hw (B .across) (f .across); up = first-rises h hh (B .up) (f .up) })

@@ -13,14 +13,15 @@ use Rattle.axis.proofs.Tests.{either, true-not-false, false-of, and-both, and-o
 use Rattle.axis.proofs.Runs.{if-equal}
 use Rattle.axis.proofs.Sides.{KnotIn, part-says, part-test, Clear, half-clear, still-clear}
 use Rattle.mesh.specs.Lines.{Direction, other, side, Mesh, Layout, meshOf, onLine}
-use Rattle.mesh.specs.Blends.{crossed, along, cuts, halve, isCut}
+use Rattle.mesh.specs.Blends.{crossed, along, cuts, halve, isCut, RiseB}
 use Rattle.mesh.specs.Order.{Comes, here, cut}
 use Rattle.mesh.specs.Sound.{sound}
 use Rattle.mesh.specs.Splits.{liveOf, withLine, soundWith}
 use Rattle.mesh.specs.Ends.{gapEnds, back, abreast, goodEnd}
 use Rattle.mesh.specs.declared.Split.{Split}
 use Rattle.mesh.specs.declared.Blend.{Blend}
-use Rattle.mesh.proofs.Cuts.{RiseB, cut-fact, halve-rises, crossed-rises}
+use Rattle.mesh.specs.Crossings.{Built}
+use Rattle.mesh.proofs.Cuts.{cut-fact, halve-rises, crossed-rises}
 use Rattle.mesh.proofs.Order.{some-half, left-uncut}
 use Rattle.mesh.proofs.Fresh.{fresh-line}
 use Rattle.mesh.proofs.Quadrants.{four-sound}
@@ -28,7 +29,7 @@ use Rattle.mesh.proofs.View.{View}
 use Rattle.mesh.proofs.Neighbours.{Abreast, line-ends, inward, outward}
 use Rattle.mesh.proofs.Filling.{Good, edge, line, blends, edgeOf, Drawn}
 use Rattle.mesh.proofs.OneLineMore.{Ranged, Row, endOf, more-finer, step-drawn, step-either}
-use Rattle.mesh.proofs.TightMaps.{Built, viewOf, tight-view, still-built, abreast-level, twice, live-rises}
+use Rattle.mesh.proofs.TightMaps.{viewOf, tight-view, still-built, abreast-level, twice, live-rises}
 use Rattle.mesh.proofs.SoundLines.{cut-either, halve-same, halve-cross, from-before, unless-cut, line-four}
 
 module _ (P : Layout) (d : Direction) (z : ℕ) (e : Side) (k : ℕ) where

@@ -1,24 +1,19 @@
 -- The grids of the live blends: a unit step on the grid of a blend is on that of something left of it, whatever cuts it.
-use Prim.Native.Nat.{ℕ, _≤_, _<_}
+use Prim.Native.Nat.{ℕ, _≤_}
 use mathlib.Core.Path.{_≡_}
 use mathlib.Core.Bool.{true}
 use mathlib.Core.List.{List·Memᴰ}
 use Rattle.axis.specs.Triple.{Side}
 use Rattle.axis.proofs.Tests.{and-both, and-of, within-of, within-at}
-use Rattle.axis.proofs.Sides.{KnotOf, knot-says, knot-of, half-knot, half-step}
+use Rattle.axis.proofs.Sides.{knot-says, knot-of, half-knot, half-step}
 use Rattle.mesh.specs.Lines.{Direction, upright, level, Mesh}
-use Rattle.mesh.specs.Blends.{crossed, along, halve, live}
+use Rattle.mesh.specs.Blends.{crossed, halve, live, RiseB}
 use Rattle.mesh.specs.Order.{Left, Coarser}
-use Rattle.mesh.specs.Crossings.{onGrid}
+use Rattle.mesh.specs.Crossings.{onGrid, OnGrid}
 use Rattle.mesh.specs.declared.Blend.{Blend}
-use Rattle.mesh.proofs.Cuts.{RiseB, proper-rises}
+use Rattle.mesh.proofs.Cuts.{proper-rises}
 use Rattle.mesh.proofs.Order.{by-cutting, left-itself, left-front, finer-back}
 use Rattle.mesh.proofs.SoundMaps.{live-left, live-proper}
-
-pub record OnGrid (d : Direction) (z k : ℕ) (B : Blend) : Type 0 where
-  pub knot : KnotOf z (crossed d B)
-  pub lo : along d B .l ≤ k
-  pub hi : k < along d B .r
 
 pub grid-says : (d : Direction) (z k : ℕ) (B : Blend) → onGrid d z k B ≡ true → OnGrid d z k B
 grid-says d z k B e =

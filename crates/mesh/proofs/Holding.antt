@@ -11,8 +11,8 @@ use lib.ListN.{length, getD, length-set}
 use lib.Seq.{getD-set-same, getD-set-other}
 use Rattle.axis.specs.Range.{only, Distinct}
 use Rattle.mesh.specs.Lines.{Direction, upright, level, side, Mesh, mesh}
-use Rattle.mesh.specs.Blends.{crossed, once, anchored, inTableOrder, at, place, leavesOf, firstFour, refine, live}
-use Rattle.mesh.specs.Order.{Uncut, Left, Coarser}
+use Rattle.mesh.specs.Blends.{crossed, once, anchored, inTableOrder, at, place, leavesOf, firstFour, refine, live, Rising}
+use Rattle.mesh.specs.Order.{Uncut, Left, Coarser, SameMembers}
 use Rattle.mesh.specs.Sound.{sound, ProperIn}
 use Rattle.mesh.specs.Bytes.{Rows, Zeros, packed, unpacked, keep, keepAll, kept, walk}
 use Rattle.mesh.specs.Carried.{Leads, Bare, Held, Walks}
@@ -23,7 +23,7 @@ use Rattle.axis.proofs.Distinct.{only-distinct, singleton, nothing, ascending-u
 use Rattle.axis.proofs.Runs.{if-equal}
 use Rattle.mesh.proofs.Bytes.{zeros}
 use Rattle.mesh.proofs.Cuts.{proper-facts, proper-rises}
-use Rattle.mesh.proofs.Order.{Rising, SameMembers, leavesOf-left, left-leavesOf, left-uncut, left-itself, finer-leaves, keeps-anchor}
+use Rattle.mesh.proofs.Order.{leavesOf-left, left-leavesOf, left-uncut, left-itself, finer-leaves, keeps-anchor}
 use Rattle.mesh.proofs.TableOrder.{anchored-at, once-mem, mem-once, once-distinct, order-mem}
 use Rattle.mesh.proofs.Places.{unpack-packed, packed-positive, at-inj}
 use Rattle.mesh.proofs.Live.{same-table}

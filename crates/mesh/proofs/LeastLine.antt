@@ -15,14 +15,13 @@ use Rattle.axis.proofs.Runs.{if-at-most, if-equal}
 use Rattle.mesh.specs.Lines.{direction, Layout}
 use Rattle.mesh.specs.Splits.{liveOf, withLine, given}
 use Rattle.mesh.specs.Lengthening.{spanning, Contains, adds, known, newAnchors, stepsOf, within, chosen, Candidate, Allowed, Least}
-use Rattle.mesh.specs.Crossings.{anchor}
+use Rattle.mesh.specs.Crossings.{anchor, Built}
 use Rattle.mesh.specs.Ends.{nearestGood, LeastSoundLine}
 use Rattle.mesh.specs.declared.Split.{Split}
 use Rattle.mesh.proofs.Containing.{contains-spanning, contains-same, chosen-least}
 use Rattle.mesh.proofs.Passing.{Given, given-says, candidate-says, ends-in}
 use Rattle.mesh.proofs.OneLineMore.{more-finer, ranged}
 use Rattle.mesh.proofs.ChosenLine.{contains-fits, contains-finer}
-use Rattle.mesh.proofs.TightMaps.{Built}
 use Rattle.mesh.proofs.TwoLooks.{free, both-good, candidate-good, candidate-built, nearest-candidate, nearest-in}
 use Rattle.mesh.proofs.MoreBlends.{more-blends, Past, longer-adds}
 

@@ -3,6 +3,7 @@ pub mod Ranges
 pub mod Cuts
 pub mod BlendTables
 pub mod Order
+pub mod CuttingEnds
 pub mod TableOrder
 pub mod Places
 pub mod Ascending

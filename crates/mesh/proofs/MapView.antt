@@ -6,20 +6,20 @@ use mathlib.Core.Logic.{inl, inr}
 use mathlib.Core.Bool.{true}
 use mathlib.Core.List.{List, List·Memᴰ}
 use borrow.Author.Tests.{eqb-true}
-use Rattle.axis.specs.Triple.{Side}
+use Rattle.axis.specs.Triple.{Side, Knots}
 use Rattle.axis.specs.declared.Triple.{Triple}
 use Rattle.axis.proofs.Tests.{true-not-false, and-both, and-of, every-at}
 use Rattle.axis.proofs.Runs.{if-equal}
-use Rattle.axis.proofs.Triples.{Knots, half-knots, First, is-low, is-high}
+use Rattle.axis.proofs.Triples.{half-knots, First, is-low, is-high}
 use Rattle.axis.proofs.Parts.{first, first-lies}
 use Rattle.axis.proofs.Sides.{lies-of, lies-at}
 use Rattle.mesh.specs.Lines.{Direction, upright, level, other, side, Mesh, mesh}
-use Rattle.mesh.specs.Blends.{blend, crossed, along, cuts, halve, live, firstFour}
+use Rattle.mesh.specs.Blends.{blend, crossed, along, cuts, halve, live, firstFour, RiseB}
 use Rattle.mesh.specs.Order.{Comes, here, cut}
 use Rattle.mesh.specs.Sound.{fourEverywhere}
 use Rattle.mesh.specs.declared.Split.{Split}
 use Rattle.mesh.specs.declared.Blend.{Blend}
-use Rattle.mesh.proofs.Cuts.{RiseB, Cut, cut-fact, cut-test, halve-rises, halve-within}
+use Rattle.mesh.proofs.Cuts.{Cut, cut-fact, cut-test, halve-rises, halve-within}
 use Rattle.mesh.proofs.Fresh.{first-four, firstFour-rises, first-crossed, fresh-line}
 use Rattle.mesh.proofs.SoundMaps.{live-left}
 use Rattle.mesh.proofs.Quadrants.{quadrant, left-quadrant, first-in-four, one-quadrant, crossed-in, facts, fresh-clear}

@@ -18,6 +18,7 @@ use Rattle.mesh.specs.Lengthening.{spanning, known}
 use Rattle.mesh.specs.Ends.{goodEnd}
 use Rattle.mesh.specs.declared.Split.{Split}
 use Rattle.mesh.specs.declared.Blend.{Blend}
+use Rattle.mesh.specs.Crossings.{Built}
 use Rattle.mesh.proofs.TableOrder.{anchored-at}
 use Rattle.mesh.proofs.Quadrants.{four-sound}
 use Rattle.mesh.proofs.NewAnchors.{kept-and-new}
@@ -25,7 +26,7 @@ use Rattle.mesh.proofs.Neighbours.{outward}
 use Rattle.mesh.proofs.AnchorsCross.{Crossing, Anchor, crossing-anchored, anchor-crosses}
 use Rattle.mesh.proofs.Filling.{Good, edge, line, blends, edgeOf}
 use Rattle.mesh.proofs.OneLineMore.{Ranged, Row, endOf, more-finer, step-drawn, step-either}
-use Rattle.mesh.proofs.TightMaps.{Built, viewOf, soundOf, tight-view, abreast-level}
+use Rattle.mesh.proofs.TightMaps.{viewOf, soundOf, tight-view, abreast-level}
 use Rattle.mesh.proofs.GoodEnds.{good-says, end-room}
 
 -- a line with other ends goes past one of a line's ends

@@ -5,9 +5,8 @@ use native.Mathlib.Omega.{arith}
 use mathlib.Core.Path.{_≡_, sym, ap, subst}
 use mathlib.Core.Logic.{_⊎_, inl, inr}
 use mathlib.Core.Bool.{true, false}
-use Rattle.axis.specs.Triple.{Side, lower, upper}
+use Rattle.axis.specs.Triple.{Side, lower, upper, OnSide}
 use Rattle.axis.proofs.Tests.{true-not-false}
-use Rattle.axis.proofs.Parts.{OnSide}
 use Rattle.axis.proofs.Runs.{if-at-most, if-below, if-equal, Compared, less, equal, more, compare}
 use Rattle.axis.proofs.Sides.{StepIn, KnotIn, opposite, mirror, column, own-column, past-column, on-column}
 use Rattle.axis.proofs.Triples.{rise-of}

@@ -11,10 +11,10 @@ use lib.ListN.{length, getD, set, length-set, length-replicate, List·getD-eq-de
 use lib.Seq.{getD-set-same, getD-set-other}
 use borrow.Author.Tests.{eqb-true, eqb-false, leb-true, le-leb, eq-eqb, ne-eqb, not-true, lt-ltb}
 use Rattle.axis.specs.Range.{some, any}
-use Rattle.axis.specs.Triple.{Side, lower, upper, knotIn, inside, between, RisesIn}
+use Rattle.axis.specs.Triple.{Side, lower, upper, knotIn, inside, between, RisesIn, Rise}
 use Rattle.axis.specs.declared.Triple.{Triple}
 use Rattle.axis.proofs.Tests.{either, true-not-false, false-of, and-both, and-of, or-either, or-left, or-right, same-test, some-fails, fails-some, any-at, any-of, each-mem, mem-each}
-use Rattle.axis.proofs.Triples.{Rise, inside-fact, inside-test, rise-of}
+use Rattle.axis.proofs.Triples.{inside-fact, inside-test, rise-of}
 use Rattle.axis.proofs.Runs.{if-at-most, if-below, if-equal}
 use Rattle.axis.proofs.Sides.{KnotIn, part-says, part-test, part-of, inside-of}
 use Rattle.mesh.specs.Lines.{Direction, upright, level, other, side, Mesh}

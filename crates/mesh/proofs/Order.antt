@@ -7,14 +7,13 @@ use mathlib.Core.Bool.{Bool, true, false, cond}
 use mathlib.Core.List.{List, [], _∷_, _++_, List·Memᴰ, List·Memᴰ·cases-cons, List·Memᴰ·append-cases, Memᴰ·cast, Memᴰ·append-left, Memᴰ·append-right, List·Memᴰ·eq-of-singleton}
 use borrow.Author.Tests.{eqb-true, eqb-false}
 use lib.Dec.{eqb}
-use Rattle.axis.specs.Triple.{Side, lower, upper}
-use Rattle.mesh.specs.Lines.{Direction, upright, level, other, Mesh}
-use Rattle.mesh.specs.Blends.{crossed, along, cuts, halve, cutter, leaves, leavesOf, size, live}
-use Rattle.mesh.specs.Order.{Uncut, Comes, here, cut, Left, Step, replace, drop, Steps, done, step, Cutting, Coarser}
+use Rattle.axis.specs.Triple.{Side, lower, upper, Knots}
+use Rattle.mesh.specs.Lines.{Direction, upright, level, other, Mesh, HasLine}
+use Rattle.mesh.specs.Blends.{crossed, along, cuts, halve, cutter, leaves, leavesOf, size, live, RiseB, Rising}
+use Rattle.mesh.specs.Order.{Uncut, Comes, here, cut, Left, Step, replace, drop, Steps, done, step, Cutting, Coarser, LeftOf, SameMembers}
 use Rattle.mesh.specs.declared.Blend.{Blend}
 use Rattle.axis.proofs.Tests.{either, true-not-false, joined-mem, mem-joined}
-use Rattle.axis.proofs.Triples.{Knots}
-use Rattle.mesh.proofs.Cuts.{RiseB, crossed-rises, WithinB, withinB-refl, withinB-trans, Cut, cut-fact, cut-test, halve-rises, halve-within, halve-smaller, halve-anchor, size-positive, Crossing, upright-level, level-upright, crossing-back, cut-stays, halves-commute, FromB, wholeB, partB, swap, cutter-none, cutter-cuts, halve-knots}
+use Rattle.mesh.proofs.Cuts.{crossed-rises, WithinB, withinB-refl, withinB-trans, Cut, cut-fact, cut-test, halve-rises, halve-within, halve-smaller, halve-anchor, size-positive, Crossing, upright-level, level-upright, crossing-back, cut-stays, halves-commute, FromB, wholeB, partB, swap, cutter-none, cutter-cuts, halve-knots}
 
 -- a cut blend, and one that no line cuts
 pub uncut-of : (M : Mesh) (d : Direction) (B : Blend) → RiseB B → cutter M d B ≡ 0 → cutter M (other d) B ≡ 0 → Uncut M B
@@ -171,32 +170,21 @@ comes-within {M} {B} h (cut d z s p r) =
     let i = cut-fact M d z B p .inside in
     withinB-trans (halve-within d s z B h i) (comes-within (halve-rises d s z B h i) r)
 
--- a line of the mesh has the position
-abbrev pub OnLine : Mesh → Direction → ℕ → Type 0
-OnLine M d z = (k : ℕ) × (M d z k ≡ true)
-
-pub cut-on-line : (M : Mesh) (d : Direction) (z : ℕ) (B : Blend) → RiseB B → Cut M d z B → OnLine M d z
+pub cut-on-line : (M : Mesh) (d : Direction) (z : ℕ) (B : Blend) → RiseB B → Cut M d z B → HasLine M d z
 cut-on-line M d z B h c =
     let a = crossed-rises (other d) B h in
     (along d B .l, c .covered (along d B .l) (omega arith) (omega arith))
 
 -- and keeps an axis's knots on lines
-pub comes-on-lines : {M : Mesh} {B C : Blend} (d : Direction) → RiseB B → Knots (OnLine M d) (crossed d B) → Comes M B C → Knots (OnLine M d) (crossed d C)
+pub comes-on-lines : {M : Mesh} {B C : Blend} (d : Direction) → RiseB B → Knots (HasLine M d) (crossed d B) →
+    Comes M B C → Knots (HasLine M d) (crossed d C)
 comes-on-lines d h k here = k
 comes-on-lines {M} {B} d h k (cut e z s p r) =
     let c = cut-fact M e z B p in
-    comes-on-lines d (halve-rises e s z B h (c .inside)) (halve-knots (OnLine M) d e s z B k (cut-on-line M e z B h c)) r
+    comes-on-lines d (halve-rises e s z B h (c .inside))
+    (halve-knots (HasLine M) d e s z B k (cut-on-line M e z B h c)) r
 
 -- Lists: what is left of some blends.
-abbrev pub Rising : List Blend → Type 0
-Rising bs = (B : Blend) → List·Memᴰ B bs → RiseB B
-
-abbrev pub LeftOf : Mesh → List Blend → Blend → Type 0
-LeftOf M bs C = (B : Blend) × List·Memᴰ B bs × Left M B C
-
-abbrev pub SameMembers : List Blend → List Blend → Type 0
-SameMembers xs ys = (C : Blend) → (List·Memᴰ C xs → List·Memᴰ C ys) × (List·Memᴰ C ys → List·Memᴰ C xs)
-
 pub leavesOf-left : (M : Mesh) (bs : List Blend) → Rising bs → (C : Blend) → List·Memᴰ C (leavesOf M bs) → LeftOf M bs C
 unfolding leavesOf
 leavesOf-left M bs h C m =
@@ -219,7 +207,7 @@ module _ {A : Blend} (xs : List Blend) (B : Blend) (ys : List Blend) where
       ⊎-elim (λ m. inr (Memᴰ·append-left ys m)) (λ m. ⊎-elim inl (λ m. inr (Memᴰ·append-right xs m)) (List·Memᴰ·cases-cons m))
       (List·Memᴰ·append-cases xs m)
 
-  middle : A ≡ B → List·Memᴰ A (xs ++ B ∷ ys)
+  pub middle : A ≡ B → List·Memᴰ A (xs ++ B ∷ ys)
   middle e = Memᴰ·append-right xs (List·Memᴰ.List·Memᴰ·head e)
 
   around : List·Memᴰ A (xs ++ ys) → List·Memᴰ A (xs ++ B ∷ ys)
@@ -238,7 +226,7 @@ module _ {A : Blend} (xs : List Blend) (B : Blend) (ys : List Blend) (d : Direct
   around-halves m = around xs (halve d lower z B) (halve d upper z B ∷ ys) (around xs (halve d upper z B) ys m)
 
 -- A step keeps what is left.
-step-rises : {M : Mesh} {xs ys : List Blend} → Step M xs ys → Rising xs → Rising ys
+pub step-rises : {M : Mesh} {xs ys : List Blend} → Step M xs ys → Rising xs → Rising ys
 step-rises {M} (replace xs B ys d z p) h A m =
     ⊎-elim (λ r. subst RiseB (sym (r .1)) (halve-rises d (r .0) z B (h B (middle xs B ys refl)) (cut-fact M d z B p .inside)))
     (λ m. h A (around xs B ys m))

@@ -10,20 +10,20 @@ use mathlib.Core.List.List·Memᴰ.{List·Memᴰ·head, List·Memᴰ·tail}
 use lib.ListN.{length}
 use borrow.Author.Tests.{eqb-true}
 use Rattle.axis.specs.Range.{only}
-use Rattle.axis.specs.Triple.{Side, lower, upper, spans, RisesIn}
+use Rattle.axis.specs.Triple.{Side, lower, upper, spans, RisesIn, OnSide}
 use Rattle.mesh.specs.Lines.{Direction, upright, level, other, side, Mesh, mesh}
-use Rattle.mesh.specs.Blends.{blend, same, cuts, halve, live, firstFour, crossed}
+use Rattle.mesh.specs.Blends.{blend, same, cuts, halve, live, firstFour, crossed, RiseB, Rising}
 use Rattle.mesh.specs.Order.{Left}
 use Rattle.mesh.specs.Sound.{overSquare, fourEverywhere, noneNested, sound, nested, ProperIn}
 use Rattle.mesh.specs.declared.Split.{Split}
 use Rattle.mesh.specs.declared.Blend.{Blend}
 use Rattle.axis.proofs.Tests.{and-both, and-of, false-of, true-not-false, every-at, all-of}
 use Rattle.axis.proofs.Triples.{Inside, between-fact}
-use Rattle.mesh.proofs.Cuts.{RiseB, cut-test, proper-facts, proper-rises, blend-same, nested-facts}
-use Rattle.mesh.proofs.Order.{by-cutting, left-itself, left-front, Rising}
+use Rattle.mesh.proofs.Cuts.{cut-test, proper-facts, proper-rises, blend-same, nested-facts}
+use Rattle.mesh.proofs.Order.{by-cutting, left-itself, left-front}
 use Rattle.mesh.proofs.Fresh.{firstFour-rises, fresh-line}
 use Rattle.mesh.proofs.SoundMaps.{live-left, live-proper}
-use Rattle.axis.proofs.Parts.{first, spans-lies, OnSide, beside, first-lies, half-lies, lies}
+use Rattle.axis.proofs.Parts.{first, spans-lies, beside, first-lies, half-lies, lies}
 use Rattle.axis.proofs.Counts.{ones, both-ones, some-pass, one-passes, only-first}
 
 -- the unit square whose low corner is at knots (x, y) lies in a quadrant of the blend

@@ -6,11 +6,11 @@ use mathlib.Core.Logic.{_⊎_, inl, inr, ⊎-elim}
 use mathlib.Core.Bool.{true, false}
 use mathlib.Core.List.{List·Memᴰ}
 use borrow.Author.Tests.{eq-eqb}
-use Rattle.axis.specs.Triple.{triple, Side, lower, upper, half}
+use Rattle.axis.specs.Triple.{triple, Side, lower, upper, half, Rise, Knots, OnSide}
 use Rattle.axis.specs.declared.Triple.{Triple}
 use Rattle.axis.proofs.Tests.{either, true-not-false, false-of, and-both, every-of}
-use Rattle.axis.proofs.Triples.{Rise, Inside, Knots, half-rises, half-within, half-knots, triple-eq}
-use Rattle.axis.proofs.Parts.{OnSide, lies, beside}
+use Rattle.axis.proofs.Triples.{Inside, half-rises, half-within, half-knots, triple-eq}
+use Rattle.axis.proofs.Parts.{lies, beside}
 use Rattle.axis.proofs.Counts.{one-at-most}
 use Rattle.axis.proofs.Runs.{if-equal, neither}
 use Rattle.axis.proofs.Sides.{KnotIn, opposite, from, to, knot-step, lies-at, step-beside, part-within, knot-between, halves-of, kept, kept-is, kept-in, kept-inside, kept-rises, kept-away, one-part, part-of, inside-of, StepIn}
@@ -21,6 +21,7 @@ use Rattle.mesh.specs.Sound.{fourEverywhere}
 use Rattle.mesh.specs.Splits.{liveOf, withLine}
 use Rattle.mesh.specs.declared.Split.{Split}
 use Rattle.mesh.specs.declared.Blend.{Blend}
+use Rattle.mesh.specs.Crossings.{Built}
 use Rattle.mesh.proofs.Cuts.{cut-fact, cut-test}
 use Rattle.mesh.proofs.Order.{some-half, left-uncut, finer}
 use Rattle.mesh.proofs.Fresh.{firstFour-rises}
@@ -30,7 +31,7 @@ use Rattle.mesh.proofs.View.{View, Live, Over, SoundView, TightView}
 use Rattle.mesh.proofs.AnchorsCross.{crossing-anchored}
 use Rattle.mesh.proofs.Filling.{Holding, agree, level-covers, Drawn, CutBy, Piece, taken-too}
 use Rattle.mesh.proofs.OneLineMore.{Ranged, more-finer, step-either}
-use Rattle.mesh.proofs.TightMaps.{Built, viewOf, tight-view, live-rises, only-there}
+use Rattle.mesh.proofs.TightMaps.{viewOf, tight-view, live-rises, only-there}
 
 -- No live blend's anchor lies strictly inside another's support, in the words of a view.
 pub unnested : (Q : View) (s : SoundView Q) (E X : Blend) → Live Q E → Live Q X → (Q .across X .l < Q .across E .m) × (Q .across E .m < Q .across X .r) →

@@ -10,19 +10,20 @@ use borrow.Author.Tests.{eqb-true}
 use Rattle.axis.specs.Range.{only, Distinct}
 use Rattle.mesh.specs.Lines.{Mesh, Direction}
 use Rattle.mesh.specs.Blends.{live, leavesOf, firstFour, cuts}
-use Rattle.mesh.specs.Order.{Comes, Uncut, Cutting}
-use Rattle.mesh.specs.Sound.{proper, overSquare, fourEverywhere, noneNested, sound}
-use Rattle.mesh.specs.Weight.{Term, weight, value, interpolated}
-use Rattle.axis.specs.Fraction.{times, whole, total, Equal}
+use Rattle.mesh.specs.Order.{Comes, Uncut, Cutting, done, CuttingEnds, LeftOf, SameMembers, CoveredBy}
+use Rattle.mesh.specs.Sound.{proper, overSquare, fourEverywhere, noneNested, sound, AllProperIn}
+use Rattle.mesh.specs.Weight.{Term, weight, value, interpolated, CoveredTerms, Flow, flowAt, atAnchor}
+use Rattle.axis.specs.Fraction.{times, whole, total, SameNumber}
 use Rattle.mesh.specs.declared.Blend.{Blend}
 use Rattle.axis.proofs.Tests.{and-both, every-at}
-use Rattle.mesh.proofs.Order.{cut-or-not, LeftOf, SameMembers, any-order, comes-trans}
+use Rattle.mesh.proofs.Order.{cut-or-not, any-order, comes-trans}
+use Rattle.mesh.proofs.CuttingEnds.{cutting-ends}
 use Rattle.mesh.proofs.Cuts.{proper-facts, proper-rises}
 use Rattle.mesh.proofs.Places.{sound-own}
 use Rattle.mesh.proofs.Ascending.{OwnAnchors}
-use Rattle.mesh.proofs.Live.{AllProper, refine-left, left-refine, refine-leaves, refine-proper, refine-distinct}
-use Rattle.mesh.proofs.Weights.{square-positive, own-anchor, other-anchor, Covered, CoveredTerms, reproduced}
-use Rattle.mesh.proofs.Straight.{Flow, flowAt, atAnchor, flow-kept, adds-up}
+use Rattle.mesh.proofs.Live.{comes-proper, refine-left, left-refine, refine-leaves, refine-proper, refine-distinct}
+use Rattle.mesh.proofs.Weights.{square-positive, own-anchor, other-anchor, reproduced}
+use Rattle.mesh.proofs.Straight.{flow-kept, adds-up}
 use Rattle.mesh.proofs.Fresh.{first-proper, firstFour-rises}
 
 module _ (w h : ℕ) (hw : 1 ≤ w) (hh : 1 ≤ h) (M : Mesh) where
@@ -42,7 +43,15 @@ module _ (w h : ℕ) (hw : 1 ≤ w) (hh : 1 ≤ h) (M : Mesh) where
       let r = live-leaves C in
       (λ m. r .1 (a .0 m), λ m. a .1 (r .0 m))
 
-  pub live-proper : AllProper w h (live w h M)
+  -- Each of them does end,
+  pub cutting-ends-live : CuttingEnds M (firstFour w h)
+  cutting-ends-live = cutting-ends M (firstFour w h) (firstFour-rises w h hw hh)
+
+  -- so there is one, and the live blends are what it leaves.
+  pub some-order-live : (cs : List Blend) × Cutting M (firstFour w h) cs × SameMembers cs (live w h M)
+  some-order-live = let r = cutting-ends-live .goes-on done in (r .0, r .1, any-order-live (r .0) (r .1))
+
+  pub live-proper : AllProperIn w h (live w h M)
   unfolding live
   live-proper = refine-proper w h M (firstFour w h) (first-proper w h hw hh)
 
@@ -51,10 +60,18 @@ module _ (w h : ℕ) (hw : 1 ≤ w) (hh : 1 ≤ h) (M : Mesh) where
   live-distinct = refine-distinct w h M (firstFour w h) (first-proper w h hw hh)
 
   -- a blend that comes before the live ones: all that is left of it is live
-  pub before-live : (B C : Blend) → List·Memᴰ B (firstFour w h) → Comes M B C → Covered M (live w h M) C
+  pub before-live : (B C : Blend) → List·Memᴰ B (firstFour w h) → Comes M B C → CoveredBy M (live w h M) C
   before-live B C m c D l = live-left D .1 (B, m, record { comes = comes-trans c (l .comes); uncut = l .uncut })
 
-  first-covered : (B : Blend) → List·Memᴰ B (firstFour w h) → Covered M (live w h M) B
+  -- so a sum of multiples of such blends is one of those that `live-reproduce` speaks of
+  pub before-terms : (ts : List Term) →
+      ((t : Term) → List·Memᴰ t ts → (B : Blend) × List·Memᴰ B (firstFour w h) × Comes M B (t .of)) →
+      CoveredTerms M w h (live w h M) ts
+  before-terms ts from t m =
+      let b = from t m in
+      (comes-proper w h (first-proper w h hw hh (b .0) (b .1)) (b .2), before-live (b .0) (t .of) (b .1) (b .2))
+
+  first-covered : (B : Blend) → List·Memᴰ B (firstFour w h) → CoveredBy M (live w h M) B
   first-covered B m C l = live-left C .1 (B, m, l)
 
   decide : (B : Blend) → proper w h B ≡ true → Uncut M B ⊎ ((d : Direction) × (z : ℕ) × (cuts M d z B ≡ true))
@@ -77,7 +94,7 @@ module _ (w h : ℕ) (hw : 1 ≤ w) (hh : 1 ≤ h) (M : Mesh) where
 
     -- and a straight flow is the sum of its values at the anchors times the weights;
     pub live-straight : (F : Flow) (p q d : ℕ) → 0 < d → p ≤ w * d → q ≤ h * d →
-        Equal (total (map (λ (C : Blend). times (whole (atAnchor F C)) (weight C (p + d) (q + d) d)) (live w h M)))
+        SameNumber (total (map (λ (C : Blend). times (whole (atAnchor F C)) (weight C (p + d) (q + d) d)) (live w h M)))
         (record { num = flowAt F p q d; den = d * d })
     live-straight = flow-kept M w h (live w h M) decide live-distinct apart live-proper first-covered hw hh
 
@@ -107,5 +124,5 @@ module _ (w h : ℕ) (hw : 1 ≤ w) (hh : 1 ≤ h) (M : Mesh) where
 
     -- and each sum of multiples of blends that come before the live ones equals the sum of its values at the anchors times the live blends.
     pub live-reproduce : (ts : List Term) → CoveredTerms M w h (live w h M) ts → (p q d : ℕ) → 0 < d →
-        Equal (value ts p q d) (interpolated ts (live w h M) p q d)
+        SameNumber (value ts p q d) (interpolated ts (live w h M) p q d)
     live-reproduce = reproduced M w h (live w h M) decide live-distinct apart live-proper

@@ -7,33 +7,19 @@ use mathlib.Core.Path.{_≡_, refl, ap, subst, _∙_}
 use mathlib.Core.Logic.{_⊎_}
 use mathlib.Core.Bool.{true}
 use mathlib.Core.List.{List, map, List·Memᴰ}
-use Rattle.axis.specs.Fraction.{Fraction, times, whole, total, Equal}
+use Rattle.axis.specs.Fraction.{Fraction, times, whole, total, Equal, SameNumber}
 use Rattle.axis.specs.Range.{Distinct}
 use Rattle.mesh.specs.declared.Blend.{Blend}
 use Rattle.mesh.specs.Lines.{Direction, Mesh}
 use Rattle.mesh.specs.Blends.{cuts, firstFour}
-use Rattle.mesh.specs.Order.{Uncut}
+use Rattle.mesh.specs.Order.{Uncut, CoveredBy}
 use Rattle.mesh.specs.Sound.{proper, noneNested}
-use Rattle.mesh.specs.Weight.{weight}
+use Rattle.mesh.specs.Weight.{weight, Flow, flowAt, atAnchor}
 use Rattle.axis.proofs.Scale.{Multiple, common, Scaled, scaled-total, scaled-multiple, scaled-one, total-positive, sum, sum-same}
 use Rattle.axis.proofs.Hats.{first-straight}
 use Rattle.mesh.proofs.Cuts.{proper-facts}
 use Rattle.mesh.proofs.Fresh.{first-proper}
-use Rattle.mesh.proofs.Weights.{weight-den, scale-positive, scaledWeight, scaled-weight, reproduced-values, Covered, sum-reproduced}
-
--- A straight flow: a + b u + c v + e u v at (u, v), the four numbers whole and from 0.
-pub record Flow : Type 0 where
-  pub a : ℕ
-  pub b : ℕ
-  pub c : ℕ
-  pub e : ℕ
-
--- at the point (p / d, q / d), times d twice; and at a blend's anchor
-abbrev pub flowAt : Flow → ℕ → ℕ → ℕ → ℕ
-flowAt F p q d = F .a * (d * d) + F .b * (p * d) + F .c * (q * d) + F .e * (p * q)
-
-abbrev pub atAnchor : Flow → Blend → ℕ
-atAnchor F B = flowAt F (B .across .m - 1) (B .up .m - 1) 1
+use Rattle.mesh.proofs.Weights.{weight-den, scale-positive, scaledWeight, scaled-weight, reproduced-values, sum-reproduced}
 
 -- Sums over the first four blends: over the two corners at u, which is 0 or the side; over these pairs; and across from the one pair to the other.
 module _ (F : Flow) where
@@ -66,7 +52,7 @@ module _ {n : ℕ} (K : Multiple n) (w h : ℕ) (hw : 1 ≤ w) (hh : 1 ≤ h) (w
 module _ (M : Mesh) (w h : ℕ) (L : List Blend)
     (decide : (B : Blend) → proper w h B ≡ true → Uncut M B ⊎ ((d : Direction) × (z : ℕ) × (cuts M d z B ≡ true)))
     (distinct : Distinct L) (apart : noneNested L ≡ true) (rise : (C : Blend) → List·Memᴰ C L → proper w h C ≡ true)
-    (full : (B : Blend) → List·Memᴰ B (firstFour w h) → Covered M L B) (hw : 1 ≤ w) (hh : 1 ≤ h) where
+    (full : (B : Blend) → List·Memᴰ B (firstFour w h) → CoveredBy M L B) (hw : 1 ≤ w) (hh : 1 ≤ h) where
   abbrev K : Multiple (w + h + 2)
   K = common (w + h + 2)
 
@@ -91,10 +77,10 @@ module _ (M : Mesh) (w h : ℕ) (L : List Blend)
         flow = first-flow K w h hw hh (omega arith) (omega arith) F
 
     -- and at each point of the domain, in document 01's own coordinates
-    pub flow-kept : (p q d : ℕ) → 0 < d → p ≤ w * d → q ≤ h * d →
+    flow-equal : (p q d : ℕ) → 0 < d → p ≤ w * d → q ≤ h * d →
         Equal (total (map (λ (C : Blend). times (whole (atAnchor F C)) (weight C (p + d) (q + d) d)) L))
         (record { num = flowAt F p q d; den = d * d })
-    flow-kept p q d pos p-in q-in =
+    flow-equal p q d pos p-in q-in =
         let x : p + d - d ≡ p = omega arith in
         let y : q + d - d ≡ q = omega arith in
         let known = rw (x, y) at (scaled-flow (p + d) (q + d) d (omega arith) (omega arith) (omega arith) (omega arith)) in
@@ -106,6 +92,18 @@ module _ (M : Mesh) (w h : ℕ) (L : List Blend)
         unscaled : (k f s n m : ℕ) → 0 < k → s ≡ k * k * f → s * m ≡ n * (k * d * (k * d)) → n * (d * d) ≡ f * m
         unscaled k f s n m k-pos e scaled =
             eq-of-mul-eq-mul-left (k * k) (mul-pos k-pos k-pos) _ _ (omega (arith, ap (λ (x : ℕ). x * m) e))
+
+    pub flow-kept : (p q d : ℕ) → 0 < d → p ≤ w * d → q ≤ h * d →
+        SameNumber (total (map (λ (C : Blend). times (whole (atAnchor F C)) (weight C (p + d) (q + d) d)) L))
+        (record { num = flowAt F p q d; den = d * d })
+    flow-kept p q d pos p-in q-in =
+        record {
+          equal = flow-equal p q d pos p-in q-in;
+          defined =
+              total-positive (λ (C : Blend). times (whole (atAnchor F C)) (weight C (p + d) (q + d) d)) L
+              (λ C m. mul-pos (omega arith) (weight-den w h C (rise C m) (p + d) (q + d) d pos));
+          also-defined = mul-pos pos pos;
+        }
 
   -- the weights alone add up to one
   pub adds-up : (p q d : ℕ) → 0 < d → p ≤ w * d → q ≤ h * d →

@@ -6,41 +6,29 @@ use mathlib.Core.Logic.{_⊎_, inl, inr, ⊎-elim}
 use mathlib.Core.Bool.{true, false, _&&_}
 use mathlib.Core.List.{List, [], List·Memᴰ}
 use lib.Dec.{ltb}
-use Rattle.axis.specs.Triple.{Side, lower, upper, half}
+use Rattle.axis.specs.Triple.{Side, lower, upper, half, KnotOf, OnSide}
 use Rattle.axis.specs.declared.Triple.{Triple}
 use Rattle.axis.proofs.Tests.{true-not-false, false-of, and-both, or-either}
-use Rattle.axis.proofs.Parts.{OnSide}
 use Rattle.axis.proofs.Runs.{if-below, if-equal, throughout, until, downward, Downward}
 use Rattle.axis.proofs.Triples.{rise-of}
-use Rattle.axis.proofs.Sides.{step-within, KnotOf}
+use Rattle.axis.proofs.Sides.{step-within}
 use Rattle.mesh.specs.Lines.{Direction, upright, level, other, side, onLine, Layout, layout, meshOf}
-use Rattle.mesh.specs.Blends.{along, cuts, isCut, halve}
+use Rattle.mesh.specs.Blends.{along, cuts, isCut, halve, RiseB}
 use Rattle.mesh.specs.Order.{Uncut}
 use Rattle.mesh.specs.Sound.{fourEverywhere, sound}
 use Rattle.mesh.specs.Splits.{liveOf, withLine}
 use Rattle.mesh.specs.declared.Split.{Split}
 use Rattle.mesh.specs.declared.Blend.{Blend}
-use Rattle.mesh.proofs.Cuts.{RiseB, Cut, cut-exactly, cut-fact, cut-test, proper-rises, halve-rises}
+use Rattle.mesh.specs.Crossings.{OnGrid, Gridded, Built}
+use Rattle.mesh.proofs.Cuts.{Cut, cut-exactly, cut-fact, cut-test, proper-rises, halve-rises}
 use Rattle.mesh.proofs.SoundMaps.{live-left, live-proper}
 use Rattle.mesh.proofs.Fresh.{fresh-positions, fresh-live, fresh-sound}
 use Rattle.mesh.proofs.View.{View, turn, Knot, SoundView, TightView, turn-sound, turn-tight}
 use Rattle.mesh.proofs.Neighbours.{Abreast, grid-knot, level-at, inward, outward, line-ends}
 use Rattle.mesh.proofs.Spreading.{Used, Rests, used-along}
 use Rattle.mesh.proofs.MapView.{view, sound-view}
-use Rattle.mesh.proofs.Grids.{OnGrid, stays-on-grid, half-on-grid}
+use Rattle.mesh.proofs.Grids.{stays-on-grid, half-on-grid}
 use Rattle.mesh.proofs.OneLineMore.{Ranged, Row, endOf, more-finer, step-drawn, step-either}
-
--- some live blend has the unit step on its grid
-abbrev pub Gridded : Layout → Direction → ℕ → ℕ → Type 0
-Gridded P d z k = (B : Blend) × List·Memᴰ B (liveOf P) × OnGrid d z k B
-
--- Sound and tight:
-pub record Built (P : Layout) : Type 0 where
-  pub wide : 1 ≤ P .w
-  pub high : 1 ≤ P .h
-  pub four : fourEverywhere (P .w) (P .h) (liveOf P) ≡ true
-  pub tight : (d : Direction) (z k : ℕ) → (1 < z) × (z ≤ side d (P .w) (P .h)) → OnSide (side (other d) (P .w) (P .h)) k → meshOf P d z k ≡ true →
-      Gridded P d z k
 
 abbrev pub viewOf : Direction → Layout → View
 viewOf d P = view d (P .w) (P .h) (meshOf P)

@@ -16,10 +16,10 @@ use Rattle.mesh.specs.Splits.{liveOf, withLine, soundWith, given, exactN
 use Rattle.mesh.specs.Lengthening.{run, Contains, candidate, Candidate}
 use Rattle.mesh.specs.Ends.{gapEnds, goodEnd, goodEnds, between, gap, nearestGood, TwoLooks}
 use Rattle.mesh.specs.declared.Split.{Split}
+use Rattle.mesh.specs.Crossings.{Built}
 use Rattle.mesh.proofs.Passing.{Given, given-says, candidate-says, ends-in}
 use Rattle.mesh.proofs.ChosenLine.{contains-fits, contains-cuts, candidate-exact}
 use Rattle.mesh.proofs.OneLineMore.{Ranged, ranged, endOf}
-use Rattle.mesh.proofs.TightMaps.{Built}
 use Rattle.mesh.proofs.GoodEnds.{gap-either, gap-edge, gap-line, gap-good, good-sound, good-on-line, sound-good, built-on}
 
 -- A split in range that shares no unit step with a line at its position:

@@ -5,10 +5,9 @@ use native.Mathlib.Omega.{arith}
 use mathlib.Core.Path.{_≡_, subst}
 use mathlib.Core.Bool.{Bool, true}
 use mathlib.Core.List.{List, List·Memᴰ}
-use Rattle.axis.specs.Triple.{Side, lower, upper, RisesIn}
+use Rattle.axis.specs.Triple.{Side, lower, upper, RisesIn, Knots, OnSide}
 use Rattle.axis.specs.declared.Triple.{Triple}
-use Rattle.axis.proofs.Triples.{Inside, Knots}
-use Rattle.axis.proofs.Parts.{OnSide}
+use Rattle.axis.proofs.Triples.{Inside}
 use Rattle.axis.proofs.Sides.{StepIn, mirror, in-mirror, mirror-in, opposite}
 use Rattle.mesh.specs.declared.Blend.{Blend}
 

@@ -7,17 +7,17 @@ use mathlib.Core.Logic.{_⊎_, _↔_, inl, inr, ⊎-elim}
 use mathlib.Core.Bool.{true, false, _&&_, not}
 use mathlib.Core.List.{List, [], _∷_, List·Memᴰ}
 use borrow.Author.Tests.{not-false}
-use Rattle.axis.specs.Fraction.{times, whole, Equal}
+use Rattle.axis.specs.Fraction.{times, whole, Equal, SameNumber}
 use Rattle.axis.specs.Triple.{hat, Side, lower, upper, spans, between}
 use Rattle.mesh.specs.Lines.{Direction, upright, level, Mesh}
 use Rattle.mesh.specs.Blends.{crossed, cuts, halve, size, same}
-use Rattle.mesh.specs.Order.{Left, Uncut}
+use Rattle.mesh.specs.Order.{Uncut, CoveredBy}
 use Rattle.mesh.specs.Sound.{proper, overSquare, noneNested}
-use Rattle.mesh.specs.Weight.{weight, Term, value, interpolated}
+use Rattle.mesh.specs.Weight.{weight, Term, value, interpolated, CoveredTerms}
 use Rattle.mesh.specs.declared.Blend.{Blend}
 use Rattle.axis.proofs.Tests.{and-both, and-of, and-fails}
 use Rattle.axis.specs.Range.{Distinct}
-use Rattle.axis.proofs.Scale.{Multiple, common, Scaled, scaled-times, scaled-total, scaled-more, scaled-multiple, scaled-equal, sum, sum-zero, sum-multiple, sum-linear, sum-single}
+use Rattle.axis.proofs.Scale.{Multiple, common, Scaled, scaled-times, scaled-total, total-positive, scaled-more, scaled-multiple, scaled-equal, sum, sum-zero, sum-multiple, sum-linear, sum-single}
 use Rattle.axis.proofs.Hats.{hat-den, hat-middle, hat-off, step-positive, scaledHat, scaled-hat, two-scale, scaled-middle, scaled-off}
 use Rattle.axis.proofs.Triples.{Inside, rise-of}
 use Rattle.mesh.proofs.Cuts.{proper-facts, proper-of, proper-rises, halve-proper, halve-smaller, size-positive, cut-fact, same-blend}
@@ -45,6 +45,19 @@ module _ (w h : ℕ) (B : Blend) (ok : proper w h B ≡ true) where
       factors zero j pos = absurd (omega arith)
       factors (suc i) zero pos = absurd (omega arith)
       factors (suc i) (suc j) pos = omega arith
+
+-- so a sum of multiples of proper blends has a denominator, and so has the one over the anchors
+module _ (w h : ℕ) (ts : List Term) (ok : (t : Term) → List·Memᴰ t ts → proper w h (t .of) ≡ true) where
+  pub multiples-den : (p q d : ℕ) → 0 < d → 0 < value ts p q d .den
+  multiples-den p q d pos =
+      total-positive (λ (t : Term). times (whole (t .multiple)) (weight (t .of) p q d)) ts
+      (λ t m. mul-pos (omega arith) (weight-den w h (t .of) (ok t m) p q d pos))
+
+  interpolated-den : (L : List Blend) → ((C : Blend) → List·Memᴰ C L → proper w h C ≡ true) → (p q d : ℕ) → 0 < d →
+      0 < interpolated ts L p q d .den
+  interpolated-den L rise p q d pos =
+      total-positive (λ (C : Blend). times (value ts (C .across .m) (C .up .m) 1) (weight C p q d)) L
+      (λ C m. mul-pos (multiples-den (C .across .m) (C .up .m) 1 (omega arith)) (weight-den w h C (rise C m) p q d pos))
 
 -- where no anchor is strictly inside another's support, it is off that support on one axis at least
 clear : (L : List Blend) → noneNested L ≡ true → (B C : Blend) → List·Memᴰ B L → List·Memᴰ C L → (B ≡ C → ⊥) →
@@ -199,24 +212,18 @@ module _ (w h : ℕ) (L : List Blend) (distinct : Distinct L) (apart : noneNeste
       sym (sum-single (λ (C : Blend). scaledWeight K B (C .across .m) (C .up .m) 1 * scaledWeight K C p q d) L distinct B m
       (λ C mC differ. zero-left _ _ (scaled-other C B mC m differ)))
 
--- all that is left of B is in L
-abbrev pub Covered : Mesh → List Blend → Blend → Type 0
-Covered M L B = (C : Blend) → Left M B C → List·Memᴰ C L
-
+-- a half of a covered blend is covered
 half-covered : (M : Mesh) (L : List Blend) (B : Blend) (d : Direction) (s : Side) (z : ℕ) → cuts M d z B ≡ true →
-    Covered M L B → Covered M L (halve d s z B)
+    CoveredBy M L B → CoveredBy M L (halve d s z B)
 half-covered M L B d s z e cov C left = cov C (left-front d z s e left)
-
--- terms whose blends are proper and covered
-abbrev pub CoveredTerms : Mesh → ℕ → ℕ → List Blend → List Term → Type 0
-CoveredTerms M w h L ts = (t : Term) → List·Memᴰ t ts → (proper w h (t .of) ≡ true) × Covered M L (t .of)
 
 module _ (M : Mesh) (w h : ℕ) (L : List Blend)
     (decide : (B : Blend) → proper w h B ≡ true → Uncut M B ⊎ ((d : Direction) × (z : ℕ) × (cuts M d z B ≡ true)))
     (distinct : Distinct L) (apart : noneNested L ≡ true) (rise : (C : Blend) → List·Memᴰ C L → proper w h C ≡ true) where
   module _ {n : ℕ} (K : Multiple n) (wide : w + 2 ≤ n) (tall : h + 2 ≤ n) where
     -- A covered blend is in L, or is cut, and then its halves are covered too: by induction on its size it is reproduced.
-    covered-within : (f : ℕ) (B : Blend) → size B ≤ f → proper w h B ≡ true → Covered M L B → Reproduced K L (scaledWeight K B)
+    covered-within : (f : ℕ) (B : Blend) → size B ≤ f → proper w h B ≡ true → CoveredBy M L B →
+        Reproduced K L (scaledWeight K B)
     covered-within zero B le ok cov = absurd (omega (arith, size-positive B (proper-rises w h B ok)))
     covered-within (suc f) B le ok cov =
         ⊎-elim (λ u. member-reproduced w h L distinct apart rise K wide tall B (cov B (left-itself u)))
@@ -226,12 +233,12 @@ module _ (M : Mesh) (w h : ℕ) (L : List Blend)
         (proper-of w h _ (halve-proper (c .0) s (c .1) B (proper-facts w h B ok) i)) (half-covered M L B (c .0) s (c .1) (c .2) cov)))
         (decide B ok)
 
-    pub covered-reproduced : (B : Blend) → proper w h B ≡ true → Covered M L B → Reproduced K L (scaledWeight K B)
+    pub covered-reproduced : (B : Blend) → proper w h B ≡ true → CoveredBy M L B → Reproduced K L (scaledWeight K B)
     covered-reproduced B ok cov = covered-within (size B) B (omega arith) ok cov
 
     -- and so is a sum of multiples of such blends
     pub sum-reproduced : {A : Type 0} (c : A → ℕ) (b : A → Blend) (xs : List A) →
-        ((x : A) → List·Memᴰ x xs → (proper w h (b x) ≡ true) × Covered M L (b x)) →
+        ((x : A) → List·Memᴰ x xs → (proper w h (b x) ≡ true) × CoveredBy M L (b x)) →
         Reproduced K L (λ p q d. sum (λ x. c x * scaledWeight K (b x) p q d) xs)
     sum-reproduced c b [] cov = reproduced-none K L
     sum-reproduced c b (x ∷ xs) cov =
@@ -254,5 +261,11 @@ module _ (M : Mesh) (w h : ℕ) (L : List Blend)
         (scaled-interpolated K w h wide tall ts L (λ t m. cov t m .0) rise p q d)
 
   -- what is reproduced, in fractions: at every point, inside the domain or not
-  pub reproduced : (ts : List Term) → CoveredTerms M w h L ts → (p q d : ℕ) → 0 < d → Equal (value ts p q d) (interpolated ts L p q d)
-  reproduced = reproduced-with (common (w + h + 2)) (omega arith) (omega arith)
+  pub reproduced : (ts : List Term) → CoveredTerms M w h L ts → (p q d : ℕ) → 0 < d →
+      SameNumber (value ts p q d) (interpolated ts L p q d)
+  reproduced ts cov p q d pos =
+      record {
+        equal = reproduced-with (common (w + h + 2)) (omega arith) (omega arith) ts cov p q d pos;
+        defined = multiples-den w h ts (λ t m. cov t m .0) p q d pos;
+        also-defined = interpolated-den w h ts (λ t m. cov t m .0) L rise p q d pos;
+      }

@@ -1,10 +1,10 @@
 -- Document 01, "Blends": cutting, and the live blends.
 use Prim.Native.Nat.{ℕ, zero, suc, _+_, _-_, _*_}
 use mathlib.Core.Bool.{Bool, cond, _&&_, _||_, not}
-use mathlib.Core.List.{List, [], _∷_, _++_}
+use mathlib.Core.List.{List, [], _∷_, _++_, List·Memᴰ}
 use lib.Dec.{eqb}
 use Rattle.axis.specs.Range.{each, any, only, joined}
-use Rattle.axis.specs.Triple.{Side, lower, upper, half, inside, low, high, sameTriple}
+use Rattle.axis.specs.Triple.{Side, lower, upper, half, inside, low, high, sameTriple, Rise}
 use Rattle.axis.specs.Nearest.{nearest}
 use Rattle.mesh.specs.Lines.{Direction, upright, level, other, Mesh, covers}
 use Rattle.axis.specs.declared.Triple.{Triple}
@@ -12,6 +12,14 @@ use Rattle.mesh.specs.declared.Blend.{Blend}
 
 abbrev pub blend : Triple → Triple → Blend
 blend x y = record { across = x; up = y }
+
+-- "A blend is two triples of whole numbers, … both rising": of one blend, and of each of some
+pub record RiseB (B : Blend) : Type 0 where
+  pub across : Rise (B .across)
+  pub up : Rise (B .up)
+
+abbrev pub Rising : List Blend → Type 0
+Rising bs = (B : Blend) → List·Memᴰ B bs → RiseB B
 
 -- the triple that lines of the direction cut; the one that they must cover is that of the other direction
 abbrev pub crossed : Direction → Blend → Triple

@@ -1,11 +1,12 @@
 -- Document 01, "Sides and lines". The lines of a map are told by their unit steps, so lines at one position that overlap or touch are one line.
 use Prim.Native.Nat.{ℕ, _+_, _-_}
-use mathlib.Core.Bool.{Bool, cond, _&&_, _||_}
+use mathlib.Core.Path.{_≡_}
+use mathlib.Core.Bool.{Bool, true, cond, _&&_, _||_}
 use mathlib.Core.List.{List}
 use lib.Dec.{ltb, leb, eqb}
 use lib.ListN.{take}
 use Rattle.axis.specs.Limits.{largestSide}
-use Rattle.axis.specs.Range.{every, some, any}
+use Rattle.axis.specs.Range.{every, some, all, any}
 use Rattle.mesh.specs.declared.Split.{Split}
 use Rattle.mesh.specs.declared.Lines.{Lines}
 
@@ -70,6 +71,10 @@ covers M d z b n = every b n (M d z)
 unfoldable pub onLine : Mesh → Direction → ℕ → ℕ → Bool
 onLine M d z k = M d z k || (ltb 0 k && M d z (k - 1))
 
+-- a line of the direction stands at knot z: some unit step there lies on one
+abbrev pub HasLine : Mesh → Direction → ℕ → Type 0
+HasLine M d z = (k : ℕ) × (M d z k ≡ true)
+
 -- the direction that a number names
 abbrev pub direction : ℕ → Direction
 direction n = cond (eqb n 0) upright level
@@ -101,3 +106,7 @@ layoutOf L = layout (L .w) (L .h) (splitsOf L)
 
 abbrev pub meshOf : Layout → Mesh
 meshOf P = mesh (P .w) (P .h) (P .splits)
+
+-- all splits of a layout are in range
+abbrev pub Ranges : Layout → Type 0
+Ranges P = all (inRange (P .w) (P .h)) (P .splits) ≡ true

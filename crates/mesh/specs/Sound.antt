@@ -1,6 +1,7 @@
 -- Document 01, "Blends": a sound map; and what the functions on tables of blends answer.
 use Prim.Native.Nat.{ℕ, _-_}
-use mathlib.Core.Bool.{Bool, cond, _&&_, not}
+use mathlib.Core.Path.{_≡_}
+use mathlib.Core.Bool.{Bool, true, cond, _&&_, not}
 use mathlib.Core.List.{List, [], _++_, List·Memᴰ}
 use lib.Dec.{eqb}
 use lib.ListN.{length, take, replicate}
@@ -36,7 +37,11 @@ sound w h bs = fourEverywhere w h bs && noneNested bs
 abbrev pub proper : ℕ → ℕ → Blend → Bool
 proper w h B = rising w (B .across) && rising h (B .up)
 
--- the same as a statement
+-- of all of some blends
+abbrev pub AllProperIn : ℕ → ℕ → List Blend → Type 0
+AllProperIn w h bs = (B : Blend) → List·Memᴰ B bs → proper w h B ≡ true
+
+-- of one, as a statement
 pub record ProperIn (w h : ℕ) (B : Blend) : Type 0 where
   pub across : RisesIn w (B .across)
   pub up : RisesIn h (B .up)
