@@ -12,7 +12,9 @@ use Rattle.mesh.specs.declared.Split.{Split}
 use Rattle.mesh.specs.Lines.{allowedSide, Layout, layout, meshOf}
 use Rattle.mesh.specs.Blends.{live}
 use Rattle.mesh.specs.declared.Blend.{Blend}
-use Rattle.mesh.specs.Order.{Coarser}
+use Rattle.mesh.specs.Sound.{sound}
+use Rattle.mesh.specs.Order.{SameMembers, Coarser}
+use Rattle.mesh.proofs.SoundMaps.{any-order-live, cutting-ends-live}
 use Rattle.mesh.specs.Crossings.{anchors, crossings, Tight, Built}
 use Rattle.axis.proofs.Tests.{and-of, same-test, cond-true}
 use Rattle.mesh.proofs.Order.{same-steps}
@@ -139,12 +141,18 @@ end-within P at cs =
 pub reached-demand : (P : Plain) → Reached P → (cs : List Call) → DemandFrom P cs
 reached-demand P at cs =
     let Q = ending byMachine P cs in
+    let w = P .lines .w in
+    let h = P .lines .h in
     let leads = ending-leads cs P at in
     record {
       same-outcomes = outcomes-follow cs P at;
       same-left = ending-follows cs P at;
       blends = blends Q;
       are-tabled = end-tabled P at cs;
+      cutting-ends = cutting-ends-live w h (at .valued .wide .0) (at .valued .tall .0) (meshBy P cs);
+      any-order = λ ds way.
+          subst (SameMembers ds) (sym (ending-blends cs P at)) (any-order-live w h (at .valued .wide .0) (at .valued .tall .0) (meshBy P cs) ds way);
+      is-sound = subst (λ (L : Layout). sound (L .w) (L .h) (blends Q) ≡ true) (lines-after P at cs) (leads .reached .valued .is-sound);
       four-in = λ x y hx hy. valued-four Q (leads .reached .valued) x y (rw (leads .wide) hx) (rw (leads .tall) hy);
       add-up = λ p q d pos hp hq. valued-sum Q (leads .reached .valued) p q d pos (rw (leads .wide) hp) (rw (leads .tall) hq);
       gentle = λ earlier c later e. any-split P at earlier Gentle split-gentle c;

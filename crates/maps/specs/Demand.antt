@@ -11,8 +11,9 @@ use Rattle.mesh.specs.declared.Blend.{Blend}
 use Rattle.axis.specs.Limits.{mostAllowance}
 use Rattle.axis.specs.Fraction.{Fraction, total}
 use Rattle.mesh.specs.Lines.{Mesh, mesh, allowedSide}
-use Rattle.mesh.specs.Order.{Coarser}
-use Rattle.mesh.specs.Sound.{none}
+use Rattle.mesh.specs.Blends.{firstFour}
+use Rattle.mesh.specs.Order.{SameMembers, Cutting, CuttingEnds, Coarser}
+use Rattle.mesh.specs.Sound.{none, sound}
 use Rattle.mesh.specs.Weight.{weight}
 use Rattle.maps.specs.declared.Map.{Map}
 use Rattle.maps.specs.Plain.{Plain, freshPlain}
@@ -133,6 +134,12 @@ pub record DemandFrom (P : Plain) (cs : List Call) : Type 0 where
   -- "A history's blends are the live blends, as the table calls give them after the list."
   pub blends : List Blend
   pub are-tabled : Tabled (leftBy P cs) blends
+  -- "The order of cutting must be shown not to matter": in whatever order the list's lines cut the first four, that comes to an end, and then exactly these
+  -- blends are left.
+  pub cutting-ends : CuttingEnds (meshBy P cs) (firstFour (P .lines .w) (P .lines .h))
+  pub any-order : (ds : List Blend) → Cutting (meshBy P cs) (firstFour (P .lines .w) (P .lines .h)) ds → SameMembers ds blends
+  -- The map is sound, by both halves of document 01's sentence.
+  pub is-sound : sound (P .lines .w) (P .lines .h) blends ≡ true
   -- 2. After the list, for each unit square of the domain exactly four of the table's blends are positive throughout its inside, the same four
   -- at all of it, every other one nowhere in it, fractional points included.
   pub four-in : (x y : ℕ) → x < P .lines .w → y < P .lines .h → FourIn blends x y
