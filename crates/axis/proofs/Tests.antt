@@ -14,6 +14,11 @@ pub either : (b : Bool) → (b ≡ true) ⊎ (b ≡ false)
 either true = inl refl
 either false = inr refl
 
+-- what is true of both of two things, or of a number of each, is true of the one that a test gives
+pub by-test : (P : ℕ → Type 0) {A : Type 0} (number : A → ℕ) (b : Bool) {x y : A} → P (number x) → P (number y) → P (number (cond b x y))
+by-test P number true p q = p
+by-test P number false p q = q
+
 pub true-not-false : (b : Bool) → b ≡ true → b ≡ false → ⊥
 true-not-false b p q = let z : _≡_ {A = ℕ} 0 1 = cc in omega arith
 

@@ -1,8 +1,9 @@
 -- Walks over a run of numbers and over a list, as tests and as lists.
 use Prim.Native.Nat.{ℕ, zero, suc, _+_, min, max}
+use mathlib.Core.Path.{_≡_}
 use mathlib.Core.Bool.{Bool, true, false, cond, _&&_, _||_, not}
 use mathlib.Core.List.{List, [], _∷_, _++_, List·Memᴰ}
-use lib.Dec.{leb}
+use lib.Dec.{leb, eqb}
 
 -- whether the test holds of each of the `n` numbers from `from` on
 abbrev pub every : ℕ → ℕ → (ℕ → Bool) → Bool
@@ -38,6 +39,10 @@ all test (x ∷ xs) = test x && all test xs
 abbrev pub any {ℓ} : {A : Type ℓ} → (A → Bool) → List A → Bool
 any test [] = false
 any test (x ∷ xs) = test x || any test xs
+
+-- a number is one of these
+abbrev pub OneOf : List ℕ → ℕ → Type 0
+OneOf numbers n = any (eqb n) numbers ≡ true
 
 -- the entries of a list for which the test holds, in their order
 abbrev pub only {ℓ} : {A : Type ℓ} → (A → Bool) → List A → List A

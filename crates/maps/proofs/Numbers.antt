@@ -2,15 +2,13 @@
 use Prim.Native.Nat.{ℕ, _+_}
 use mathlib.Core.Path.{_≡_, refl}
 use mathlib.Core.Logic.{⊎-elim}
-use mathlib.Core.Bool.{Bool, true, false, cond, _&&_, not}
-use mathlib.Core.List.{List, [], _∷_, List·Memᴰ}
-use mathlib.Core.List.List·Memᴰ.{List·Memᴰ·head, List·Memᴰ·tail}
-use borrow.Author.Tests.{eqb-true}
+use mathlib.Core.Bool.{true, false, _&&_, not}
+use mathlib.Core.List.{List, [], _∷_}
 use lib.Dec.{leb, ltb, eqb}
 use lib.ListN.{length}
 use Rattle.axis.specs.Limits.{mostSplits, mostAllowance}
-use Rattle.axis.specs.Range.{any}
-use Rattle.axis.proofs.Tests.{or-either, true-not-false}
+use Rattle.axis.specs.Range.{any, OneOf}
+use Rattle.axis.proofs.Tests.{either, by-test, or-either, or-left, or-right}
 use Rattle.mesh.specs.declared.Split.{Split}
 use Rattle.mesh.specs.Lines.{Layout, meshOf, allowedSide, inRange, shares, ended}
 use Rattle.mesh.specs.Blends.{isCut}
@@ -30,96 +28,78 @@ use Rattle.maps.specs.Calls.{freshMap, setValue, tablePlace, readingOn, 
 use Rattle.maps.specs.Pairs.{pairs, countedPairs, pairsAlong, rowPairs, columnPairs}
 use Rattle.maps.specs.Sameness.{sameness}
 use Rattle.maps.specs.Histories.{Call, set, split, place, reads, weighs, alongRow, alongColumn, sameAs, numberOf, byLibrary}
-use Rattle.maps.specs.Numbers.{numbersOf, OwnNumbers}
+use Rattle.maps.specs.Numbers.{refusalsOf, OwnNumbers}
 
--- The number of one of two answers, by a test, is among some numbers where those of both are.
-module _ {A : Type 0} (number : A → ℕ) (ns : List ℕ) where
-  by-test : (b : Bool) {x y : A} → List·Memᴰ (number x) ns → List·Memᴰ (number y) ns → List·Memᴰ (number (cond b x y)) ns
-  by-test true p q = p
-  by-test false p q = q
-
--- among some numbers, by the test that a number is one of them
-among : (n : ℕ) (ns : List ℕ) → any (eqb n) ns ≡ true → List·Memᴰ n ns
-among n [] t = absurd (true-not-false false t refl)
-among n (k ∷ ns) t =
-    ⊎-elim (λ e. List·Memᴰ·head (eqb-true n k e)) (λ r. List·Memᴰ·tail (among n ns r)) (or-either (eqb n k) (any (eqb n) ns) t)
-
--- what a split is refused with
-asked-among : (P : Layout) (s : Split) (a : ℕ) → List·Memᴰ (asked P s a) (numbersOf (split s a))
+-- what a split is refused with, or 0
+asked-among : (P : Layout) (s : Split) (a : ℕ) → OneOf (0 ∷ refusalsOf (split s a)) (asked P s a)
 unfolding asked given
 asked-among P s a =
+    let ok = OneOf (0 ∷ refusalsOf (split s a)) in
     let number : ℕ → ℕ = λ n. n in
-    let ns = numbersOf (split s a) in
-    by-test number ns (ltb mostAllowance a) (among 3 ns refl)
-    (by-test number ns (not (inRange (P .w) (P .h) s)) (among 3 ns refl)
-    (by-test number ns (leb mostSplits (length (P .splits))) (among 4 ns refl)
-    (by-test number ns (shares (meshOf P) s) (among 5 ns refl)
-    (by-test number ns (not (ended (meshOf P) s)) (among 6 ns refl)
-    (by-test number ns (not (any (isCut (meshOf (withLine P s))) (liveOf P))) (among 7 ns refl) (among 0 ns refl))))))
+    by-test ok number (ltb mostAllowance a) refl
+    (by-test ok number (not (inRange (P .w) (P .h) s)) refl
+    (by-test ok number (leb mostSplits (length (P .splits))) refl
+    (by-test ok number (shares (meshOf P) s) refl
+    (by-test ok number (not (ended (meshOf P) s)) refl
+    (by-test ok number (not (any (isCut (meshOf (withLine P s))) (liveOf P))) refl refl)))))
 
-drawn-among : (old : Map) (P : Plain) (s : Split) (a : ℕ) (cs : List Split) → List·Memᴰ (drawnFirst old P cs .number) (numbersOf (split s a))
-drawn-among old P s a [] = among 8 (numbersOf (split s a)) refl
-drawn-among old P s a (c ∷ cs) = among 0 (numbersOf (split s a)) refl
+drawn-among : (old : Map) (P : Plain) (s : Split) (a : ℕ) (cs : List Split) → OneOf (0 ∷ refusalsOf (split s a)) (drawnFirst old P cs .number)
+drawn-among old P s a [] = refl
+drawn-among old P s a (c ∷ cs) = refl
 
-pairs-among : (side : ℕ) (readings : ℕ → Reading) (wanted : ℕ) → List·Memᴰ (pairsAlong side readings wanted .number) (0 ∷ 2 ∷ 10 ∷ 13 ∷ [])
+pairs-among : (side : ℕ) (readings : ℕ → Reading) (wanted : ℕ) → OneOf (0 ∷ 10 ∷ 13 ∷ []) (pairsAlong side readings wanted .number)
 pairs-among side readings wanted =
-    let number : Pairs → ℕ = λ p. p .number in
-    let ns : List ℕ = 0 ∷ 2 ∷ 10 ∷ 13 ∷ [] in
-    by-test number ns (leb 1 wanted && leb wanted 65535) (counted (pairs side readings wanted)) (among 13 ns refl)
+    by-test (OneOf (0 ∷ 10 ∷ 13 ∷ [])) (λ (p : Pairs). p .number) (leb 1 wanted && leb wanted 65535) (counted (pairs side readings wanted)) refl
   where
-    counted : (us : List ℕ) → List·Memᴰ (countedPairs us .number) (0 ∷ 2 ∷ 10 ∷ 13 ∷ [])
-    counted [] = among 13 (0 ∷ 2 ∷ 10 ∷ 13 ∷ []) refl
-    counted (u ∷ us) = among 0 (0 ∷ 2 ∷ 10 ∷ 13 ∷ []) refl
+    counted : (us : List ℕ) → OneOf (0 ∷ 10 ∷ 13 ∷ []) (countedPairs us .number)
+    counted [] = refl
+    counted (u ∷ us) = refl
 
-call-among : (m : Map) (c : Call) → List·Memᴰ (numberOf (byLibrary m c .answer)) (numbersOf c)
+-- each call on a good record
+good-among : (m : Map) (c : Call) → good m ≡ true → OneOf (0 ∷ refusalsOf c) (numberOf (byLibrary m c .answer))
 unfolding setValue splitWithin tablePlace reading weights rowPairs columnPairs sameness
-call-among m (set i j v) =
-    let number : Changed → ℕ = λ r. r .number in
-    let ns = numbersOf (set i j v) in
+good-among m (set i j v) g =
     let P = plain m in
-    by-test number ns (not (good m)) (among 2 ns refl)
-    (by-test number ns (ltb (placeOf (blends P) (i + 1) (j + 1)) (length (blends P))) (among 0 ns refl) (among 9 ns refl))
-call-among m (split s a) =
-    let number : Changed → ℕ = λ r. r .number in
-    let ns = numbersOf (split s a) in
+    rw g (by-test (OneOf (0 ∷ 9 ∷ [])) (λ (r : Changed). r .number) (ltb (placeOf (blends P) (i + 1) (j + 1)) (length (blends P))) refl refl)
+good-among m (split s a) g =
     let P = plain m in
-    by-test number ns (not (good m)) (among 2 ns refl)
-    (by-test number ns (eqb (asked (P .lines) s a) 0) (drawn-among m P s a (chosen (P .lines) s a)) (asked-among (P .lines) s a))
-call-among m (place i) =
-    let number : Placed → ℕ = λ r. r .number in
-    let ns = numbersOf (place i) in
-    by-test number ns (not (good m)) (among 2 ns refl) (by-test number ns (ltb i (length (blends (plain m)))) (among 0 ns refl) (among 9 ns refl))
-call-among m (reads u v) =
-    let number : Reading → ℕ = λ r. r .number in
-    let ns = numbersOf (reads u v) in
-    by-test number ns (not (good m)) (among 2 ns refl) (by-test number ns (inDomain (plain m) u v) (among 0 ns refl) (among 10 ns refl))
-call-among m (weighs u v) =
-    let number : Weights → ℕ = λ r. r .number in
-    let ns = numbersOf (weighs u v) in
-    by-test number ns (not (good m)) (among 2 ns refl) (by-test number ns (inDomain (plain m) u v) (among 0 ns refl) (among 10 ns refl))
-call-among m (alongRow v wanted) =
-    let number : Pairs → ℕ = λ r. r .number in
-    let ns = numbersOf (alongRow v wanted) in
+    rw g
+    (by-test (OneOf (0 ∷ refusalsOf (split s a))) (λ (r : Changed). r .number) (eqb (asked (P .lines) s a) 0) (drawn-among m P s a (chosen (P .lines) s a))
+    (asked-among (P .lines) s a))
+good-among m (place i) g = rw g (by-test (OneOf (0 ∷ 9 ∷ [])) (λ (r : Placed). r .number) (ltb i (length (blends (plain m)))) refl refl)
+good-among m (reads u v) g = rw g (by-test (OneOf (0 ∷ 10 ∷ [])) (λ (r : Reading). r .number) (inDomain (plain m) u v) refl refl)
+good-among m (weighs u v) g = rw g (by-test (OneOf (0 ∷ 10 ∷ [])) (λ (r : Weights). r .number) (inDomain (plain m) u v) refl refl)
+good-among m (alongRow v wanted) g =
     let P = plain m in
-    by-test number ns (not (good m)) (among 2 ns refl)
-    (by-test number ns (leb v (P .lines .h)) (pairs-among (P .lines .w) (λ u. readingOn P u v) wanted) (among 10 ns refl))
-call-among m (alongColumn u wanted) =
-    let number : Pairs → ℕ = λ r. r .number in
-    let ns = numbersOf (alongColumn u wanted) in
+    rw g
+    (by-test (OneOf (0 ∷ 10 ∷ 13 ∷ [])) (λ (r : Pairs). r .number) (leb v (P .lines .h)) (pairs-among (P .lines .w) (λ u. readingOn P u v) wanted) refl)
+good-among m (alongColumn u wanted) g =
     let P = plain m in
-    by-test number ns (not (good m)) (among 2 ns refl)
-    (by-test number ns (leb u (P .lines .w)) (pairs-among (P .lines .h) (λ v. readingOn P u v) wanted) (among 10 ns refl))
-call-among m (sameAs other) =
-    let number : Same → ℕ = λ r. r .number in
-    let ns = numbersOf (sameAs other) in
-    by-test number ns (good m && good other) (among 0 ns refl) (among 2 ns refl)
+    rw g
+    (by-test (OneOf (0 ∷ 10 ∷ 13 ∷ [])) (λ (r : Pairs). r .number) (leb u (P .lines .w)) (pairs-among (P .lines .h) (λ v. readingOn P u v) wanted) refl)
+good-among m (sameAs other) g = by-test (OneOf (0 ∷ 2 ∷ [])) (λ (r : Same). r .number) (good m && good other) refl refl
+
+-- and on one that is not
+bad-says : (m : Map) (c : Call) → good m ≡ false → numberOf (byLibrary m c .answer) ≡ 2
+unfolding setValue splitWithin tablePlace reading weights rowPairs columnPairs sameness
+bad-says m (set i j v) b = rw b
+bad-says m (split s a) b = rw b
+bad-says m (place i) b = rw b
+bad-says m (reads u v) b = rw b
+bad-says m (weighs u v) b = rw b
+bad-says m (alongRow v wanted) b = rw b
+bad-says m (alongColumn u wanted) b = rw b
+bad-says m (sameAs other) b = rw b
 
 pub own-numbers : OwnNumbers
 unfolding freshMap
 own-numbers =
-    let number : Changed → ℕ = λ r. r .number in
-    let ns : List ℕ = 0 ∷ 1 ∷ [] in
     record {
-      fresh = λ w h. by-test number ns (allowedSide w && allowedSide h) (among 0 ns refl) (among 1 ns refl);
-      calls = call-among;
+      fresh = λ w h. by-test (OneOf (0 ∷ 1 ∷ [])) (λ (r : Changed). r .number) (allowedSide w && allowedSide h) refl refl;
+      calls = λ m c. ⊎-elim (λ g. one-more (refusalsOf c) (numberOf (byLibrary m c .answer)) (good-among m c g)) (λ b. rw (bad-says m c b)) (either (good m));
+      on-good = good-among;
     }
+  where
+    one-more : (rs : List ℕ) (n : ℕ) → OneOf (0 ∷ rs) n → OneOf (0 ∷ 2 ∷ rs) n
+    one-more rs n is =
+        ⊎-elim (or-left (eqb n 0) _) (λ r. or-right (eqb n 0) _ (or-right (eqb n 2) _ r)) (or-either (eqb n 0) (any (eqb n) rs) is)
