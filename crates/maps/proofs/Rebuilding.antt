@@ -17,7 +17,7 @@ use Rattle.mesh.specs.declared.Blend.{Blend}
 use Rattle.mesh.specs.Blends.{anchored}
 use Rattle.axis.proofs.Tests.{either, and-both, and-of, cond-true, cond-false}
 use Rattle.axis.specs.Range.{Distinct}
-use Rattle.mesh.proofs.Ascending.{OwnAnchors}
+use Rattle.mesh.specs.Blends.{OwnAnchors}
 use Rattle.mesh.proofs.Cuts.{proper-facts}
 use Rattle.mesh.proofs.SoundMaps.{live-distinct, own-anchors}
 use Rattle.axis.proofs.Members.{map-mem}

@@ -4,15 +4,11 @@ use native.Mathlib.Omega.{arith}
 use mathlib.Core.Path.{_≡_, sym, ap, _∙_}
 use mathlib.Core.List.{List, List·Memᴰ}
 use Rattle.axis.specs.Range.{each, only, Distinct}
-use Rattle.mesh.specs.Blends.{anchored, inTableOrder, place}
+use Rattle.mesh.specs.Blends.{anchored, OwnAnchors, inTableOrder, place}
 use Rattle.mesh.specs.declared.Blend.{Blend}
 use Rattle.axis.proofs.Tests.{each-mem, only-mem}
 use Rattle.mesh.proofs.TableOrder.{anchored-at}
 use Rattle.axis.proofs.Distinct.{only-distinct, Ascending, each-ordered, lone}
-
--- no two of the blends have one anchor
-abbrev pub OwnAnchors : List Blend → Type 0
-OwnAnchors bs = (B C : Blend) → List·Memᴰ B bs → List·Memᴰ C bs → B .across .m ≡ C .across .m → B .up .m ≡ C .up .m → B ≡ C
 
 pub order-ascending : (w h : ℕ) → h ≤ 128 → (bs : List Blend) → Distinct bs → OwnAnchors bs → Ascending place (inTableOrder w h bs)
 unfolding inTableOrder

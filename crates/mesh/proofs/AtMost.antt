@@ -26,7 +26,7 @@ use Rattle.axis.proofs.Triples.{First, is-low, is-high, AtFresh}
 use Rattle.mesh.proofs.Order.{comes-on-lines}
 use Rattle.mesh.proofs.Cuts.{proper-facts}
 use Rattle.mesh.proofs.Places.{at-inj}
-use Rattle.mesh.proofs.Ascending.{OwnAnchors}
+use Rattle.mesh.specs.Blends.{OwnAnchors}
 use Rattle.mesh.proofs.Fresh.{first-four, firstFour-rises, first-crossed, fresh-positions, fresh-line}
 use Rattle.mesh.proofs.SoundMaps.{live-left, live-proper, live-distinct, own-anchors}
 

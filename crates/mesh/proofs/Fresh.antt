@@ -22,7 +22,8 @@ use Rattle.mesh.proofs.Cuts.{cut-fact, proper-of, proper-rises, blend-s
 use Rattle.mesh.proofs.Order.{left-uncut, left-itself}
 use Rattle.mesh.proofs.TableOrder.{once-mem, once-distinct}
 use Rattle.axis.proofs.Distinct.{Ascending, ascending-unique}
-use Rattle.mesh.proofs.Ascending.{OwnAnchors, order-ascending}
+use Rattle.mesh.specs.Blends.{OwnAnchors}
+use Rattle.mesh.proofs.Ascending.{order-ascending}
 use Rattle.mesh.proofs.Live.{refine-left, left-refine, refine-leaves}
 
 -- both triples of a first blend are first triples

@@ -14,7 +14,8 @@ use Rattle.mesh.proofs.Cuts.{proper-facts, proper-of, proper-within}
 use Rattle.mesh.proofs.Order.{comes-rises, comes-within, leavesOf-left, left-leavesOf}
 use Rattle.mesh.proofs.TableOrder.{once-mem, mem-once, once-distinct, order-mem, mem-order, order-distinct}
 use Rattle.mesh.proofs.Places.{proper-anchored}
-use Rattle.mesh.proofs.Ascending.{OwnAnchors, order-ascending}
+use Rattle.mesh.specs.Blends.{OwnAnchors}
+use Rattle.mesh.proofs.Ascending.{order-ascending}
 use Rattle.axis.proofs.Distinct.{ascending-unique}
 
 -- what comes from a proper blend is proper, and so is what is left of it

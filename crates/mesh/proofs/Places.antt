@@ -15,7 +15,7 @@ use Rattle.mesh.specs.declared.Blend.{Blend}
 use Rattle.axis.proofs.Tests.{either, true-not-false, and-both, all-at}
 use Rattle.mesh.proofs.Cuts.{same-blend}
 use Rattle.mesh.proofs.TableOrder.{Anchored}
-use Rattle.mesh.proofs.Ascending.{OwnAnchors}
+use Rattle.mesh.specs.Blends.{OwnAnchors}
 
 -- a proper blend's anchor lies in the domain
 pub proper-anchored : (w h : ℕ) (B : Blend) → ProperIn w h B → Anchored w h B

@@ -20,7 +20,7 @@ use Rattle.mesh.proofs.Order.{cut-or-not, any-order, comes-trans}
 use Rattle.mesh.proofs.CuttingEnds.{cutting-ends}
 use Rattle.mesh.proofs.Cuts.{proper-facts, proper-rises}
 use Rattle.mesh.proofs.Places.{sound-own}
-use Rattle.mesh.proofs.Ascending.{OwnAnchors}
+use Rattle.mesh.specs.Blends.{OwnAnchors}
 use Rattle.mesh.proofs.Live.{comes-proper, refine-left, left-refine, refine-leaves, refine-proper, refine-distinct}
 use Rattle.mesh.proofs.Weights.{square-positive, own-anchor, other-anchor, reproduced}
 use Rattle.mesh.proofs.Straight.{flow-kept, adds-up}

@@ -1,5 +1,6 @@
 -- Document 01, "Blends": cutting, and the live blends.
 use Prim.Native.Nat.{ℕ, zero, suc, _+_, _-_, _*_}
+use mathlib.Core.Path.{_≡_}
 use mathlib.Core.Bool.{Bool, cond, _&&_, _||_, not}
 use mathlib.Core.List.{List, [], _∷_, _++_, List·Memᴰ}
 use lib.Dec.{eqb}
@@ -81,6 +82,10 @@ once (B ∷ bs) = let rest = once bs in cond (any (same B) bs) rest (B ∷ rest)
 -- the blends whose anchor is at knots (m, n)
 abbrev pub anchored : ℕ → ℕ → Blend → Bool
 anchored m n B = eqb (B .across .m) m && eqb (B .up .m) n
+
+-- no two of the blends have one anchor
+abbrev pub OwnAnchors : List Blend → Type 0
+OwnAnchors bs = (B C : Blend) → List·Memᴰ B bs → List·Memᴰ C bs → B .across .m ≡ C .across .m → B .up .m ≡ C .up .m → B ≡ C
 
 -- Knots are 0 to 130, so a square table of 131 by 131 has a place for each pair of them; and the place of a blend is its anchor's.
 abbrev pub at : ℕ → ℕ → ℕ
