@@ -2,9 +2,11 @@
 
 usage: engineer.py LIBRARY [SEED]
 
-LIBRARY is the shared library that the C compiler makes from the archive (README.md says how).
+LIBRARY is the shared library that the C compiler makes from the archive (README.md says how). SEED starts the draws
+elsewhere; without it PUMP_SEED of the environment does. The seed is printed, so that a run can be had again.
 """
 import ctypes
+import os
 import random
 import sys
 from collections import Counter
@@ -49,7 +51,8 @@ def main():
     library = ctypes.CDLL(sys.argv[1])
     for name in ("fresh", "split", "weights"):
         getattr(library, "pump_" + name).restype = ctypes.c_size_t
-    seed = int(sys.argv[2]) if len(sys.argv) > 2 else 1
+    seed = int(sys.argv[2] if len(sys.argv) > 2 else os.environ.get("PUMP_SEED", 1))
+    print("seed", seed)
     draw = random.Random(seed)
     numbers, points = Counter(), 0
     for _ in range(20):
@@ -65,9 +68,9 @@ def main():
         for u in range(SIDE + 1):
             for v in range(SIDE + 1):
                 total = sum(Fraction(w.numerator, w.denominator) for w in pump.weights(u, v))
-                assert total == 1, (seed, u, v, total)
+                assert total == 1, (u, v, total)
                 points += 1
-    print("seed", seed, "answers", dict(sorted(numbers.items())))
+    print("answers", dict(sorted(numbers.items())))
     print("at all", points, "points the weights add up to one")
 
 

@@ -13,7 +13,7 @@ static const char *const why[] = {
     "it shares more than one point with a line at its position",
     "an end lies on no crossing line",
     "it cuts no blend",
-    "the blends would no longer add up: the map would not be sound",
+    "the map would not be sound",
     "no blend has that anchor",
     "the point lies outside the map",
     "these bytes are no map file",
@@ -72,8 +72,8 @@ int main(void) {
     draw(PUMP_UPRIGHT, 5, 4, 6);
     draw(PUMP_UPRIGHT, 6, 4, 8);
 
-    /* The four short lines. The old editor drew them all as given, and the blends at the corners of the box added up
-       to more than one. Here two are drawn longer, so that they add up to one. */
+    /* The four short lines. Drawn as given, either of the last two would leave a map that is not sound (pump.h says what
+       that is; the old editor did not count the blends over every square). They are drawn longer. */
     draw(PUMP_UPRIGHT, 5, 4, 8);
     draw(PUMP_UPRIGHT, 7, 4, 8);
     draw(PUMP_LEVEL, 5, 4, 8);

@@ -15,9 +15,10 @@
  * level line: strictly between b and t, not at n, from l to r). A blend that is cut is replaced by two narrower
  * ones, and so on until no line cuts any: these are the map's blends, and it has no others.
  *
- * A map is sound when inside every unit square exactly four blends are above 0; then all blends add up to one at
- * every point, no two have one anchor, and the reading at an anchor is its value. Every map here is sound: a line
- * that would leave another one is never drawn.
+ * A map is sound when every unit square lies in the supports of exactly four blends, and no blend's anchor lies
+ * strictly inside the support of another. Every map here is sound: a line that would leave another one is never
+ * drawn. So all blends add up to one at every point, no two have one anchor, and the reading at an anchor is its
+ * value.
  *
  * The anchors are exactly the points where an upright and a level both pass; a line that ends on another adds none
  * there. A line that passes the other checks leaves a sound map exactly when both its ends are good. The far end of

@@ -49,7 +49,7 @@ fn setting(name: &str, otherwise: u64) -> u64 {
     }
 }
 
-/// The run's seed: PUMP_SEED, or a fixed one. It is printed, so that a failed run can be had again.
+/// The run's seed: PUMP_SEED, or a fixed one; tests/rust.sh sets it. It is printed, so that a failed run can be had again.
 pub fn seed(test: &str) -> u64 {
     let seed = setting("PUMP_SEED", 2026);
     println!("{test}: PUMP_SEED={seed}");
@@ -59,6 +59,17 @@ pub fn seed(test: &str) -> u64 {
 /// The number of histories, and of damaged files.
 pub fn count() -> u64 {
     setting("PUMP_COUNT", 2000)
+}
+
+/// Whether the run is too short to ask that the draws met all that they should.
+pub fn quick() -> bool {
+    count() < 1000
+}
+
+/// Whether another round is drawn: as many as the test is asked for, then on until they have met all that they should, so
+/// that this depends on no seed. A test gives up after twenty times as many.
+pub fn another(round: u64, rounds: u64, met: impl FnOnce() -> bool) -> bool {
+    round < rounds || round < 20 * rounds && !met()
 }
 
 /// Sides: small ones mostly, so that lines meet; sometimes to 128.

@@ -135,7 +135,14 @@ fn every_allowance() {
     let seed = draw::seed("every_allowance");
     let maps = draw::count() / 4;
     let mut seen = Seen::default();
-    for map_number in 0..maps {
+    let met = |Seen { refused, longer, choices, .. }: &Seen| {
+        let enough = longer[0] as u64 > maps && longer[1] as u64 > maps / 40 && *choices as u64 > maps;
+        draw::quick() || enough && [3, 5, 6, 7].iter().all(|number| refused.contains_key(number))
+    };
+    for map_number in 0.. {
+        if !draw::another(map_number, maps, || met(&seen)) {
+            break;
+        }
         let mut random = Random(seed ^ map_number << 32);
         let (largest, tries) = (random.pick(&[4, 8, 12, 16]), random.below(40));
         let map = draw::map(&mut random, largest, tries);
@@ -160,8 +167,7 @@ fn every_allowance() {
         "{maps} maps; refused whatever the allowance {refused:?}; drawn as given {as_given}, longer at one end and at \
          both {longer:?}; {choices} with several lines to choose from"
     );
-    let enough = longer[0] as u64 > maps && longer[1] as u64 > maps / 40 && *choices as u64 > maps;
-    assert!(draw::count() < 1000 || enough && [3, 5, 6, 7].iter().all(|number| refused.contains_key(number)));
+    assert!(met(&seen), "too few of some");
 }
 
 /// Allowance 0 accepts what a file may hold as its next split, draws it as given, and nothing else. A file that tells a
@@ -170,7 +176,11 @@ fn every_allowance() {
 fn without_allowance_as_in_a_file() {
     let seed = draw::seed("without_allowance_as_in_a_file");
     let mut seen: BTreeMap<usize, usize> = BTreeMap::new();
-    for map_number in 0..draw::count() / 5 {
+    let met = |seen: &BTreeMap<_, _>| draw::quick() || [0, 5, 6, 7, 8].iter().all(|number| seen.contains_key(number));
+    for map_number in 0.. {
+        if !draw::another(map_number, draw::count() / 5, || met(&seen)) {
+            break;
+        }
         let mut random = Random(seed ^ map_number << 32);
         let tries = random.below(16);
         let map = draw::map(&mut random, 9, tries);
@@ -213,7 +223,7 @@ fn without_allowance_as_in_a_file() {
         }
     }
     println!("splits by their number: {seen:?}");
-    assert!(draw::count() < 1000 || [0, 5, 6, 7, 8].iter().all(|number| seen.contains_key(number)));
+    assert!(met(&seen), "some number never came");
 }
 
 // ----------------------------------------------------------------------------------------------------------- By hand

@@ -147,13 +147,46 @@ fn with_other_values(random: &mut Random, drawn: &Drawn, file: &[u8]) -> Vec<u8>
 }
 
 /// What came up: the numbers of each call; splits with a longer line than given; old anchors at which the two maps have
-/// two values, after a split as before; new anchors that got two values.
+/// two values, after a split as before; new anchors that got two values. And maps: how many were full, had each of
+/// `SIDES`, and had each of `ENDS` for other values.
 #[derive(Default)]
 struct Seen {
     numbers: BTreeMap<(&'static str, usize), usize>,
     longer: usize,
     apart: usize,
     new_apart: usize,
+    full: usize,
+    of_sides: [usize; SIDES.len()],
+    of_ends: [usize; ENDS.len()],
+}
+
+impl Seen {
+    /// How often splits of this name gave each number.
+    fn gave(&self, name: &'static str) -> Vec<usize> {
+        (0..=12).map(|number| self.numbers.get(&(name, number)).copied().unwrap_or(0)).collect()
+    }
+
+    /// What came up too few times for so many maps.
+    fn missing(&self, maps: u64) -> Option<String> {
+        let [none, some, all] = ["split by 0", "split by some", "split by 128"].map(|name| self.gave(name));
+        let mut wanted = vec![];
+        for (number, each) in [(0, 2.0), (3, 1.0), (4, 0.5), (5, 2.0), (6, 0.2), (7, 0.6), (8, 0.25), (12, 0.02)] {
+            wanted.push((format!("without allowance with {number}"), none[number], each));
+            // Most of what is refused as given is drawn with some allowance, and all of it with all.
+            let (few, nothing) = if number == 8 { (0.02, 0.0) } else { (each, each) };
+            wanted.push((format!("with some allowance with {number}"), some[number], few));
+            wanted.push((format!("with all allowance with {number}"), all[number], nothing));
+        }
+        wanted.push(("longer than given".to_string(), self.longer, 0.25));
+        wanted.push(("old anchors with two values".to_string(), self.apart, 80.0));
+        wanted.push(("new anchors with two values".to_string(), self.new_apart, 6.0));
+        wanted.push(("full".to_string(), self.full, 0.05));
+        wanted.extend(SIDES.iter().zip(self.of_sides).map(|(side, count)| (format!("of side {side}"), count, 0.05)));
+        let ends = ENDS.iter().zip(self.of_ends);
+        wanted.extend(ends.map(|(end, count)| (format!("with {end} for another value"), count, 0.3)));
+        let few = wanted.into_iter().find(|(_, seen, each)| (*seen as f64) < each * maps as f64);
+        few.map(|(what, seen, _)| format!("only {seen} {what} for {maps} maps"))
+    }
 }
 
 /// Two maps with the same lines.
@@ -250,20 +283,22 @@ fn same_line_or_same_number() {
     let seed = draw::seed("same_line_or_same_number");
     let maps = draw::count() / 10;
     let mut seen = Seen::default();
-    let (mut full, mut of_sides, mut of_ends) = (0, [0; SIDES.len()], [0; ENDS.len()]);
-    for number in 0..maps {
+    for number in 0.. {
+        if !draw::another(number, maps, || draw::quick() || seen.missing(maps).is_none()) {
+            break;
+        }
         let mut random = Random(seed ^ number << 32);
         let ((w, h), tries) = sizes(&mut random, number % 12 == 0);
         let (drawn, file) = grown(&mut random, (w, h), tries);
         let other = with_other_values(&mut random, &drawn, &file);
         assert_eq!(lines(&file), lines(&other));
-        full += (drawn.map.splits.len() == MOST_SPLITS) as usize;
-        for (count, side) in of_sides.iter_mut().zip(SIDES) {
+        seen.full += (drawn.map.splits.len() == MOST_SPLITS) as usize;
+        for (count, side) in seen.of_sides.iter_mut().zip(SIDES) {
             *count += (w == side || h == side) as usize;
         }
         let (values, others) = (anchors(&file), anchors(&other));
         assert!(others.iter().any(|(anchor, entry)| entry.0 != values[anchor].0));
-        for (count, end) in of_ends.iter_mut().zip(ENDS) {
+        for (count, end) in seen.of_ends.iter_mut().zip(ENDS) {
             *count += others.iter().any(|(anchor, entry)| entry.0 == end && values[anchor].0 != end) as usize;
         }
 
@@ -278,37 +313,13 @@ fn same_line_or_same_number() {
         }
     }
 
-    let Seen { numbers, longer, apart, new_apart } = seen;
-    let count = |call, number| numbers.get(&(call, number)).copied().unwrap_or(0);
-    let gave = |call| (0..=12).map(|number| count(call, number)).collect::<Vec<usize>>();
-    let [none, some, all] = ["split by 0", "split by some", "split by 128"].map(gave);
+    let [none, some, all] = ["split by 0", "split by some", "split by 128"].map(|name| seen.gave(name));
+    let Seen { longer, apart, new_apart, full, of_sides, of_ends, .. } = &seen;
     println!(
         "{maps} maps, {full} full, {of_sides:?} of sides {SIDES:?}, {of_ends:?} with {ENDS:?} for other values; splits \
          gave 0 to 12: without allowance {none:?}, with some {some:?}, with all {all:?}; {longer} were longer than \
          given; anchors with two values: {apart} old, {new_apart} new"
     );
-    if draw::count() < 1000 {
-        return;
-    }
-    let enough = |what: &str, seen: usize, each: f64| {
-        assert!(seen as f64 >= each * maps as f64, "only {seen} {what} in {maps} maps");
-    };
-    for (number, each) in [(0, 2.0), (3, 1.0), (4, 0.5), (5, 2.0), (6, 0.2), (7, 0.6), (8, 0.25), (12, 0.02)] {
-        enough(&format!("without allowance with {number}"), none[number], each);
-        // Most of what is refused as given is drawn with some allowance, and all of it with all.
-        let (few, nothing) = if number == 8 { (0.02, 0.0) } else { (each, each) };
-        enough(&format!("with some allowance with {number}"), some[number], few);
-        enough(&format!("with all allowance with {number}"), all[number], nothing);
-    }
     assert_eq!(all[8], 0);
-    enough("longer than given", longer, 0.25);
-    enough("old anchors with two values", apart, 80.0);
-    enough("new anchors with two values", new_apart, 6.0);
-    enough("full", full, 0.05);
-    for (side, count) in SIDES.into_iter().zip(of_sides) {
-        enough(&format!("of side {side}"), count, 0.05);
-    }
-    for (end, count) in ENDS.into_iter().zip(of_ends) {
-        enough(&format!("with {end} for another value"), count, 0.3);
-    }
+    assert!(draw::quick() || seen.missing(maps).is_none(), "{}", seen.missing(maps).unwrap());
 }

@@ -97,7 +97,15 @@ fn same_answers_but_for_marks() {
     let maps = draw::count() / 10;
     let (mut numbers, mut from_old, mut apart) = (BTreeSet::new(), 0, 0);
     let pumps: Vec<&dyn Pump> = [&Model as &dyn Pump].into_iter().chain(subjects()).collect();
-    for map_number in 0..maps {
+    let changing = ["set", "split by 0", "split by some", "split by 128"];
+    let met = |numbers: &BTreeSet<_>, from_old: usize, apart: usize| {
+        let changed = changing.iter().all(|call| numbers.contains(&(*call, 0)));
+        draw::quick() || changed && apart as u64 > 4 * maps && 2 * from_old as u64 > maps
+    };
+    for map_number in 0.. {
+        if !draw::another(map_number, maps, || met(&numbers, from_old, apart)) {
+            break;
+        }
         let mut random = Random(seed ^ map_number << 32);
         let tries = random.below(16);
         let map = draw::map(&mut random, 9, tries);
@@ -131,7 +139,5 @@ fn same_answers_but_for_marks() {
         }
     }
     println!("{maps} pairs, {apart} calls with other marks, {from_old} with an old file; call and number: {numbers:?}");
-    let changing = ["set", "split by 0", "split by some", "split by 128"];
-    let changed = changing.iter().all(|call| numbers.contains(&(call, 0)));
-    assert!(draw::count() < 1000 || changed && apart as u64 > 4 * maps && 2 * from_old as u64 > maps);
+    assert!(met(&numbers, from_old, apart), "too few of some");
 }

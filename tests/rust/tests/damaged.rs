@@ -90,7 +90,14 @@ fn damaged_files() {
     let seed = draw::seed("damaged_files");
     let count = draw::count();
     let (mut refused, mut splits_refused, mut accepted, mut accepted_old) = (0, 0, 0, 0);
-    for number in 0..count {
+    let met = |refused, splits_refused, accepted, accepted_old| {
+        let enough = refused > count / 10 && splits_refused > count / 10 && accepted > count / 40;
+        draw::quick() || enough && accepted_old > count / 80
+    };
+    for number in 0.. {
+        if !draw::another(number, count, || met(refused, splits_refused, accepted, accepted_old)) {
+            break;
+        }
         let mut random = Random(seed ^ number << 32);
         let tries = random.below(14);
         let map = draw::map(&mut random, 9, tries);
@@ -143,8 +150,7 @@ fn damaged_files() {
         "{count} files: {refused} cut up, {splits_refused} refused though whole records, {accepted} accepted; \
          {accepted_old} old ones read"
     );
-    assert!(count < 1000 || refused > count / 10 && splits_refused > count / 10 && accepted > count / 40);
-    assert!(count < 1000 || accepted_old > count / 80);
+    assert!(met(refused, splits_refused, accepted, accepted_old), "too few of some");
 }
 
 /// A mix of the two kinds is no file, and neither is a mark above 1, wherever it stands: no call takes it.

@@ -7,10 +7,15 @@ use pump_tests::model::{first_four, live, reading, sum, table, Blend, Lines, Map
 use pump_tests::subjects;
 use std::collections::BTreeSet;
 
-/// Maps to look at, fewer than histories.
+/// How many maps are looked at, fewer than histories.
+fn rounds() -> u64 {
+    draw::count() / 6
+}
+
+/// Maps to look at, as many as are wanted.
 fn maps(test: &str) -> impl Iterator<Item = (Random, Map)> {
     let seed = draw::seed(test);
-    (0..draw::count() / 6).map(move |number| {
+    (0..).map(move |number| {
         let mut random = Random(seed ^ number << 32);
         let (largest, tries) = (random.pick(&[4, 8, 12]), random.below(16));
         let map = draw::map(&mut random, largest, tries);
@@ -23,7 +28,7 @@ fn maps(test: &str) -> impl Iterator<Item = (Random, Map)> {
 #[test]
 fn weights_add_up() {
     let mut points = 0;
-    for (mut random, map) in maps("weights_add_up") {
+    for (mut random, map) in maps("weights_add_up").take(rounds() as usize) {
         let table = map.table();
         let d = random.pick(&[1, 2, 3, 5, 7]);
         for x in 0..=map.w * d {
@@ -62,7 +67,11 @@ fn readings(map: &Map) -> Vec<((i64, i64), i64)> {
 #[test]
 fn readings_are_the_nearest() {
     let (mut up, mut down, mut halves) = (0, 0, 0);
-    for (_, map) in maps("readings_are_the_nearest") {
+    let met = |up, down, halves| draw::quick() || halves > 0 && up > halves && down > 0;
+    for (round, (_, map)) in (0..).zip(maps("readings_are_the_nearest")) {
+        if !draw::another(round, rounds(), || met(up, down, halves)) {
+            break;
+        }
         let table = map.table();
         for ((u, v), litres) in readings(&map) {
             let (numerator, denominator) = sum(table.iter().zip(&map.values).map(|(blend, value)| {
@@ -78,7 +87,7 @@ fn readings_are_the_nearest() {
         }
     }
     println!("{up} readings rounded up, {halves} of them halves, {down} down");
-    assert!(draw::count() < 1000 || halves > 0 && up > halves && down > 0);
+    assert!(met(up, down, halves), "too few of some");
 }
 
 /// Readings lie between the lowest and the highest value, at the end of the range too.
@@ -86,7 +95,11 @@ fn readings_are_the_nearest() {
 fn readings_stay_in_range() {
     const MOST: u16 = 65_535;
     let mut between = [0, 0];
-    for (mut random, mut map) in maps("readings_stay_in_range") {
+    let met = |between: [usize; 2]| draw::quick() || between.iter().all(|count| *count > 0);
+    for (round, (mut random, mut map)) in (0..).zip(maps("readings_stay_in_range")) {
+        if !draw::another(round, rounds(), || met(between)) {
+            break;
+        }
         map.values.fill(MOST);
         assert!(readings(&map).iter().all(|(_, litres)| *litres == MOST as i64), "{map:?}");
         map.values.iter_mut().for_each(|value| *value = random.pick(&[MOST - 1, MOST]));
@@ -97,14 +110,18 @@ fn readings_stay_in_range() {
         }
     }
     println!("between anchors {} readings of {}, {} of {MOST}", between[0], MOST - 1, between[1]);
-    assert!(draw::count() < 1000 || between.iter().all(|count| *count > 0));
+    assert!(met(between), "one of the two never came");
 }
 
 /// Across a split, a reading at an old anchor stays, and one at any other whole point moves by at most one, up or down.
 #[test]
 fn splits_keep_readings() {
     let (mut kept, mut raised, mut lowered) = (0, 0, 0);
-    for (mut random, mut map) in maps("splits_keep_readings") {
+    let met = |raised, lowered| draw::quick() || raised > 0 && lowered > 0;
+    for (round, (mut random, mut map)) in (0..).zip(maps("splits_keep_readings")) {
+        if !draw::another(round, rounds(), || met(raised, lowered)) {
+            break;
+        }
         for _ in 0..6 {
             let before = map.clone();
             let [direction, position, from, to] = draw::split(&mut random, &map, &map.lines());
@@ -129,7 +146,7 @@ fn splits_keep_readings() {
         }
     }
     println!("{kept} readings kept, {raised} raised, {lowered} lowered");
-    assert!(draw::count() < 1000 || raised > 0 && lowered > 0);
+    assert!(met(raised, lowered), "no reading was raised, or none lowered");
 }
 
 /// The stretches of the lines inside the domain, each as one split: the fewest that cover the same points.
@@ -167,7 +184,7 @@ fn in_some_order(map: &Map, splits: &[Split]) -> Option<Map> {
 #[test]
 fn lines_alone_count() {
     let (mut shuffled, mut joined) = (0, 0);
-    for (mut random, mut map) in maps("lines_alone_count") {
+    for (mut random, mut map) in maps("lines_alone_count").take(rounds() as usize) {
         let mut splits = map.splits.clone();
         random.shuffle(&mut splits);
         let mut whole = stretches(&map);

@@ -30,9 +30,9 @@ impl Seen {
         self.numbers.get(&(call, number)).copied().unwrap_or(0)
     }
 
-    /// Every call must have given every number that it can give, and no other, and 0 on old files if it can. 1 and 4
-    /// have tests of their own.
-    fn assert_all(&self) {
+    /// Whether every call has given every number that it can give, and 0 on old files if it can, and maps were the same and
+    /// not. 1 and 4 have tests of their own. No call may have given another number.
+    fn all(&self) -> bool {
         let can: [(&'static str, &[usize]); 14] = [
             ("set", &[0, 9, 11, 12]),
             ("split by 0", &[0, 3, 5, 6, 7, 8, 11, 12]),
@@ -49,17 +49,25 @@ impl Seen {
             ("payload", &[0, 11]),
             ("table", &[0, 11, 12]),
         ];
+        let mut all = self.same[0] > 0 && self.same[1] > 0;
         for (call, numbers) in can {
-            let counts: Vec<usize> = (0..=13).map(|number| self.count(call, number)).collect();
-            let on_old = self.on_old.get(call).copied().unwrap_or(0);
-            println!("{call:>13} gave 0 to 13: {counts:?}; 0 on old files: {on_old}");
-            assert!(on_old > 0 || !numbers.contains(&0), "{call} was never accepted on an old file");
-            for (number, count) in counts.into_iter().enumerate() {
-                let may = number == 4 && call != "split by more";
-                assert!(may || numbers.contains(&number) == (count > 0), "{call} gave {number} {count} times");
+            all &= self.on_old.get(call).is_some_and(|count| *count > 0) || !numbers.contains(&0);
+            for number in 0..=13 {
+                let (count, can) = (self.count(call, number), numbers.contains(&number));
+                let may = can || number == 4 && call != "split by more";
+                assert!(may || count == 0, "{call} gave {number} {count} times");
+                all &= count > 0 || !can;
             }
         }
-        assert!(self.same[0] > 0 && self.same[1] > 0);
+        all
+    }
+
+    fn print(&self) {
+        for (call, on_old) in &self.on_old {
+            let counts: Vec<usize> = (0..=13).map(|number| self.count(call, number)).collect();
+            println!("{call:>13} gave 0 to 13: {counts:?}; 0 on old files: {on_old}");
+        }
+        println!("two maps were not the same, and were: {:?}", self.same);
     }
 }
 
@@ -146,16 +154,18 @@ fn random_histories() {
     let count = draw::count();
     let mut seen = Seen::default();
     let (mut accepted, mut drawn) = (0, 0);
-    for number in 0..count {
+    for number in 0.. {
+        if !draw::another(number, count, || draw::quick() || seen.all()) {
+            break;
+        }
         let mut random = Random(seed ^ number << 32);
         let (sides, length) = (draw::sides(&mut random), random.below(40));
         accepted += history(&mut random, &mut seen, sides, length, false).splits.len();
         drawn += length;
     }
     println!("{count} histories, {drawn} calls, {accepted} splits accepted");
-    if count >= 1000 {
-        seen.assert_all();
-    }
+    seen.print();
+    assert!(seen.all() || draw::quick(), "some call never gave one of its numbers");
 }
 
 /// Histories long enough to fill a map with 60 splits, on sides that hold them.
@@ -163,12 +173,17 @@ fn random_histories() {
 fn full_histories() {
     let seed = draw::seed("full_histories");
     let mut seen = Seen::default();
-    for (number, (sides, length)) in [((70, 2), 160), ((30, 40), 110), ((128, 128), 90)].into_iter().enumerate() {
-        let mut random = Random(seed ^ (number as u64) << 32);
+    let full = |seen: &Seen| ["split by 0", "split by some", "split by 128"].iter().all(|call| seen.count(call, 4) > 0);
+    let sizes = [((70, 2), 160), ((30, 40), 110), ((128, 128), 90)];
+    for (number, (sides, length)) in (0..).zip(sizes.into_iter().cycle()) {
+        if !draw::another(number, sizes.len() as u64, || full(&seen)) {
+            break;
+        }
+        let mut random = Random(seed ^ number << 32);
         let map = history(&mut random, &mut seen, sides, length, true);
         println!("{sides:?}: {} splits, {} blends", map.splits.len(), map.values.len());
     }
-    assert!(["split by 0", "split by some", "split by 128"].iter().all(|call| seen.count(call, 4) > 0));
+    assert!(full(&seen), "no map was full");
 }
 
 /// The map of these splits on sides of 128, by the plain implementation, with values.

@@ -111,7 +111,11 @@ impl Seen {
 fn answers_are_what_the_readings_say() {
     let seed = draw::seed("answers_are_what_the_readings_say");
     let (mut seen, mut thin) = (Seen::default(), 0);
-    for number in 0..draw::count() / 20 {
+    let met = |seen: &Seen, thin| draw::quick() || seen.counts.iter().all(|count| *count > 0) && thin > 0;
+    for number in 0.. {
+        if !draw::another(number, draw::count() / 20, || met(&seen, thin)) {
+            break;
+        }
         let mut random = Random(seed ^ number << 32);
         let (largest, tries) = (random.pick(&[1, 3, 8, 12, 16]), random.below(16));
         let mut map = draw::map(&mut random, largest, tries);
@@ -129,7 +133,7 @@ fn answers_are_what_the_readings_say() {
     }
     seen.print();
     println!("{thin} maps with a side of 1");
-    assert!(draw::count() < 1000 || seen.counts.iter().all(|count| *count > 0) && thin > 0);
+    assert!(met(&seen, thin), "some count never came, or no side of 1");
 }
 
 /// Values so low that every flow can be wanted: each step between two neighbouring readings parts as many flows as it is

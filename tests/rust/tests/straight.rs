@@ -118,7 +118,14 @@ fn reads_straight(straight: &Straight, map: &Map, asked: &mut dyn FnMut() -> boo
 fn straight_values_read_straight() {
     let seed = draw::seed("straight_values_read_straight");
     let mut seen = Seen::default();
-    for number in 0..draw::count() / 6 {
+    let met = |seen: &Seen| {
+        let all = seen.signs.iter().flatten().chain(&seen.ends).all(|count| *count > 0);
+        draw::quick() || all && seen.blends > 30
+    };
+    for number in 0.. {
+        if !draw::another(number, draw::count() / 6, || met(&seen)) {
+            break;
+        }
         let mut random = Random(seed ^ number << 32);
         let (largest, tries) = (random.pick(&[4, 8, 12, 30]), random.below(30));
         let mut map = draw::map(&mut random, largest, tries);
@@ -147,8 +154,7 @@ fn straight_values_read_straight() {
         "{} readings, signs {:?}, ends {:?}, at most {} blends",
         seen.readings, seen.signs, seen.ends, seen.blends
     );
-    let all = seen.signs.iter().flatten().chain(&seen.ends).all(|count| *count > 0);
-    assert!(draw::count() < 1000 || all && seen.blends > 30);
+    assert!(met(&seen), "a sign or an end never came, or only small maps");
 }
 
 /// Four measured corners, then splits alone: every accepted one leaves the flow, at the new anchors too.
@@ -156,7 +162,10 @@ fn straight_values_read_straight() {
 fn splits_leave_a_straight_pump_straight() {
     let seed = draw::seed("splits_leave_a_straight_pump_straight");
     let (mut seen, mut splits) = (Seen::default(), 0);
-    for number in 0..draw::count() / 20 {
+    for number in 0.. {
+        if !draw::another(number, draw::count() / 20, || draw::quick() || splits > 0) {
+            break;
+        }
         let mut random = Random(seed ^ number << 32);
         let largest = random.pick(&[4, 8, 12, 30]);
         let mut map = Map::fresh(random.between(1, largest), random.between(1, largest)).unwrap();
@@ -176,7 +185,7 @@ fn splits_leave_a_straight_pump_straight() {
         reads_straight(&straight, &map, &mut || true, &mut seen);
     }
     println!("{splits} splits, {} readings, at most {} blends", seen.readings, seen.blends);
-    assert!(draw::count() < 1000 || splits > 0);
+    assert!(draw::quick() || splits > 0);
 }
 
 /// The maps that are the worst in some way, on sides of 128: every point by the model, some by the subjects.

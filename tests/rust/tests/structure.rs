@@ -23,13 +23,13 @@ fn reached(random: &mut Random, (w, h): (usize, usize), length: usize) -> Vec<Ma
     maps
 }
 
-/// The maps of many lists; the sides and the length of each are drawn.
-fn maps(test: &str, lists: u64, sizes: fn(&mut Random) -> ((usize, usize), usize)) -> impl Iterator<Item = Map> {
+/// The maps of as many lists as are wanted, each with its list's number; the sides and the length of each are drawn.
+fn maps(test: &str, sizes: fn(&mut Random) -> ((usize, usize), usize)) -> impl Iterator<Item = (u64, Map)> {
     let seed = draw::seed(test);
-    (0..lists).flat_map(move |number| {
+    (0..).flat_map(move |number| {
         let mut random = Random(seed ^ number << 32);
         let (sides, length) = sizes(&mut random);
-        reached(&mut random, sides, length)
+        reached(&mut random, sides, length).into_iter().map(move |map| (number, map))
     })
 }
 
@@ -37,10 +37,17 @@ fn any_sizes(random: &mut Random) -> ((usize, usize), usize) {
     (draw::sides(random), random.below(30))
 }
 
-/// A thing must have been seen so many times for each list, or the test has tried too little.
-fn enough(what: &str, seen: usize, each: f64, lists: u64) {
-    println!("{seen} {what}");
-    assert!(draw::count() < 1000 || seen as f64 >= each * lists as f64, "only {seen} {what} in {lists} lists");
+/// What a test must have seen, and how many times for each list, or it has tried too little.
+type Wanted = [(&'static str, f64)];
+
+fn enough(wanted: &Wanted, seen: &[usize], lists: u64) -> bool {
+    let often = |((_, each), seen): (&(_, f64), &usize)| *seen as f64 >= each * lists as f64;
+    draw::quick() || wanted.iter().zip(seen).all(often)
+}
+
+fn assert_enough(wanted: &Wanted, seen: &[usize], lists: u64) {
+    wanted.iter().zip(seen).for_each(|((what, _), seen)| println!("{seen} {what}"));
+    assert!(enough(wanted, seen, lists), "too few of some in {lists} lists");
 }
 
 /// The sides that lines of this direction cross and run along.
@@ -71,9 +78,13 @@ fn passes(lines: &Lines, direction: usize, position: i64, at: i64) -> bool {
 /// that ends on another makes no anchor.
 #[test]
 fn anchors_are_crossings() {
+    let wanted = [("other crossings on the border", 15.0), ("crossings inside", 6.0), ("ends of lines on others", 4.0)];
     let lists = draw::count() / 2;
     let (mut met, mut ends) = ([0; 3], 0);
-    for map in maps("anchors_are_crossings", lists, any_sizes) {
+    for (list, map) in maps("anchors_are_crossings", any_sizes) {
+        if !draw::another(list, lists, || enough(&wanted, &[met[1], met[2], ends], lists)) {
+            break;
+        }
         let lines = map.lines();
         let mut crossings = vec![];
         for u in 0..=map.w {
@@ -91,9 +102,7 @@ fn anchors_are_crossings() {
     }
     let [corners, border, inside] = met;
     println!("{corners} corners");
-    enough("other crossings on the border", border, 15.0, lists);
-    enough("crossings inside", inside, 6.0, lists);
-    enough("ends of lines on others", ends, 4.0, lists);
+    assert_enough(&wanted, &[border, inside, ends], lists);
 }
 
 // ---------------------------------------------------------------------------------------------- Blends tell the lines
@@ -116,9 +125,13 @@ fn grids(table: &[Blend]) -> BTreeSet<(usize, i64, i64)> {
 /// The grids of the blends lie on lines, and inside the domain every step of a line lies on a grid.
 #[test]
 fn lines_are_the_grids() {
+    let wanted = [("inner steps on no line", 200.0), ("inner steps on a line", 50.0)];
     let lists = draw::count() / 2;
     let mut inner = [0, 0];
-    for map in maps("lines_are_the_grids", lists, any_sizes) {
+    for (list, map) in maps("lines_are_the_grids", any_sizes) {
+        if !draw::another(list, lists, || enough(&wanted, &inner, lists)) {
+            break;
+        }
         let (lines, grids) = (map.lines(), grids(&map.table()));
         for step @ (direction, position, low) in &grids {
             assert!(lines.has(*direction, *position, *low), "{map:?}: {step:?} is on a grid and on no line");
@@ -134,19 +147,22 @@ fn lines_are_the_grids() {
             }
         }
     }
-    enough("inner steps on no line", inner[0], 200.0, lists);
-    enough("inner steps on a line", inner[1], 50.0, lists);
+    assert_enough(&wanted, &inner, lists);
 }
 
 /// Maps of the same sides with the same blends have lines that cover the same points, whatever splits made them. (With
 /// the same anchors they may not.) Short lists on small sides often come to the same blends.
 #[test]
 fn same_blends_same_lines() {
+    let wanted = [("times the same table by other splits", 0.4)];
     let lists = draw::count() * 2;
     let mut met = BTreeMap::new();
     let mut again = 0;
     let small = |random: &mut Random| ((random.between(3, 5), random.between(3, 5)), random.below(20));
-    for map in maps("same_blends_same_lines", lists, small) {
+    for (list, map) in maps("same_blends_same_lines", small) {
+        if !draw::another(list, lists, || enough(&wanted, &[again], lists)) {
+            break;
+        }
         match met.entry((map.w, map.h, map.table())) {
             Entry::Vacant(new) => {
                 new.insert((map.lines(), BTreeSet::from([map.splits])));
@@ -159,7 +175,7 @@ fn same_blends_same_lines() {
         }
     }
     println!("{} tables", met.len());
-    enough("times the same table by other splits", again, 0.4, lists);
+    assert_enough(&wanted, &[again], lists);
 }
 
 // ---------------------------------------------------------------------------------------------------------- Good ends
@@ -176,6 +192,29 @@ struct Seen {
     unsound: usize,
     bad: [usize; 3],
     longer: [usize; 3],
+}
+
+impl Seen {
+    const WANTED: [(&'static str, f64); 9] = [
+        ("gaps", 10.0),
+        ("sound lines", 25.0),
+        ("pairs of them, one in the other", 5.0),
+        ("of their ends inside a gap", 15.0),
+        ("lines that are not sound", 3.0),
+        ("bad ends with an anchor on one side", 2.0),
+        ("bad ends with anchors on both sides", 0.5),
+        ("lines longer at one end", 2.0),
+        ("lines longer at both ends", 0.1),
+    ];
+
+    fn counts(&self) -> [usize; 9] {
+        let Seen { gaps, sound, pairs, inside, unsound, bad: [_, one, both], longer: [_, at_one, at_both] } = *self;
+        [gaps, sound, pairs, inside, unsound, one, both, at_one, at_both]
+    }
+
+    fn enough(&self, lists: u64) -> bool {
+        enough(&Seen::WANTED, &self.counts(), lists)
+    }
 }
 
 /// A position of a map at which lines are tried. Its words are those of uprights; for levels, left is below.
@@ -312,7 +351,10 @@ fn sound_lines_have_good_ends() {
     let lists = draw::count() / 4;
     let mut seen = Seen::default();
     let small = |random: &mut Random| ((random.between(1, 8), random.between(1, 8)), random.below(20));
-    for map in maps("sound_lines_have_good_ends", lists, small) {
+    for (list, map) in maps("sound_lines_have_good_ends", small) {
+        if !draw::another(list, lists, || seen.enough(lists)) {
+            break;
+        }
         let (lines, table) = (&map.lines(), &map.table()[..]);
         for direction in [UPRIGHT, LEVEL] {
             let (across, along) = sides(&map, direction);
@@ -321,16 +363,7 @@ fn sound_lines_have_good_ends() {
             }
         }
     }
-    let Seen { gaps, sound, pairs, inside, unsound, bad: [none, one, both], longer } = seen;
-    enough("gaps", gaps, 10.0, lists);
-    enough("sound lines", sound, 25.0, lists);
-    enough("pairs of them, one in the other", pairs, 5.0, lists);
-    enough("of their ends inside a gap", inside, 15.0, lists);
-    enough("lines that are not sound", unsound, 3.0, lists);
-    enough("bad ends with an anchor on one side", one, 2.0, lists);
-    enough("bad ends with anchors on both sides", both, 0.5, lists);
-    enough("lines longer at one end", longer[1], 2.0, lists);
-    enough("lines longer at both ends", longer[2], 0.1, lists);
     // The line that an end lies on has an anchor there, on one side at least.
-    assert_eq!(none, 0);
+    assert_eq!(seen.bad[0], 0);
+    assert_enough(&Seen::WANTED, &seen.counts(), lists);
 }
