@@ -1,11 +1,12 @@
 -- A call on a buffer that begins with the file of what the plain machine holds reads that map, answers as the machine does, and leaves such a buffer.
-use Prim.Native.Nat.{ℕ, _+_, _-_, _≤_, _%_}
+use Prim.Native.Nat.{ℕ, _+_, _-_, _%_, _≤_, _<_}
 use native.Mathlib.Omega.{arith}
+use native.Mathlib.Nat.{mod-eq-of-lt}
 use mathlib.Core.Path.{_≡_, refl, sym, ap, subst, _∙_}
 use mathlib.Core.Logic.{⊎-elim}
 use mathlib.Core.Bool.{true, false, _&&_}
 use mathlib.Core.List.{List, [], _∷_, _++_}
-use borrow.Author.Tests.{le-leb, leb-false}
+use borrow.Author.Tests.{le-leb, leb-true, leb-false}
 use lib.Dec.{leb, ltb}
 use lib.ListN.{length, drop, length-append}
 use lib.Seq.{take-append-seam, drop-append-add, drop-drop}
@@ -125,7 +126,17 @@ module _ {d : Desk} (at : At d) where
       new-shown d 1 (freshPlain 1 1) (fresh-reached 1 1 refl refl) (freshMap w h) (cond-false _ _ _ f) ∙ ap shown (sym (cond-false _ _ _ f)))
       (either (allowedSide w && allowedSide h))
   step-shown (set m n v) =
-      change-shown (Maps.set m n v) (λ old. setValue old m n (v % 65536)) (step-follows (d .holds) (at .reached) (Maps.set m n v))
+      ⊎-elim
+      (λ (t : leb v 65535 ≡ true).
+      let narrow : v < 65536 = (let le = leb-true v 65535 t in omega arith) in
+      rw t
+      (subst (λ (w : ℕ). changing (λ old. setValue old m n w) (lentBy d) ≡ shown (changes d (Maps.set m n v)))
+      (mod-eq-of-lt narrow)
+      (change-shown (Maps.set m n v) (λ old. setValue old m n (v % 65536))
+      (step-follows (d .holds) (at .reached) (Maps.set m n v)))))
+      (λ (f : leb v 65535 ≡ false).
+      rw (f, is-read) (new-shown d 3 (d .holds) (at .reached) (changed 3 (recordOf (d .holds))) refl))
+      (either (leb v 65535))
   step-shown (split s a) = change-shown (Maps.split s a) (λ old. splitWithin old s a) (step-follows (d .holds) (at .reached) (Maps.split s a))
   step-shown (place i out) = let g = record-good (at .reached .holds) in rw (is-read, g .0, g .1)
   step-shown (reads u v) =
