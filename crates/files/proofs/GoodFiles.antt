@@ -33,7 +33,7 @@ use Rattle.files.specs.File.{largestFile, head, splitEntry, TableEntry, 
 use Rattle.files.specs.Calls.{readFile}
 use Rattle.files.specs.Accepted.{IsFile, IsOldFile, unmarkedEntry, Accepts}
 use Rattle.files.proofs.RoundTrip.{Small, Fits, file-length, accepted-file, written-reads, read-either}
-use Rattle.files.proofs.ReadMaps.{map-held}
+use Rattle.files.proofs.ReadMaps.{map-held, told-held, guessed-holds}
 use Rattle.mesh.specs.Splits.{liveOf}
 
 most : (s : ℕ) → allowedSide s ≡ true → s ≤ 128
@@ -93,9 +93,19 @@ good-fits P holds values =
 pub plain-reads-back : (P : Plain) → Holds P → ((v : ℕ) → List·Memᴰ v (P .values) → v < 65536) → readFile (fileOf P) ≡ changed 0 (recordOf P)
 plain-reads-back P holds values = written-reads false P (good-fits P holds values) (λ o. absurd (true-not-false false o refl)) (record-good holds .0)
 
--- "A written file has 12 + 12 × s + 12 × k bytes from now on, a fresh map's 60"; the largest has 13,020.
+-- "A written file has 12 + 12 × s + 12 × k bytes from now on, a fresh map's 60"; the largest has 13,020, and no bytes that
+-- are accepted are more, an old file's among them.
+form-most : (old : Bool) (P : Plain) → Holds P → length (fileIn old P) ≤ largestFile
+form-most true P h = omega (arith, file-length P (h .counted) (h .counted-marks) true, h .taken .few, replays-short (h .taken))
+form-most false P h = omega (arith, file-length P (h .counted) (h .counted-marks) false, h .taken .few, replays-short (h .taken))
+
 pub file-most : (P : Plain) → Holds P → length (fileOf P) ≤ largestFile
-file-most P h = omega (arith, file-length P (h .counted) (h .counted-marks) false, h .taken .few, replays-short (h .taken))
+file-most = form-most false
+
+pub accepted-most : (bytes : List ℕ) → readFile bytes .number ≡ 0 → length bytes ≤ largestFile
+accepted-most bytes e =
+    let is = accepted-file bytes e .1 ∙ ap (fileIn (isOld bytes)) (told-held bytes e) in
+    omega (arith, ap length is, form-most (isOld bytes) (guessed bytes) (guessed-holds bytes e))
 
 pub fresh-file : (w h : ℕ) → allowedSide w ≡ true → allowedSide h ≡ true → length (fileOf (freshPlain w h)) ≡ 60
 unfolding freshPlain
