@@ -1,6 +1,6 @@
 -- Which numbers the calls on files give.
 use Prim.Native.Nat.{ℕ}
-use mathlib.Core.Path.{_≡_, refl, sym, subst}
+use mathlib.Core.Path.{refl, sym, subst}
 use mathlib.Core.Logic.{⊎-elim}
 use mathlib.Core.Bool.{Bool, true, false, cond, not}
 use mathlib.Core.List.{List, [], _∷_}
@@ -10,13 +10,13 @@ use Rattle.maps.specs.Record.{plain, good}
 use Rattle.files.specs.File.{fileOf}
 use Rattle.files.specs.Calls.{ifRefused, writeNumber, readFile, whole}
 use Rattle.files.specs.Listing.{textOf, textNumber}
-use Rattle.files.specs.Accepted.{Accepts}
 use Rattle.files.specs.Numbers.{OneOf, FileNumbers}
 use Rattle.files.proofs.GoodFiles.{accepts}
 
 -- What holds of both numbers that a test decides between holds of the one that it gives,
 module _ (P : ℕ → Type 0) where
-  pub by-test : {A : Type 0} (number : A → ℕ) (t : Bool) {x y : A} → P (number x) → P (number y) → P (number (cond t x y))
+  pub by-test : {A : Type 0} (number : A → ℕ) (t : Bool) {x y : A} → P (number x) → P (number y) →
+      P (number (cond t x y))
   by-test number true p q = p
   by-test number false p q = q
 
@@ -34,7 +34,8 @@ file-numbers =
     record {
       writes = λ m buffer.
           let ok = OneOf (0 ∷ 2 ∷ 12 ∷ []) in
-          by-test ok (λ n. n) (not (good m)) refl (by-test ok (λ n. n) (ltb (length buffer) (length (fileOf (plain m)))) refl refl);
+          by-test ok (λ n. n) (not (good m)) refl
+          (by-test ok (λ n. n) (ltb (length buffer) (length (fileOf (plain m)))) refl refl);
       reads = λ bytes. reading-gives (OneOf (0 ∷ 11 ∷ [])) bytes refl refl;
       payloads = λ bytes at. by-test (OneOf (0 ∷ 11 ∷ [])) (λ n. n) (whole bytes at) refl refl;
       lists = λ bytes out.

@@ -1,4 +1,4 @@
--- Document 01, "When a call says no": the calls on files give only the numbers whose matter they have.
+-- Document 01, "When a call says no": calls on files give only the numbers whose matter they have.
 use Prim.Native.Nat.{ℕ}
 use mathlib.Core.Path.{_≡_}
 use mathlib.Core.Bool.{true}

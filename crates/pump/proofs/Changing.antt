@@ -21,7 +21,8 @@ pub ends-refused : (refused : ℕ) (next : Changed) (buffer : List ℕ) (used : 
     number ≡ firstOf refused (next .number) 0 → (number ≡ 0 → ⊥) → Ends refused next buffer used number buffer used
 unfolding newNumber newBytes newUsed
 ends-refused refused next buffer used is ne =
-    let e = two-refuse refused (next .number) (writeNumber (next .map) buffer) is ne in (e, stays _ _ e ne, stays _ _ e ne)
+    let e = two-refuse refused (next .number) (writeNumber (next .map) buffer) is ne in
+    (e, stays _ _ e ne, stays _ _ e ne)
 
 -- on the map that was read, it is what the change of a file says
 module _ (call : Map → Changed) (buffer : List ℕ) (used : ℕ) {old next : Opened} (is : old ≡ withTable (readFile (lent buffer used)))

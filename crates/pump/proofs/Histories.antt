@@ -1,5 +1,5 @@
 -- A call on a buffer that begins with the file of what the plain machine holds reads that map, answers as the machine does, and leaves such a buffer.
-use Prim.Native.Nat.{ℕ, _+_, _-_, _%_, _≤_, _<_}
+use Prim.Native.Nat.{ℕ, _+_, _-_, _≤_, _<_}
 use native.Mathlib.Omega.{arith}
 use native.Mathlib.Nat.{mod-eq-of-lt}
 use mathlib.Core.Path.{_≡_, refl, sym, ap, subst, _∙_}
@@ -83,6 +83,15 @@ module _ (d : Desk) where
       (λ (u : ltb (length (d .bytes)) (length (fileOf Q)) ≡ false). rw u (past-front (fileOf Q) (d .bytes) k (rw u at le)))
       (either (ltb (length (d .bytes)) (length (fileOf Q))))
 
+-- a value that is a 16-bit number is the one that is set
+pub set-follows : (P : Plain) → Reached P → (m n v : ℕ) → leb v 65535 ≡ true → let r = setValue (recordOf P) m n v in
+    Maps.outcome (Maps.number (r .number)) (r .map) ≡ recorded (byMachine P (Maps.set m n v))
+set-follows P at m n v t =
+    let narrow : v < 65536 = (let le = leb-true v 65535 t in omega arith) in
+    subst (λ (w : ℕ). let r = setValue (recordOf P) m n w in
+    Maps.outcome (Maps.number (r .number)) (r .map) ≡ recorded (byMachine P (Maps.set m n v))) (mod-eq-of-lt narrow)
+    (step-follows P at (Maps.set m n v))
+
 module _ {d : Desk} (at : At d) where
   is-lent : lent (d .bytes) (length (d .file)) ≡ d .file
   is-lent =
@@ -128,12 +137,7 @@ module _ {d : Desk} (at : At d) where
   step-shown (set m n v) =
       ⊎-elim
       (λ (t : leb v 65535 ≡ true).
-      let narrow : v < 65536 = (let le = leb-true v 65535 t in omega arith) in
-      rw t
-      (subst (λ (w : ℕ). changing (λ old. setValue old m n w) (lentBy d) ≡ shown (changes d (Maps.set m n v)))
-      (mod-eq-of-lt narrow)
-      (change-shown (Maps.set m n v) (λ old. setValue old m n (v % 65536))
-      (step-follows (d .holds) (at .reached) (Maps.set m n v)))))
+      rw t (change-shown (Maps.set m n v) (λ old. setValue old m n v) (set-follows (d .holds) (at .reached) m n v t)))
       (λ (f : leb v 65535 ≡ false).
       rw (f, is-read) (new-shown d 3 (d .holds) (at .reached) (changed 3 (recordOf (d .holds))) refl))
       (either (leb v 65535))

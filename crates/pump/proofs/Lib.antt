@@ -5,3 +5,4 @@ pub mod Histories
 pub mod Demand3
 pub mod ByLines
 pub mod Allowance
+pub mod OwnNumbers

@@ -60,8 +60,8 @@ changeBytes call buffer used = let file = readFile (lent buffer used) in newByte
 abbrev pub changeUsed : (Map → Changed) → List ℕ → ℕ → ℕ
 changeUsed call buffer used = let file = readFile (lent buffer used) in newUsed (file .number) (call (file .map)) buffer used
 
--- pump_set: a value comes as wide as every other argument. One that is no 16-bit number gets 3; then
--- the call on the map, 9.
+-- pump_set: a value comes as wide as every other argument. One that is no 16-bit number gets 3;
+-- then the call on the map, 9.
 abbrev pub setWide : Map → ℕ → ℕ → ℕ → Changed
 setWide old m n value = cond (leb value 65535) (setValue old m n value) (changed 3 old)
 

@@ -2,3 +2,4 @@ pub mod Border
 pub mod Histories
 pub mod Demand
 pub mod ByLines
+pub mod OwnNumbers

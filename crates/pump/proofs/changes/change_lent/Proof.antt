@@ -1,5 +1,5 @@
--- `changes::change_lent` meets its contract: too large a value is refused, and else the change of the
--- map that the buffer holds is ended by `replace`.
+-- `changes::change_lent` meets its contract: too large a value is refused, and else the change of
+-- the map that the buffer holds is ended by `replace`.
 use borrow.Author.Needs.{needs}
 use native.Mathlib.Omega.{arith}
 use mathlib.Core.Path.{sym, refl, _∙_}
