@@ -6,3 +6,4 @@ pub mod Demand3
 pub mod ByLines
 pub mod Allowance
 pub mod OwnNumbers
+pub mod AnyBuffer
