@@ -7,3 +7,4 @@ pub mod ByLines
 pub mod Allowance
 pub mod OwnNumbers
 pub mod AnyBuffer
+pub mod ByMarks

@@ -3,3 +3,4 @@ pub mod Histories
 pub mod Demand
 pub mod ByLines
 pub mod OwnNumbers
+pub mod ByMarks
