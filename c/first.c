@@ -8,7 +8,7 @@ static const char *const why[] = {
     "drawn",
     "a side is outside 1 to 128",
     "the record is not good",
-    "direction, position, from, to or allowance is out of range",
+    "direction, position, from, to, allowance or value is out of range",
     "the map has 60 splits",
     "it shares more than one point with a line at its position",
     "an end lies on no crossing line",
@@ -52,9 +52,9 @@ static void draw(size_t direction, size_t position, size_t from, size_t to) {
     }
 }
 
-static void set(size_t level, size_t speed, uint16_t litres) {
+static void set(size_t level, size_t speed, size_t litres) {
     size_t n = pump_set(map, sizeof map, &used, level, speed, litres);
-    printf("set (%zu, %zu) to %u: %zu, %s\n", level, speed, litres, n, n == PUMP_YES ? "set" : why[n]);
+    printf("set (%zu, %zu) to %zu: %zu, %s\n", level, speed, litres, n, n == PUMP_YES ? "set" : why[n]);
 }
 
 int main(void) {
@@ -83,6 +83,7 @@ int main(void) {
     set(12, 12, 300);
     set(8, 12, 300);
     set(5, 9, 300);
+    set(12, 12, 65536);
     for (size_t u = 5; u <= 9; u++) {
         size_t litres;
         n = pump_reading(map, used, u, 12, &litres);

@@ -87,7 +87,8 @@ enum {
     PUMP_YES = 0,
     PUMP_SIDE = 1,          /* a fresh map's side is outside 1 to 128 */
     PUMP_RECORD = 2,        /* never answered from C: such a map is no file, and refused with 11 */
-    PUMP_RANGE = 3,         /* the split's direction, position, from, to or allowance is out of range */
+    PUMP_RANGE = 3,         /* the split's direction, position, from, to or allowance, or the value to be set, is out
+                               of range */
     PUMP_FULL = 4,          /* the map has 60 splits */
     PUMP_SHARED = 5,        /* the split shares more than one point with a line of its direction at its position */
     PUMP_LOOSE_END = 6,     /* an end of the split lies on no line of the other direction */
@@ -136,9 +137,10 @@ typedef struct {
    matter. Refused with 1 or 12. */
 size_t pump_fresh(size_t w, size_t h, uint8_t *buffer, size_t size, size_t *used);
 
-/* Sets the value at the anchor (m, n) and marks it measured. Refused with 11 or 9, and with 12 where the buffer holds
-   an older file and is too short for the new one. */
-size_t pump_set(uint8_t *buffer, size_t size, size_t *used, size_t m, size_t n, uint16_t value);
+/* Sets the value at the anchor (m, n), 0 to 65,535, and marks it measured. A larger number is refused with 3, and so
+   is one below 0, which C hands over as a large one: no other value is set in its place.
+   Refused with 11, 3 or 9, and with 12 where the buffer holds an older file and is too short for the new one. */
+size_t pump_set(uint8_t *buffer, size_t size, size_t *used, size_t m, size_t n, size_t value);
 
 /* Draws a line, as given or up to `allowance` steps longer, both ends together:
        PUMP_UPRIGHT at level `position` from speed `from` to speed `to`; 0 < position < w and 0 <= from < to <= h;

@@ -1,6 +1,7 @@
 -- The files of good records: a written map reads back, and bytes are accepted exactly where they are such a file, in either form.
 use Prim.Native.Nat.{ℕ, _-_, _*_, _/_, _≤_, _<_}
 use native.Mathlib.Omega.{arith}
+use native.Mathlib.Nat.{mul-le-mul-right}
 use mathlib.Core.Path.{_≡_, refl, sym, ap, ap₂, subst, _∙_}
 use mathlib.Core.Logic.{_⊎_, inl, inr, ⊎-elim}
 use mathlib.Core.Bool.{Bool, true, false}
@@ -30,11 +31,11 @@ use Rattle.maps.proofs.OverSquare.{four-at}
 use Rattle.maps.proofs.GoodRecords.{record-good, fresh-holds, GoodFacts, good-facts}
 use Rattle.maps.proofs.Reached.{good-reached}
 use Rattle.mesh.proofs.Accepted.{replays-sides, replays-stands, replays-sound, replays-short}
-use Rattle.files.specs.File.{largestFile, head, splitEntry, TableEntry, entriesOf, markedEntry, tail, fileWith, fileIn, fileOf, oldFileOf, splitCount, isOld, guessed}
+use Rattle.files.specs.File.{valueSize, largestFile, head, splitEntry, TableEntry, entriesOf, markedEntry, tail, fileWith, fileIn, fileOf, oldFileOf, splitCount, isOld, guessed}
 use Rattle.files.specs.Calls.{readFile}
 use Rattle.files.specs.Accepted.{IsFile, IsOldFile, unmarkedEntry, Accepts}
 use Rattle.files.proofs.RoundTrip.{Small, Fits, file-length, accepted-file, written-reads, read-either}
-use Rattle.files.proofs.ReadMaps.{map-held}
+use Rattle.files.proofs.ReadMaps.{map-held, told-held, guessed-holds}
 use Rattle.mesh.specs.Splits.{liveOf}
 
 most : (s : ℕ) → allowedSide s ≡ true → s ≤ 128
@@ -94,9 +95,25 @@ good-fits P holds values =
 pub plain-reads-back : (P : Plain) → Holds P → ((v : ℕ) → List·Memᴰ v (P .values) → v < 65536) → readFile (fileOf P) ≡ changed 0 (recordOf P)
 plain-reads-back P holds values = written-reads false P (good-fits P holds values) (λ o. absurd (true-not-false false o refl)) (record-good holds .0)
 
--- "A written file has 12 + 12 × s + 12 × k bytes from now on, a fresh map's 60"; the largest has 13,020.
+-- "A written file has 12 + 12 × s + 12 × k bytes from now on, a fresh map's 60"; the largest has
+-- 13,020. No bytes that are accepted are more, those of an old file among them.
+form-most : (old : Bool) (P : Plain) → Holds P → length (fileIn old P) ≤ largestFile
+form-most old P h =
+    let long = file-length P (h .counted) (h .counted-marks) old in
+    let wide = mul-le-mul-right (length (blends P)) (size-most old) in
+    omega (arith, long, wide, h .taken .few, replays-short (h .taken))
+  where
+    size-most : (old : Bool) → valueSize old ≤ valueSize false
+    size-most true = omega arith
+    size-most false = omega arith
+
 pub file-most : (P : Plain) → Holds P → length (fileOf P) ≤ largestFile
-file-most P h = omega (arith, file-length P (h .counted) (h .counted-marks) false, h .taken .few, replays-short (h .taken))
+file-most = form-most false
+
+pub accepted-most : (bytes : List ℕ) → readFile bytes .number ≡ 0 → length bytes ≤ largestFile
+accepted-most bytes e =
+    let is = accepted-file bytes e .1 ∙ ap (fileIn (isOld bytes)) (told-held bytes e) in
+    omega (arith, ap length is, form-most (isOld bytes) (guessed bytes) (guessed-holds bytes e))
 
 pub fresh-file : (w h : ℕ) → allowedSide w ≡ true → allowedSide h ≡ true → length (fileOf (freshPlain w h)) ≡ 60
 unfolding freshPlain

@@ -13,3 +13,4 @@ pub mod FromFile
 pub mod Texts
 pub mod TableLines
 pub mod TableText
+pub mod Numbers

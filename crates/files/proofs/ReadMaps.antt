@@ -79,13 +79,13 @@ all-held {P} p small =
     }
 
 -- The map that is handed back, whether or not the bytes are a file, is such a record,
-record Read (bytes : List ℕ) : Type 0 where
+pub record Read (bytes : List ℕ) : Type 0 where
   pub of : Plain
   pub holds : Holds of
   pub small : (v : ℕ) → List·Memᴰ v (of .values) → v < 65536
   pub is : readFile bytes .map ≡ recordOf of
 
-read-holds : (bytes : List ℕ) → Read bytes
+pub read-holds : (bytes : List ℕ) → Read bytes
 unfolding freshPlain
 read-holds bytes =
     ⊎-elim

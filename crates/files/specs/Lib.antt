@@ -4,3 +4,4 @@ pub mod Accepted
 pub mod Inner
 pub mod FromFile
 pub mod Listing
+pub mod Numbers

@@ -42,7 +42,7 @@ held-lines : {P : Plain} → Holds P → P .lines ≡ layoutOf (recordOf P .line
 unfolding plain
 held-lines h = sym (ap (λ (P : Plain). P .lines) (record-good h .1))
 
-files-alike : {P Q : Plain} → Holds P → Holds Q → P .lines ≡ Q .lines → length (fileOf P) ≡ length (fileOf Q)
+pub files-alike : {P Q : Plain} → Holds P → Holds Q → P .lines ≡ Q .lines → length (fileOf P) ≡ length (fileOf Q)
 files-alike {P} {Q} p q e = file-length P (p .counted) (p .counted-marks) false ∙ rw e (sym (file-length Q (q .counted) (q .counted-marks) false))
 
 -- the map in the buffer of a desk is the record of what the desk holds

@@ -78,7 +78,9 @@ module _ {t : Past} {d : Desk} (l : Lead t d) where
       rw y (puts-lead (freshPlain w h) reached (past (freshPlain w h) []) (with-fresh w h (cond-true _ _ _ y)) reached refl))
       (λ (f : allowedSide w && allowedSide h ≡ false). rw f l)
       (either (allowedSide w && allowedSide h))
-  step-lead (set m n v) = changes-lead (Maps.set m n v)
+  step-lead (set m n v) =
+      ⊎-elim (λ (y : leb v 65535 ≡ true). rw y (changes-lead (Maps.set m n v)))
+      (λ (f : leb v 65535 ≡ false). rw f l) (either (leb v 65535))
   step-lead (split s a) = changes-lead (Maps.split s a)
   step-lead (place i out) = asks-lead (byRules d (place i out) .answer .number)
   step-lead (reads u v) = asks-lead (byRules d (reads u v) .answer .number)
@@ -95,7 +97,9 @@ module _ {t : Past} {d : Desk} (l : Lead t d) where
   step-untouched k (fresh w h) le =
       ⊎-elim (λ (y : allowedSide w && allowedSide h ≡ true). rw y (puts-untouched d k (freshPlain w h) (rw y at le)))
       (λ (f : allowedSide w && allowedSide h ≡ false). rw f) (either (allowedSide w && allowedSide h))
-  step-untouched k (set m n v) le = changes-untouched (l .at) k (Maps.set m n v) le
+  step-untouched k (set m n v) le =
+      ⊎-elim (λ (y : leb v 65535 ≡ true). rw y (changes-untouched (l .at) k (Maps.set m n v) (rw y at le)))
+      (λ (f : leb v 65535 ≡ false). rw f) (either (leb v 65535))
   step-untouched k (split s a) le = changes-untouched (l .at) k (Maps.split s a) le
   step-untouched k (place i out) le = refl
   step-untouched k (reads u v) le = refl

@@ -1,11 +1,12 @@
 -- A call on a buffer that begins with the file of what the plain machine holds reads that map, answers as the machine does, and leaves such a buffer.
-use Prim.Native.Nat.{ℕ, _+_, _-_, _≤_, _%_}
+use Prim.Native.Nat.{ℕ, _+_, _-_, _≤_, _<_}
 use native.Mathlib.Omega.{arith}
+use native.Mathlib.Nat.{mod-eq-of-lt}
 use mathlib.Core.Path.{_≡_, refl, sym, ap, subst, _∙_}
 use mathlib.Core.Logic.{⊎-elim}
 use mathlib.Core.Bool.{true, false, _&&_}
 use mathlib.Core.List.{List, [], _∷_, _++_}
-use borrow.Author.Tests.{le-leb, leb-false}
+use borrow.Author.Tests.{le-leb, leb-true, leb-false}
 use lib.Dec.{leb, ltb}
 use lib.ListN.{length, drop, length-append}
 use lib.Seq.{take-append-seam, drop-append-add, drop-drop}
@@ -82,6 +83,15 @@ module _ (d : Desk) where
       (λ (u : ltb (length (d .bytes)) (length (fileOf Q)) ≡ false). rw u (past-front (fileOf Q) (d .bytes) k (rw u at le)))
       (either (ltb (length (d .bytes)) (length (fileOf Q))))
 
+-- a value that is a 16-bit number is the one that is set
+pub set-follows : (P : Plain) → Reached P → (m n v : ℕ) → leb v 65535 ≡ true → let r = setValue (recordOf P) m n v in
+    Maps.outcome (Maps.number (r .number)) (r .map) ≡ recorded (byMachine P (Maps.set m n v))
+set-follows P at m n v t =
+    let narrow : v < 65536 = (let le = leb-true v 65535 t in omega arith) in
+    subst (λ (w : ℕ). let r = setValue (recordOf P) m n w in
+    Maps.outcome (Maps.number (r .number)) (r .map) ≡ recorded (byMachine P (Maps.set m n v))) (mod-eq-of-lt narrow)
+    (step-follows P at (Maps.set m n v))
+
 module _ {d : Desk} (at : At d) where
   is-lent : lent (d .bytes) (length (d .file)) ≡ d .file
   is-lent =
@@ -125,7 +135,12 @@ module _ {d : Desk} (at : At d) where
       new-shown d 1 (freshPlain 1 1) (fresh-reached 1 1 refl refl) (freshMap w h) (cond-false _ _ _ f) ∙ ap shown (sym (cond-false _ _ _ f)))
       (either (allowedSide w && allowedSide h))
   step-shown (set m n v) =
-      change-shown (Maps.set m n v) (λ old. setValue old m n (v % 65536)) (step-follows (d .holds) (at .reached) (Maps.set m n v))
+      ⊎-elim
+      (λ (t : leb v 65535 ≡ true).
+      rw t (change-shown (Maps.set m n v) (λ old. setValue old m n v) (set-follows (d .holds) (at .reached) m n v t)))
+      (λ (f : leb v 65535 ≡ false).
+      rw (f, is-read) (new-shown d 3 (d .holds) (at .reached) (changed 3 (recordOf (d .holds))) refl))
+      (either (leb v 65535))
   step-shown (split s a) = change-shown (Maps.split s a) (λ old. splitWithin old s a) (step-follows (d .holds) (at .reached) (Maps.split s a))
   step-shown (place i out) = let g = record-good (at .reached .holds) in rw (is-read, g .0, g .1)
   step-shown (reads u v) =

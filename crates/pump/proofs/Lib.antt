@@ -5,3 +5,6 @@ pub mod Histories
 pub mod Demand3
 pub mod ByLines
 pub mod Allowance
+pub mod OwnNumbers
+pub mod AnyBuffer
+pub mod ByMarks

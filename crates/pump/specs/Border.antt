@@ -15,7 +15,7 @@ use Rattle.maps.specs.declared.Weight.{Weight}
 use Rattle.maps.specs.declared.Weights.{Weights}
 use Rattle.maps.specs.declared.Pairs.{Pairs}
 use Rattle.maps.specs.Record.{plain}
-use Rattle.maps.specs.Calls.{freshMap, setValue, splitWithin, tablePlace, reading, weights}
+use Rattle.maps.specs.Calls.{changed, freshMap, setValue, splitWithin, tablePlace, reading, weights}
 use Rattle.maps.specs.Sameness.{sameness}
 use Rattle.files.specs.File.{word, fileOf}
 use Rattle.pump.specs.declared.changes.Change.{Change}
@@ -60,13 +60,18 @@ changeBytes call buffer used = let file = readFile (lent buffer used) in newByte
 abbrev pub changeUsed : (Map → Changed) → List ℕ → ℕ → ℕ
 changeUsed call buffer used = let file = readFile (lent buffer used) in newUsed (file .number) (call (file .map)) buffer used
 
+-- pump_set: a value comes as wide as every other argument. One that is no 16-bit number gets 3;
+-- then the call on the map, 9.
+abbrev pub setWide : Map → ℕ → ℕ → ℕ → Changed
+setWide old m n value = cond (leb value 65535) (setValue old m n value) (changed 3 old)
+
 -- a split by its direction, position, from and to
 abbrev pub splitOf : ℕ → ℕ → ℕ → ℕ → Split
 splitOf direction position from to = record { direction = direction; position = position; from = from; to = to }
 
 -- what a change comes to on a map
 abbrev pub changedBy : Change → Map → Changed
-changedBy (Set m n value) old = setValue old m n value
+changedBy (Set m n value) old = setWide old m n value
 changedBy (Draw s allowance) old = splitWithin old s allowance
 
 -- a coordinate as a 16-bit number: −1 as 65,535; no other is negative

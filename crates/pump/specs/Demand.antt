@@ -1,8 +1,10 @@
 -- Demand 3 at the border to C: one claim about a whole list of `pump_` calls on one buffer.
 use Prim.Native.Nat.{ℕ, _≤_}
 use mathlib.Core.Path.{_≡_}
+use mathlib.Core.Bool.{cond, _&&_}
 use mathlib.Core.List.{List, [], _∷_, _++_, map, List·Memᴰ}
 use lib.ListN.{length, take, drop}
+use Rattle.mesh.specs.Lines.{allowedSide}
 use Rattle.maps.specs.Plain.{Plain, freshPlain}
 use Rattle.maps.specs.Record.{recordOf}
 use Rattle.maps.specs.Calls.{changed, freshMap}
@@ -10,10 +12,10 @@ use Rattle.maps.specs.Histories as Maps
 use Rattle.maps.specs.Histories.{Call, byMachine, ending}
 use Rattle.maps.specs.Demand.{DemandFrom}
 use Rattle.files.specs.File.{fileOf}
-use Rattle.files.specs.Calls.{ifRefused, readFile}
+use Rattle.files.specs.Calls.{ifRefused, shortOf, readFile, payloadNumber}
 use Rattle.files.specs.FromFile.{readPlain, FromFile}
-use Rattle.pump.specs.Border.{lent}
-use Rattle.pump.specs.Histories.{PumpCall, fresh, set, split, place, reads, weighs, alongRow, alongColumn, sameAs, sameTo, checks, payloads, lists, says, PumpOutcome, outcome, Buffer, byBorder, Desk, desk, byRules, outcomes, left, lentBy, shown}
+use Rattle.pump.specs.Border.{lent, payloadFrom, payloadCount}
+use Rattle.pump.specs.Histories.{PumpCall, fresh, set, split, place, reads, weighs, alongRow, alongColumn, sameAs, sameTo, checks, payloads, lists, PumpAnswer, says, PumpOutcome, outcome, Buffer, byBorder, Desk, desk, byRules, outcomes, left, lentBy, shown}
 
 -- The history of the map in the buffer: what the map held that it begins with, and the accepted changes since then. It begins with the last accepted
 -- `pump_fresh` or, where there was none, with the map of the file that was in the buffer.
@@ -82,3 +84,43 @@ pub record BorderFile (start : Buffer) (cs : List PumpCall) : Type 0 where
   pub is-lent : let file = lent (start .bytes) (start .used) in lentBy (desk (readPlain file) file (start .bytes)) ≡ start
   pub holds : let file = lent (start .bytes) (start .used) in
       BorderFrom (past (readPlain file) []) (desk (readPlain file) file (start .bytes)) cs
+
+-- the number of reading the bytes in use of a buffer: 0 where they are a map's file, else 11
+abbrev pub readNumber : Buffer → ℕ
+readNumber b = readFile (lent (b .bytes) (b .used)) .number
+
+-- The rules for a buffer that holds no file: `pump_fresh` goes by its sides and its room,
+-- `pump_payload` by the bytes as they stand, and every other call is refused with 11, with zeros
+-- for its numbers and the bytes lent for an answer as they came.
+abbrev pub bareAnswer : Buffer → PumpCall → PumpAnswer
+bareAnswer b (fresh w h) =
+    says (cond (allowedSide w && allowedSide h) (shortOf (length (fileOf (freshPlain w h))) (b .bytes)) 1) [] []
+bareAnswer b (set m n v) = says 11 [] []
+bareAnswer b (split s allowance) = says 11 [] []
+bareAnswer b (place i out) = says 11 [] out
+bareAnswer b (reads u v) = says 11 (0 ∷ []) []
+bareAnswer b (weighs u v out) = says 11 [] out
+bareAnswer b (alongRow v wanted) = says 11 (0 ∷ 0 ∷ []) []
+bareAnswer b (alongColumn u wanted) = says 11 (0 ∷ 0 ∷ []) []
+bareAnswer b (sameAs other) = says 11 (0 ∷ []) []
+bareAnswer b (sameTo other) = says 11 (0 ∷ []) []
+bareAnswer b checks = says 11 [] []
+bareAnswer b (payloads at) =
+    let bytes = lent (b .bytes) (b .used) in
+    says (payloadNumber bytes at) (payloadFrom bytes at ∷ payloadCount bytes at ∷ []) []
+bareAnswer b (lists out) = says 11 (0 ∷ []) out
+
+-- A list in which no `pump_fresh` is accepted, on a buffer that holds no file: each call answers
+-- by these rules and leaves the buffer as it was.
+pub record BorderBare (start : Buffer) (cs : List PumpCall) : Type 0 where
+  pub no-fresh : (w h : ℕ) → List·Memᴰ (fresh w h) cs → bareAnswer start (fresh w h) .number ≡ 0 → ⊥
+  pub same-outcomes : outcomes byBorder start cs ≡ map (λ c. outcome (bareAnswer start c) start) cs
+  pub same-left : left byBorder start cs ≡ start
+
+-- Any list of `pump_` calls on any buffer: it holds a file, or it holds none and no map is made, or
+-- it holds none until the first `pump_fresh` that is accepted.
+pub data BorderAny (start : Buffer) : List PumpCall → Type 0 where
+  holds-file : {cs : List PumpCall} → readNumber start ≡ 0 → BorderFile start cs → BorderAny start cs
+  holds-none : {cs : List PumpCall} → readNumber start ≡ 11 → BorderBare start cs → BorderAny start cs
+  until-fresh : {before : List PumpCall} {w h : ℕ} {after : List PumpCall} → readNumber start ≡ 11 →
+      BorderBare start before → BorderDemand w h start after → BorderAny start (before ++ fresh w h ∷ after)

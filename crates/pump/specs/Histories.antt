@@ -1,8 +1,8 @@
 -- Document 01, "Histories", at the border to C: lists of `pump_` calls on one buffer, and the plain machine beside it.
-use Prim.Native.Nat.{ℕ, _%_}
+use Prim.Native.Nat.{ℕ}
 use mathlib.Core.Bool.{Bool, cond, _&&_}
 use mathlib.Core.List.{List, [], _∷_, _++_}
-use lib.Dec.{ltb}
+use lib.Dec.{leb, ltb}
 use lib.ListN.{length, drop}
 use Rattle.mesh.specs.declared.Split.{Split}
 use Rattle.mesh.specs.Lines.{allowedSide}
@@ -11,7 +11,7 @@ use Rattle.maps.specs.declared.Changed.{Changed}
 use Rattle.maps.specs.declared.Pairs.{Pairs}
 use Rattle.maps.specs.Plain.{Plain, freshPlain}
 use Rattle.maps.specs.Record.{plain}
-use Rattle.maps.specs.Calls.{setValue, splitWithin, placeOn, readingOn, weightsOn}
+use Rattle.maps.specs.Calls.{splitWithin, placeOn, readingOn, weightsOn}
 use Rattle.maps.specs.Pairs.{rowOn, rowPairs, columnOn, columnPairs}
 use Rattle.maps.specs.Sameness.{samePlain}
 use Rattle.maps.specs.Histories as Maps
@@ -19,7 +19,7 @@ use Rattle.maps.specs.Histories.{Call, numberOf, byMachine}
 use Rattle.files.specs.File.{fileOf}
 use Rattle.files.specs.Calls.{ifRefused, shortOf, answered, readFile, payloadNumber}
 use Rattle.files.specs.Listing.{tableText, textNumber, textWritten, textAfter}
-use Rattle.pump.specs.Border.{lent, freshNumber, freshBytes, freshUsed, changeNumber, changeBytes, changeUsed, placeNumber, placeBytes, placeAfter, weightsNumber, weightsBytes, weightsAfter, readingNumber, readingLitres, pairsNumber, pairsCount, pairsFirst, sameNumber, sameYes, checkNumber, payloadFrom, payloadCount}
+use Rattle.pump.specs.Border.{lent, freshNumber, freshBytes, freshUsed, changeNumber, changeBytes, changeUsed, setWide, placeNumber, placeBytes, placeAfter, weightsNumber, weightsBytes, weightsAfter, readingNumber, readingLitres, pairsNumber, pairsCount, pairsFirst, sameNumber, sameYes, checkNumber, payloadFrom, payloadCount}
 
 -- A call on the map in the buffer. What it is lent beside the buffer stands with its arguments: bytes for an answer, another map's file.
 pub data PumpCall : Type 0 where
@@ -61,7 +61,7 @@ abbrev pub buffer : List ℕ → ℕ → Buffer
 buffer bytes used = record { bytes = bytes; used = used }
 
 -- The calls of the library: each step is the definition that the call's public contract cites. A question is asked of the first `used` bytes,
--- sameness with the map in the buffer first (`sameAs`) or second (`sameTo`). A value is a 16-bit number: what is left of the given one by 65,536.
+-- sameness with the map in the buffer first (`sameAs`) or second (`sameTo`).
 abbrev pub changing : (Map → Changed) → Buffer → PumpOutcome Buffer
 changing call b =
     outcome (says (changeNumber call (b .bytes) (b .used)) [] []) (buffer (changeBytes call (b .bytes) (b .used)) (changeUsed call (b .bytes) (b .used)))
@@ -75,7 +75,7 @@ askingPairs b call = asking b (λ file. says (pairsNumber call file) (pairsCount
 abbrev pub byBorder : Buffer → PumpCall → PumpOutcome Buffer
 byBorder b (fresh w h) =
     outcome (says (freshNumber w h (b .bytes)) [] []) (buffer (freshBytes w h (b .bytes)) (freshUsed w h (b .bytes) (b .used)))
-byBorder b (set m n v) = changing (λ old. setValue old m n (v % 65536)) b
+byBorder b (set m n v) = changing (λ old. setWide old m n v) b
 byBorder b (split s allowance) = changing (λ old. splitWithin old s allowance) b
 byBorder b (place i out) = asking b (λ file. says (placeNumber file i out) [] (placeAfter file i out))
 byBorder b (reads u v) = asking b (λ file. says (readingNumber file u v) (readingLitres file u v ∷ []) [])
@@ -129,7 +129,7 @@ tellsPairs d p = outcome (says (p .number) (p .count ∷ p .first ∷ []) []) d
 
 abbrev pub byRules : Desk → PumpCall → PumpOutcome Desk
 byRules d (fresh w h) = cond (allowedSide w && allowedSide h) (puts d (freshPlain w h)) (refuses d 1)
-byRules d (set m n v) = changes d (Maps.set m n v)
+byRules d (set m n v) = cond (leb v 65535) (changes d (Maps.set m n v)) (refuses d 3)
 byRules d (split s allowance) = changes d (Maps.split s allowance)
 byRules d (place i out) = let p = placeOn (d .holds) i in tells d (p .number) (placeBytes p) 16 out
 byRules d (reads u v) = let r = readingOn (d .holds) u v in outcome (says (r .number) (r .litres ∷ []) []) d

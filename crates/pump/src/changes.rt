@@ -7,10 +7,10 @@ use maps::opened::Opened;
 use maps::opened::fresh;
 use mesh::Split;
 ghost use mathlib.Core.Path.{_≡_};
-ghost use Rattle.maps.specs.Calls.{changed, setValue, splitWithin};
+ghost use Rattle.maps.specs.Calls.{changed, splitWithin};
 ghost use Rattle.maps.specs.Opened.{withTable, Opens};
 ghost use Rattle.files.specs.Calls.{readFile};
-ghost use Rattle.pump.specs.Border.{newNumber, newBytes, newUsed, freshNumber, freshBytes, freshUsed, lent, changeNumber, changeBytes, changeUsed, splitOf, changedBy};
+ghost use Rattle.pump.specs.Border.{newNumber, newBytes, newUsed, freshNumber, freshBytes, freshUsed, lent, changeNumber, changeBytes, changeUsed, setWide, splitOf, changedBy};
 
 // The map whose file the first `used` bytes are, opened. Where they are none, or fewer are lent, the number is 11, and a call
 // that goes on with the fresh 1 by 1 map is refused with it.
@@ -49,7 +49,7 @@ pub extern "C" fn pump_fresh(w: usize, h: usize, buffer: &mut [u8], used: &mut u
 
 // A change of a map: a value is set at an anchor, or a line is drawn within an allowance.
 pub(crate) enum Change {
-    Set(usize, usize, u16),
+    Set(usize, usize, usize),
     Draw(Split, usize),
 }
 
@@ -63,7 +63,11 @@ fn change_lent(buffer: &mut [u8], used: &mut usize, old: Opened, change: Change)
 {
     match change {
         Change::Set(m, n, value) => {
-            let next = old.set(m, n, value);
+            // No value is above 65,535: a larger number, as -1 is from C, would be set as another one.
+            if 65535 < value {
+                return first(old.number, 3, 0);
+            }
+            let next = old.set(m, n, value as u16);
             replace(buffer, used, old.number, next)
         }
         Change::Draw(s, allowance) => {
@@ -79,11 +83,11 @@ pub extern "C" fn pump_set(
     used: &mut usize,
     m: usize,
     n: usize,
-    value: u16,
+    value: usize,
 ) -> usize
-    ensures { λ r. ⌜ (r ≡ changeNumber (λ old. setValue old m n value) (now (buffer .entry)) (now (used .entry))) ×
-        (now (buffer .exit) ≡ changeBytes (λ old. setValue old m n value) (now (buffer .entry)) (now (used .entry))) ×
-        (now (used .exit) ≡ changeUsed (λ old. setValue old m n value) (now (buffer .entry)) (now (used .entry))) ⌝ }
+    ensures { λ r. ⌜ (r ≡ changeNumber (λ old. setWide old m n value) (now (buffer .entry)) (now (used .entry))) ×
+        (now (buffer .exit) ≡ changeBytes (λ old. setWide old m n value) (now (buffer .entry)) (now (used .entry))) ×
+        (now (used .exit) ≡ changeUsed (λ old. setWide old m n value) (now (buffer .entry)) (now (used .entry))) ⌝ }
 {
     let length = *used;
     let old = read_lent(buffer, length);

@@ -6,7 +6,7 @@ use crate::{subjects, Pump};
 #[derive(Clone, Debug)]
 pub enum Call {
     Fresh(usize, usize),
-    Set(usize, usize, u16),
+    Set(usize, usize, usize),
     /// Direction, position, from and to, and the allowance.
     Split([usize; 4], usize),
     Place(usize),

@@ -211,13 +211,13 @@ pub fn call(random: &mut Random, map: &Map, others: &[Vec<u8>]) -> Call {
         0..=49 => Call::Split(split(random, map, &lines), allowance(random)),
         50..=67 => {
             let (mut m, mut n) = point(random, map);
-            let mut value = random.draw() as u16 >> random.below(16);
+            let mut value = random.below(65_536) >> random.below(16);
             if random.chance(80) {
                 let (blend, held, _) = map.place(random.below(map.values.len())).unwrap();
                 (m, n) = (blend.m as usize, blend.n as usize);
                 // What the map says is sometimes what is measured.
                 if random.chance(20) {
-                    value = held;
+                    value = held as usize;
                 }
             }
             if random.chance(5) {
@@ -225,6 +225,12 @@ pub fn call(random: &mut Random, map: &Map, others: &[Vec<u8>]) -> Call {
             }
             if random.chance(5) {
                 n = extreme(random, n);
+            }
+            if random.chance(5) {
+                value = match random.chance(50) {
+                    true => random.pick(&[65_535, 65_536, 70_000, u32::MAX as usize, usize::MAX]),
+                    false => extreme(random, value),
+                };
             }
             Call::Set(m, n, value)
         }

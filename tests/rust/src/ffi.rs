@@ -5,7 +5,7 @@ use crate::Pump;
 mod c {
     extern "C" {
         pub fn pump_fresh(w: usize, h: usize, buffer: *mut u8, size: usize, used: *mut usize) -> usize;
-        pub fn pump_set(buffer: *mut u8, size: usize, used: *mut usize, m: usize, n: usize, value: u16) -> usize;
+        pub fn pump_set(buffer: *mut u8, size: usize, used: *mut usize, m: usize, n: usize, value: usize) -> usize;
         pub fn pump_split(
             buffer: *mut u8,
             size: usize,
@@ -67,7 +67,7 @@ impl Pump for Library {
         unsafe { c::pump_fresh(w, h, buffer.as_mut_ptr(), buffer.len(), used) }
     }
 
-    fn set(&self, buffer: &mut [u8], used: &mut usize, m: usize, n: usize, value: u16) -> usize {
+    fn set(&self, buffer: &mut [u8], used: &mut usize, m: usize, n: usize, value: usize) -> usize {
         unsafe { c::pump_set(buffer.as_mut_ptr(), buffer.len(), used, m, n, value) }
     }
 

@@ -17,7 +17,7 @@ pub const LARGEST_FILE: usize = 13_020;
 pub trait Pump: Sync {
     fn name(&self) -> &'static str;
     fn fresh(&self, w: usize, h: usize, buffer: &mut [u8], used: &mut usize) -> usize;
-    fn set(&self, buffer: &mut [u8], used: &mut usize, m: usize, n: usize, value: u16) -> usize;
+    fn set(&self, buffer: &mut [u8], used: &mut usize, m: usize, n: usize, value: usize) -> usize;
     /// A split is direction, position, from, to.
     fn split(&self, buffer: &mut [u8], used: &mut usize, split: [usize; 4], allowance: usize) -> usize;
     fn place(&self, file: &[u8], place: usize, out: &mut [u8]) -> usize;

@@ -292,8 +292,10 @@ impl Map {
         Ok((u as i64, v as i64))
     }
 
-    /// Sets the value at an anchor ("Values, readings, splits"), which marks it as measured (document 02, L5).
-    pub fn set(&mut self, m: usize, n: usize, value: u16) -> Result<(), No> {
+    /// Sets the value at an anchor ("Values, readings, splits"), which marks it as measured (document 02, L5). A number
+    /// that is no 16-bit value is out of range.
+    pub fn set(&mut self, m: usize, n: usize, value: usize) -> Result<(), No> {
+        let value = u16::try_from(value).map_err(|_| 3usize)?;
         let at = |blend: &Blend| blend.m as usize == m && blend.n as usize == n;
         let place = self.table().iter().position(at).ok_or(9usize)?;
         self.values[place] = value;
@@ -650,7 +652,7 @@ impl Pump for Model {
         })())
     }
 
-    fn set(&self, buffer: &mut [u8], used: &mut usize, m: usize, n: usize, value: u16) -> usize {
+    fn set(&self, buffer: &mut [u8], used: &mut usize, m: usize, n: usize, value: usize) -> usize {
         Model::change(buffer, used, |map| map.set(m, n, value))
     }
 

@@ -517,8 +517,9 @@ impl Pump for Plain {
         number(Map::fresh(w, h).and_then(|map| map.write(buffer, used)))
     }
 
-    fn set(&self, buffer: &mut [u8], used: &mut usize, m: usize, n: usize, value: u16) -> usize {
+    fn set(&self, buffer: &mut [u8], used: &mut usize, m: usize, n: usize, value: usize) -> usize {
         number(lent(buffer, *used).and_then(|mut map| {
+            let value = u16::try_from(value).map_err(|_| 3usize)?;
             if m > LARGEST_SIDE || n > LARGEST_SIDE {
                 return Err(9);
             }

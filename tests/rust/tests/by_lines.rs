@@ -47,7 +47,8 @@ fn fresh(w: usize, h: usize) -> Vec<u8> {
 }
 
 fn set(file: &[u8], (m, n): (u16, u16), value: u16) -> Vec<u8> {
-    let outcome = perform(&Library, &Call::Set(m as usize, n as usize, value), &Lent::buffer(file, file.len()));
+    let outcome =
+        perform(&Library, &Call::Set(m as usize, n as usize, value as usize), &Lent::buffer(file, file.len()));
     assert_eq!(outcome.number, 0);
     left(&outcome)
 }

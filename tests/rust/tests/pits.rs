@@ -118,7 +118,7 @@ fn readings() {
 }
 
 /// A fresh map with these values, in table order.
-fn with_values(w: usize, h: usize, values: [u16; 4]) -> Editor {
+fn with_values(w: usize, h: usize, values: [usize; 4]) -> Editor {
     let mut map = Editor::fresh(w, h);
     for ((m, n), value) in [(0, 0), (0, h), (w, 0), (w, h)].into_iter().zip(values) {
         assert_eq!(map.call(Call::Set(m, n, value)).number, 0);
@@ -176,9 +176,9 @@ fn new_anchors() {
         let mut map = with_values(w, 1, [0, 0, values[0], values[1]]);
         assert_eq!(map.split([0, position, 0, 1], 0), Ok(6));
         let value = |line: &str| line.split(' ').nth(6).unwrap().parse().unwrap();
-        let held: Vec<u16> = map.text().lines().skip(1).map(value).collect();
+        let held: Vec<usize> = map.text().lines().skip(1).map(value).collect();
         assert_eq!(held, [[0, 0], found, values].concat(), "{position} of {w}");
-        assert_eq!([0, 1].map(|v| map.reading(position, v)), found.map(|value| Ok(value as usize)));
+        assert_eq!([0, 1].map(|v| map.reading(position, v)), found.map(Ok));
     }
 }
 
@@ -228,6 +228,29 @@ fn marks() {
     assert_eq!(map.text(), format!("6\n{left}{middle}1 4 5 -1 0 1 6 1\n1 4 5 0 1 2 0 0\n"));
     let entry = map.call(Call::Place(4)).out()[..16].to_vec();
     assert_eq!(entry, [1, 4, 5, -1, 0, 1, 6, 1i16].map(i16::to_ne_bytes).concat());
+}
+
+/// No value is above 65,535: a larger number is refused, -1 from C among them, and is never set as another one. What is
+/// wrong with the file comes before that, what is wrong with the anchor and the buffer after it.
+#[test]
+fn wide_values() {
+    let mut map = with_values(2, 3, [7, 0, 0, 9]);
+    let file = map.0.clone();
+    let old = pump_tests::files::old(&file);
+    let number = |file: &[u8], size: usize, (m, n): (usize, usize), value: usize| {
+        compare(&Call::Set(m, n, value), &Lent::buffer(file, size), &String::new).number
+    };
+    for value in [65_536, 70_000, u32::MAX as usize, 1 << 63, usize::MAX] {
+        assert_eq!(map.call(Call::Set(2, 0, value)).number, 3);
+        assert_eq!(map.0, file);
+        assert_eq!(number(&file[..59], 60, (2, 0), value), 11);
+        assert_eq!(number(&file, 60, (1, 1), value), 3);
+        assert_eq!(number(&old, 59, (2, 0), value), 3);
+    }
+    assert_eq!(number(&file, 60, (1, 1), 65_535), 9);
+    assert_eq!(number(&old, 59, (2, 0), 65_535), 12);
+    assert_eq!(map.call(Call::Set(2, 0, 65_535)).number, 0);
+    assert_eq!(map.reading(2, 0), Ok(65_535));
 }
 
 /// An old file stays as it is until a value is set or a line is drawn.

@@ -27,7 +27,7 @@ fn numbers(blend: &Blend) -> String {
 fn answer(map: &mut Map, words: &[&str]) -> Result<String, No> {
     let n = |at: usize| words[at].parse::<usize>().unwrap();
     match words[0] {
-        "set" => map.set(n(1), n(2), n(3) as u16).map(|_| "0".into()),
+        "set" => map.set(n(1), n(2), n(3)).map(|_| "0".into()),
         "place" => {
             let (blend, value, mark) = map.place(n(1))?;
             Ok(format!("0 {} {value} {mark}", numbers(&blend)))
@@ -64,7 +64,7 @@ fn answer_over_bytes(pump: &dyn Pump, file: &mut Vec<u8>, words: &[&str]) -> Res
     let mut used = file.len();
     file.resize(LARGEST_FILE, 0);
     let outcome = match words[0] {
-        "set" => pump.set(file, &mut used, n(1), n(2), n(3) as u16),
+        "set" => pump.set(file, &mut used, n(1), n(2), n(3)),
         "split" => pump.split(file, &mut used, [n(1), n(2), n(3), n(4)], n(5)),
         _ => 0,
     };

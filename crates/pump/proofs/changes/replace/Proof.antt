@@ -4,20 +4,21 @@ use mathlib.Core.Path.{ap, _∙_}
 use Prim.Native.Nat.{ℕ}
 use lib.ListN.{length}
 use Rattle.maps.specs.Record.{plain}
+use Rattle.maps.specs.Calls.{changed}
 use Rattle.files.specs.declared.Written.{Written}
 use Rattle.files.specs.File.{fileOf}
 use Rattle.files.specs.Calls.{writeNumber, ifRefused, answered}
 use Rattle.pump.specs.Border.{newNumber, newBytes, newUsed}
-use Rattle.pump.proofs.Refusals.{stays, twice, two-refuse, third-tells}
+use Rattle.pump.proofs.Refusals.{twice, third-tells}
+use Rattle.pump.proofs.Changing.{ends-refused}
 use Rattle.pump.proofs.changes.replace.Statement.{statement}
 use Rattle.pump.proofs.changes.replace.Tie as tie
 
 returns : tie.Need-returns
-unfolding newNumber newBytes newUsed
 returns c =
     let a = c .before .before .before .args in
-    let e = two-refuse (a .refused) (a .next .number) (writeNumber (a .next .map) (a .buffer .now)) (c .before .first .ensures) (c .if1 .taken) in
-    (e, stays _ _ e (c .if1 .taken), stays _ _ e (c .if1 .taken))
+    ends-refused (a .refused) (changed (a .next .number) (a .next .map)) (a .buffer .now) (a .used .now)
+    (c .before .first .ensures) (c .if1 .taken)
 
 returns-2 : tie.Need-returns-2
 unfolding newNumber newBytes newUsed
