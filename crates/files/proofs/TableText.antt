@@ -18,7 +18,7 @@ use Rattle.mesh.specs.Weight.{Term}
 use Rattle.maps.specs.declared.Map.{Map}
 use Rattle.maps.specs.Plain.{Plain, blends}
 use Rattle.maps.specs.Values.{paired}
-use Rattle.maps.proofs.GoodRecords.{AreMarks}
+use Rattle.maps.specs.Holds.{AreMarks}
 use Rattle.maps.proofs.ByMarks.{marking}
 use Rattle.maps.specs.Record.{isMark, plain}
 use Rattle.mesh.proofs.BlendTables.{table-blends, table-count}

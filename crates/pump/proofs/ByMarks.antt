@@ -21,7 +21,8 @@ use Rattle.maps.specs.Histories.{Call, Answer, number, placed, read, weighed, w
 use Rattle.maps.specs.Demand.{recorded}
 use Rattle.maps.specs.ByMarks.{withoutMarks, unmarked, butMarks}
 use Rattle.maps.specs.Sameness.{samePlain}
-use Rattle.maps.proofs.GoodRecords.{Holds, record-good}
+use Rattle.maps.specs.Holds.{Holds}
+use Rattle.maps.proofs.GoodRecords.{record-good}
 use Rattle.maps.proofs.Reached.{Reached, fresh-reached, step-leads}
 use Rattle.maps.proofs.Following.{step-follows}
 use Rattle.maps.proofs.ByMarks.{marking, same-lists}

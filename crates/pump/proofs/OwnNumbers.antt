@@ -31,7 +31,8 @@ use Rattle.maps.specs.Sameness.{sameness}
 use Rattle.maps.specs.Histories as Maps
 use Rattle.maps.specs.Histories.{Call, Outcome, numberOf, firstDrawn, byMachine}
 use Rattle.maps.specs.Demand.{recorded}
-use Rattle.maps.proofs.GoodRecords.{Holds, record-good, fresh-holds}
+use Rattle.maps.specs.Holds.{Holds}
+use Rattle.maps.proofs.GoodRecords.{record-good, fresh-holds}
 use Rattle.maps.proofs.Reached.{Reached, holds-reached, step-leads}
 use Rattle.maps.proofs.Following.{step-follows}
 use Rattle.files.specs.File.{largestFile, fileOf}
