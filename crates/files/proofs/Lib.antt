@@ -14,3 +14,4 @@ pub mod Texts
 pub mod TableLines
 pub mod TableText
 pub mod Numbers
+pub mod MarksInText

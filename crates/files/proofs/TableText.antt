@@ -1,25 +1,18 @@
 -- What listing a file's table answers and leaves.
-use Prim.Native.Nat.{ℕ, _+_, _%_, _≤_}
+use Prim.Native.Nat.{ℕ, _≤_}
 use native.Mathlib.Omega.{arith}
 use native.Mathlib.Nat.{zero-add}
-use mathlib.Core.Path.{_≡_, refl, ap}
+use mathlib.Core.Path.{_≡_, refl}
 use mathlib.Core.Logic.{⊎-elim}
 use mathlib.Core.Bool.{true, false}
-use mathlib.Core.List.{List, [], _∷_}
-use mathlib.Core.List.List·Memᴰ.{List·Memᴰ·head, List·Memᴰ·tail}
+use mathlib.Core.List.{List}
 use borrow.Author.Tests.{lt-ltb, le-ltb, leb-true, leb-false, le-leb}
 use lib.Dec.{leb}
 use lib.ListN.{length, getD, drop, length-append, length-replicate}
 use Rattle.mesh.specs.declared.Table.{Table}
 use Rattle.mesh.specs.Sound.{table}
 use Rattle.axis.proofs.Tests.{either}
-use Rattle.axis.specs.Range.{joined}
-use Rattle.mesh.specs.Weight.{Term}
 use Rattle.maps.specs.declared.Map.{Map}
-use Rattle.maps.specs.Plain.{Plain, blends}
-use Rattle.maps.specs.Values.{paired}
-use Rattle.maps.specs.Holds.{AreMarks}
-use Rattle.maps.proofs.ByMarks.{marking}
 use Rattle.maps.specs.Record.{isMark, plain}
 use Rattle.mesh.proofs.BlendTables.{table-blends, table-count}
 use Rattle.maps.proofs.Changing.{GoodMap, live-table}
@@ -29,13 +22,11 @@ use Rattle.files.proofs.Words as Words
 use Rattle.files.proofs.ReadMaps.{read-good, map-held, read-map}
 use Rattle.maps.specs.Opened.{tableOf}
 use Rattle.files.proofs.Terms.{InHand}
-use Rattle.files.proofs.Texts.{one-digit}
 use Rattle.files.proofs.TableLines.{text-from-most}
 use Rattle.files.specs.declared.Written.{Written}
 use Rattle.files.specs.Calls.{readFile, shortOf, counted, answered}
-use Rattle.files.specs.File.{entriesOf}
 use Rattle.files.specs.Inner.{textFrom, Puts}
-use Rattle.files.specs.Listing.{digits, valueLine, line, tableText, largestText, textOf, textNumber, textWritten, textAfter}
+use Rattle.files.specs.Listing.{tableText, largestText, textOf, textNumber, textWritten, textAfter}
 
 -- an opened map's table has the map's text
 pub opened-text : {m : Map} {t : Table} → GoodMap m t → textFrom t (m .values) (m .marks) ≡ tableText (plain m)
@@ -95,28 +86,3 @@ text-most bytes =
     let low : (i : ℕ) → getD (readFile bytes .map .marks) i 0 ≤ 1 =
     λ i. leb-true _ 1 (Words.all-places isMark refl (readFile bytes .map .marks) marks i) in
     rw (← opened-text g) (text-from-most hand (h .small) (λ i. omega (arith, low i)))
-
--- A mark is one digit, so the texts of one table with other marks are of one length.
-line-long : (t : Term) (k j : ℕ) → k ≤ 1 → j ≤ 1 →
-    length (line (record { term = t; mark = k })) ≡ length (line (record { term = t; mark = j }))
-unfolding line valueLine
-line-long t k j p q =
-    let a : digits k ≡ (48 + k % 10) ∷ [] = one-digit k (omega arith) in
-    let b : digits j ≡ (48 + j % 10) ∷ [] = one-digit j (omega arith) in
-    simp (length-append, ap length a, ap length b)
-
-lines-long : (ts : List Term) (ks js : List ℕ) → length ks ≡ length js → AreMarks ks → AreMarks js →
-    length (joined line (entriesOf ts ks)) ≡ length (joined line (entriesOf ts js))
-lines-long [] ks js e a b = refl
-lines-long (t ∷ ts) [] [] e a b = refl
-lines-long (t ∷ ts) [] (j ∷ js) e a b = absurd (omega arith)
-lines-long (t ∷ ts) (k ∷ ks) [] e a b = absurd (omega arith)
-lines-long (t ∷ ts) (k ∷ ks) (j ∷ js) e a b =
-    let one = line-long t k j (a k (List·Memᴰ·head refl)) (b j (List·Memᴰ·head refl)) in
-    let rest = lines-long ts ks js (omega arith) (λ x m. a x (List·Memᴰ·tail m)) (λ x m. b x (List·Memᴰ·tail m)) in
-    simp length-append (omega arith)
-
-pub text-by-marks : (P : Plain) (marks : List ℕ) → length marks ≡ length (P .marks) → AreMarks marks →
-    AreMarks (P .marks) → length (tableText (marking P marks)) ≡ length (tableText P)
-text-by-marks P marks e a b =
-    let long = lines-long (paired (blends P) (P .values)) marks (P .marks) e a b in simp length-append (omega arith)

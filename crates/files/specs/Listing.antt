@@ -1,9 +1,9 @@
 -- Document 01, "Pits on paper": the table of a map file as text, which the table program prints.
 use Prim.Native.Nat.{ℕ, zero, suc, _-_, _+_, _/_, _%_}
-use mathlib.Core.Bool.{cond}
+use mathlib.Core.Bool.{cond, _&&_}
 use mathlib.Core.List.{List, [], _∷_, _++_}
 use lib.Dec.{ltb, eqb}
-use lib.ListN.{length}
+use lib.ListN.{length, getD}
 use Rattle.axis.specs.declared.Triple.{Triple}
 use Rattle.axis.specs.Range.{joined}
 use Rattle.maps.specs.Plain.{Plain, blends}
@@ -46,6 +46,12 @@ line e = knots (e .term .of .across) ++ knots (e .term .of .up) ++ valueLine (e 
 -- "It prints the number of blends", then a line for each
 abbrev pub tableText : Plain → List ℕ
 tableText P = numberLine (length (blends P)) ++ joined line (entriesOf (paired (blends P) (P .values)) (P .marks))
+
+-- a text with a 0 for each mark, which stands between a blank and the end of its line; the first
+-- number is the byte before
+abbrev pub marksBlanked : ℕ → List ℕ → List ℕ
+marksBlanked before [] = []
+marksBlanked before (x ∷ xs) = cond (eqb before 32 && eqb (getD xs 0 0) 10) 0 x ∷ marksBlanked x xs
 
 -- this many bytes hold every such text: `text-most`
 abbrev pub largestText : ℕ

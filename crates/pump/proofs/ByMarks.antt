@@ -3,19 +3,18 @@ use Prim.Native.Nat.{ℕ, _-_}
 use native.Mathlib.Omega.{arith}
 use mathlib.Core.Path.{_≡_, refl, sym, ap, ap₂, subst, _∙_}
 use mathlib.Core.Logic.{⊎-elim}
-use mathlib.Core.Bool.{Bool, true, false, _&&_}
+use mathlib.Core.Bool.{true, false, _&&_}
 use mathlib.Core.List.{List, [], _∷_, _++_}
 use lib.Dec.{leb, ltb}
 use lib.ListN.{length, take, drop, length-append, length-drop}
-use lib.Seq.{drop-append-seam}
+use lib.Seq.{take-append-seam, drop-append-seam}
 use Rattle.axis.proofs.Tests.{either, and-both}
-use Rattle.mesh.specs.Lines.{Layout, allowedSide, layoutOf}
+use Rattle.mesh.specs.Lines.{allowedSide, layoutOf}
 use Rattle.mesh.specs.Splits.{liveOf}
 use Rattle.maps.specs.declared.Map.{Map}
 use Rattle.maps.specs.declared.Changed.{Changed}
 use Rattle.maps.specs.Plain.{Plain, freshPlain, blends}
 use Rattle.maps.specs.Record.{recordOf, plain}
-use Rattle.maps.specs.Calls.{placeOn}
 use Rattle.maps.specs.Histories as Maps
 use Rattle.maps.specs.Histories.{Call, Answer, number, placed, read, weighed, walked, told, Outcome, numberOf, byLibrary, byMachine}
 use Rattle.maps.specs.Demand.{recorded}
@@ -28,11 +27,10 @@ use Rattle.maps.proofs.Following.{step-follows}
 use Rattle.maps.proofs.ByMarks.{marking, same-lists}
 use Rattle.files.specs.File.{fileOf}
 use Rattle.files.specs.Calls.{ifRefused, shortOf, answered}
-use Rattle.files.specs.Listing.{tableText}
-use Rattle.files.proofs.TableText.{text-by-marks}
-use Rattle.pump.specs.Border.{lent}
-use Rattle.pump.specs.Histories.{PumpCall, fresh, set, split, place, reads, weighs, alongRow, alongColumn, sameAs, sameTo, checks, payloads, lists, PumpAnswer, PumpOutcome, says, outcome, Buffer, byBorder, Desk, desk, puts, changes, byRules, lentBy, shown}
-use Rattle.pump.specs.ByMarks.{AlikeButMarks, butMark, answersBy, ByMarks}
+use Rattle.files.specs.Listing.{tableText, marksBlanked}
+use Rattle.files.proofs.MarksInText.{blanked-length, text-by-marks}
+use Rattle.pump.specs.Histories.{PumpCall, fresh, set, split, place, reads, weighs, alongRow, alongColumn, sameAs, sameTo, checks, payloads, lists, PumpAnswer, PumpOutcome, says, Buffer, Desk, desk, puts, changes, byRules, lentBy}
+use Rattle.pump.specs.ByMarks.{AlikeButMarks, butMark, ByMarks}
 use Rattle.pump.proofs.Histories.{At, put-at, is-read, step-shown}
 use Rattle.pump.proofs.Demand3.{file-desk, file-lent, file-at}
 use Rattle.pump.proofs.ByLines.{files-alike}
@@ -60,17 +58,20 @@ same-number (weighed w) = refl
 same-number (walked p) = refl
 same-number (told s) = refl
 
--- A text and the bytes after it: without the text they go by its length alone.
-abbrev listed : List ℕ → List ℕ → PumpAnswer
-listed out text =
-    let n = shortOf (length text) out in says n (ifRefused n 0 (length text) ∷ []) (answered n text out)
+-- what an answer with a text shows, by the text's length and its bytes without marks
+abbrev shows : List ℕ → ℕ → List ℕ → PumpAnswer
+shows out long bytes =
+    let n = shortOf long out in
+    let count = ifRefused n 0 long in says n (count ∷ []) (ifRefused n [] bytes ++ drop count out)
 
-text-answer : (out text : List ℕ) → butMark (lists out) (listed out text) ≡
-    (let n = shortOf (length text) out in
-    let long = ifRefused n 0 (length text) in says n (long ∷ []) (drop long out))
+text-answer : (out text : List ℕ) →
+    let n = shortOf (length text) out in
+    butMark (lists out) (says n (ifRefused n 0 (length text) ∷ []) (answered n text out)) ≡
+    shows out (length text) (marksBlanked 10 text)
 text-answer out text =
     ⊎-elim (λ (t : ltb (length out) (length text) ≡ true). rw t)
-    (λ (f : ltb (length out) (length text) ≡ false). rw (f, drop-append-seam)) (either (ltb (length out) (length text)))
+    (λ (f : ltb (length out) (length text) ≡ false). rw (f, take-append-seam, drop-append-seam))
+    (either (ltb (length out) (length text)))
 
 -- Two desks with maps that differ only in marks, files of one length and buffers of one length.
 record Pair (d e : Desk) : Type 0 where
@@ -122,8 +123,8 @@ module _ {d e : Desk} (both : Pair d e) where
       let number : numberOf (byMachine (d .holds) c .answer) ≡ n =
       ap (λ (Q : Plain). numberOf (byMachine Q c .answer)) (both .same) ∙ sym (same-number (byMachine R c .answer)) ∙
       ap (λ (o : Outcome Map). numberOf (o .answer)) told ∙ same-number (byMachine P c .answer) in
-      let next : withoutMarks (recordOf (byMachine (d .holds) c .next)) ≡ withoutMarks (recordOf (byMachine P c .next)) =
-      ap (λ (Q : Plain). withoutMarks (recordOf (byMachine Q c .next))) (both .same) ∙ ap (λ (o : Outcome Map). o .next) told in
+      let left : Plain → Map = λ Q. withoutMarks (recordOf (byMachine Q c .next)) in
+      let next : left (d .holds) ≡ left P = ap left (both .same) ∙ ap (λ (o : Outcome Map). o .next) told in
       let p = step-leads (d .holds) (both .at .reached) c .reached in
       let q = step-leads P there c .reached in
       ⊎-elim (λ (t : leb 1 n ≡ true). rw (number, t) (refl, both))
@@ -148,13 +149,13 @@ module _ {d e : Desk} (both : Pair d e) where
       (either (ltb (length out) 16))))
       (λ (f : ltb i (length (blends (e .holds))) ≡ false). rw f) (either (ltb i (length (blends (e .holds))))))
 
-  text-both : length (tableText (d .holds)) ≡ length (tableText (e .holds))
+  text-both : marksBlanked 10 (tableText (d .holds)) ≡ marksBlanked 10 (tableText (e .holds))
   text-both =
       let p = both .at .reached .holds in
       let q = both .too .reached .holds in
       let as-many : length (d .holds .marks) ≡ length (e .holds .marks) =
       p .counted-marks ∙ ap (λ (P : Plain). length (blends P)) (both .same) ∙ sym (q .counted-marks) in
-      ap (λ (P : Plain). length (tableText P)) (both .same) ∙
+      ap (λ (P : Plain). marksBlanked 10 (tableText P)) (both .same) ∙
       text-by-marks (e .holds) (d .holds .marks) as-many (p .are-marks) (q .are-marks)
 
   step-both : (c : PumpCall) → Both c (byRules d c) (byRules e c)
@@ -180,9 +181,11 @@ module _ {d e : Desk} (both : Pair d e) where
   step-both checks = (refl, both)
   step-both (payloads i) = (refl, both)
   step-both (lists out) =
-      let shows : ℕ → PumpAnswer = λ long.
-      let n = shortOf long out in let count = ifRefused n 0 long in says n (count ∷ []) (drop count out) in
-      (text-answer out (tableText (d .holds)) ∙ ap shows text-both ∙ sym (text-answer out (tableText (e .holds))), both)
+      let one = tableText (d .holds) in
+      let other = tableText (e .holds) in
+      let long : length one ≡ length other =
+      sym (blanked-length 10 one) ∙ ap length text-both ∙ blanked-length 10 other in
+      (text-answer out one ∙ ap₂ (shows out) long text-both ∙ sym (text-answer out other), both)
 
   -- the buffers of the two
   lent-both : AlikeButMarks (lentBy d) (lentBy e)
@@ -196,7 +199,8 @@ module _ {d e : Desk} (both : Pair d e) where
         same-length = both .room;
         same-used = both .used;
         same-map =
-            ap (λ (r : Changed). withoutMarks (r .map)) here ∙ ap (λ (P : Plain). withoutMarks (recordOf P)) (both .same) ∙
+            ap (λ (r : Changed). withoutMarks (r .map)) here ∙
+            ap (λ (P : Plain). withoutMarks (recordOf P)) (both .same) ∙
             sym (ap (λ (r : Changed). withoutMarks (r .map)) there);
       }
 
@@ -226,7 +230,8 @@ border-by-marks one other a cs =
           (sym (ap (λ (r : Changed). withoutMarks (r .map)) (here .is-file)) ∙ a .same-map ∙
           ap (λ (r : Changed). withoutMarks (r .map)) (there .is-file));
       used =
-          ap (λ (b : Buffer). b .used) (file-lent one e) ∙ a .same-used ∙ sym (ap (λ (b : Buffer). b .used) (file-lent other f));
+          ap (λ (b : Buffer). b .used) (file-lent one e) ∙ a .same-used ∙
+          sym (ap (λ (b : Buffer). b .used) (file-lent other f));
       room = a .same-length;
     } in
     subst (λ (b : Buffer). ByMarks b other cs) (file-lent one e)
