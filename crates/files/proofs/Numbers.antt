@@ -2,27 +2,23 @@
 use Prim.Native.Nat.{ℕ}
 use mathlib.Core.Path.{refl, sym, subst}
 use mathlib.Core.Logic.{⊎-elim}
-use mathlib.Core.Bool.{Bool, true, false, cond, not}
+use mathlib.Core.Bool.{not}
 use mathlib.Core.List.{List, [], _∷_}
 use lib.Dec.{leb, ltb}
 use lib.ListN.{length}
+use Rattle.axis.specs.Range.{OneOf}
+use Rattle.axis.proofs.Tests.{by-test}
 use Rattle.maps.specs.Record.{plain, good}
 use Rattle.files.specs.File.{fileOf}
 use Rattle.files.specs.Calls.{ifRefused, writeNumber, readFile, whole}
 use Rattle.files.specs.Listing.{textOf, textNumber}
-use Rattle.files.specs.Numbers.{OneOf, FileNumbers}
+use Rattle.files.specs.Numbers.{FileNumbers}
 use Rattle.files.proofs.GoodFiles.{accepts}
 
--- What holds of both numbers that a test decides between holds of the one that it gives,
+-- What holds of two checks holds of the first refusal of them;
 module _ (P : ℕ → Type 0) where
-  pub by-test : {A : Type 0} (number : A → ℕ) (t : Bool) {x y : A} → P (number x) → P (number y) →
-      P (number (cond t x y))
-  by-test number true p q = p
-  by-test number false p q = q
-
-  -- so what holds of two checks holds of the first refusal of them;
   pub first-refusal : (a b : ℕ) → P a → P b → P (ifRefused a a b)
-  first-refusal a b = by-test (λ n. n) (leb 1 a)
+  first-refusal a b = by-test P (λ n. n) (leb 1 a)
 
   -- and reading bytes gives 0 or 11.
   pub reading-gives : (bytes : List ℕ) → P 0 → P 11 → P (readFile bytes .number)

@@ -1,17 +1,10 @@
 -- Document 01, "When a call says no": calls on files give only the numbers whose matter they have.
 use Prim.Native.Nat.{ℕ}
-use mathlib.Core.Path.{_≡_}
-use mathlib.Core.Bool.{true}
 use mathlib.Core.List.{List, [], _∷_}
-use lib.Dec.{eqb}
-use Rattle.axis.specs.Range.{any}
+use Rattle.axis.specs.Range.{OneOf}
 use Rattle.maps.specs.declared.Map.{Map}
 use Rattle.files.specs.Calls.{writeNumber, readFile, payloadNumber}
 use Rattle.files.specs.Listing.{textNumber}
-
--- a number is one of these
-abbrev pub OneOf : List ℕ → ℕ → Type 0
-OneOf numbers n = any (eqb n) numbers ≡ true
 
 -- Write, read, a record's payload, and the table as text.
 pub record FileNumbers : Type 0 where
