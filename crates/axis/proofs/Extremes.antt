@@ -15,7 +15,8 @@ at-most-greatest (k ∷ ns) n m =
 
 pub at-least-smallest : (ns : List ℕ) (n : ℕ) → List·Memᴰ n ns → smallest ns ≤ n
 at-least-smallest [] n m = absurd (List·Memᴰ·not-nil m)
-at-least-smallest (k ∷ []) n m = ⊎-elim (λ q. omega (arith, q)) (λ l. absurd (List·Memᴰ·not-nil l)) (List·Memᴰ·cases-cons m)
+at-least-smallest (k ∷ []) n m =
+    ⊎-elim (λ q. omega (arith, q)) (λ l. absurd (List·Memᴰ·not-nil l)) (List·Memᴰ·cases-cons m)
 at-least-smallest (k ∷ j ∷ ns) n m =
     ⊎-elim (λ q. omega (arith, q)) (λ l. omega (arith, at-least-smallest (j ∷ ns) n l)) (List·Memᴰ·cases-cons m)
 

@@ -42,7 +42,8 @@ module _ (t : Triple) (x : ℕ) where
   pub share-gap : (u : ℕ) → End x u → share t x u ≤ gap t x
   share-gap u e = by-side u (λ s g. s ≤ g) (λ h. omega arith) (λ h. omega arith)
 
-  -- Over a step of a side the gap is at most the side, where the triple reaches past the side only with its middle at the end.
+  -- Over a step of a side the gap is at most the side, where the triple reaches past the side only
+  -- with its middle at the end.
   pub gap-side : (side : ℕ) → 1 ≤ x → x ≤ side → 1 ≤ t .m → t .m ≤ side + 1 → t .r ≤ side + 2 → (t .l ≡ 0 → t .m ≡ 1) →
       (t .r ≡ side + 2 → t .m ≡ side + 1) → gap t x ≤ side
   gap-side side lo hi low high far near end =

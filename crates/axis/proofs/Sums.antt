@@ -27,9 +27,11 @@ plus-equal x x′ y y′ e f =
 pub plus-nothing : (x y y′ : Fraction) → x .num ≡ 0 → Equal y y′ → Equal (plus x y) y′
 plus-nothing x y y′ z e = omega (arith, ap (λ (a : ℕ). a * (y .den * y′ .den)) z, ap (λ (a : ℕ). a * x .den) e)
 
--- a sum is that of the entries which pass a test, by equal fractions, where those of the others are 0
+-- a sum is that of the entries which pass a test, by equal fractions, where those of the others are
+-- 0
 pub total-only : {A : Type 0} (test : A → Bool) (f g : A → Fraction) (xs : List A) →
-    ((x : A) → List·Memᴰ x xs → test x ≡ true → Equal (f x) (g x)) → ((x : A) → List·Memᴰ x xs → test x ≡ false → f x .num ≡ 0) →
+    ((x : A) → List·Memᴰ x xs → test x ≡ true → Equal (f x) (g x)) →
+    ((x : A) → List·Memᴰ x xs → test x ≡ false → f x .num ≡ 0) →
     Equal (total (map f xs)) (total (map g (only test xs)))
 total-only test f g [] same none = refl
 total-only test f g (x ∷ xs) same none =

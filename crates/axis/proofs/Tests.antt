@@ -15,7 +15,8 @@ either true = inl refl
 either false = inr refl
 
 -- what is true of both of two things, or of a number of each, is true of the one that a test gives
-pub by-test : (P : ℕ → Type 0) {A : Type 0} (number : A → ℕ) (b : Bool) {x y : A} → P (number x) → P (number y) → P (number (cond b x y))
+pub by-test : (P : ℕ → Type 0) {A : Type 0} (number : A → ℕ) (b : Bool) {x y : A} → P (number x) → P (number y) →
+    P (number (cond b x y))
 by-test P number true p q = p
 by-test P number false p q = q
 

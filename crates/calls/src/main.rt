@@ -9,7 +9,8 @@ ghost use Prim.Native.Nat.{_≤_};
 ghost use lib.ListN.{length};
 ghost use Rattle.maps.specs.Opened.{Opens};
 
-// The longest call, `same ` and the largest file in hexadecimal, has 26,045 bytes (zeros before a number may make any call longer).
+// The longest call, `same ` and the largest file in hexadecimal, has 26,045 bytes (zeros before a
+// number may make any call longer).
 const ROOM: usize = 32768;
 
 // What goes on from one read to the next: the map; how many bytes at the front of the buffer start a line; whether they follow on a start that was

@@ -56,7 +56,8 @@ pub record FromFile (bytes : List ℕ) : Type 0 where
   -- of which demand 3 holds, with document 02's clauses beside it; and so they do of the list on its own.
   pub whole : (cs : List Call) → let P = readPlain bytes in Demand3 (P .lines .w) (P .lines .h) (fileCalls P ++ cs)
   pub own : (cs : List Call) → DemandFrom (readPlain bytes) cs
-  -- A list may start from it as from a fresh map: what `own` says of two lists on equal sides holds where both start from files.
+  -- A list may start from it as from a fresh map: what `own` says of two lists on equal sides holds
+  -- where both start from files.
   pub is-start : Start (readPlain bytes)
 
 -- "Writing and asking for a record's payload change no map, so they may come anywhere between these calls": a call of such a list, on the map,

@@ -20,7 +20,8 @@ module _ (m n : Map) (gm : good m ≡ true) (gn : good n ≡ true) (same : m .li
   Alike one other = SameButValues m n one other
 
   -- one of two outcomes, by equal numbers
-  by-number : {k l : ℕ} → k ≡ l → {x y u v : Changed} → Alike x u → Alike y v → Alike (cond (eqb k 0) x y) (cond (eqb l 0) u v)
+  by-number : {k l : ℕ} → k ≡ l → {x y u v : Changed} → Alike x u → Alike y v →
+      Alike (cond (eqb k 0) x y) (cond (eqb l 0) u v)
   by-number {k} {l} e {x} {y} {u} {v} p q = rw e (by (eqb l 0))
     where
       by : (b : Bool) → Alike (cond b x y) (cond b u v)
@@ -38,9 +39,15 @@ module _ (m n : Map) (gm : good m ≡ true) (gn : good n ≡ true) (same : m .li
   refused-alike : {k l : ℕ} → k ≡ l → Alike (changed k m) (changed l n)
   refused-alike e = record { same-number = e; same-lines = same; same-marks = λ e. e }
 
-  drawn-alike : (s : Split) → Alike (changed 0 (recordOf (drawn (plain m) s))) (changed 0 (recordOf (drawn (plain n) s)))
+  drawn-alike : (s : Split) →
+      Alike (changed 0 (recordOf (drawn (plain m) s))) (changed 0 (recordOf (drawn (plain n) s)))
   unfolding recordOf drawn
-  drawn-alike s = record { same-number = refl; same-lines = rw same-layout; same-marks = λ e. rw (same-layout, same-kept e) }
+  drawn-alike s = record {
+    same-number = refl;
+    same-lines = rw same-layout;
+    same-marks =
+        λ e. rw (same-layout, same-kept e);
+  }
 
   first-alike : {cs ds : List Split} → cs ≡ ds → Alike (drawnFirst m (plain m) cs) (drawnFirst n (plain n) ds)
   first-alike {cs} {ds} e = rw e (by ds)

@@ -78,22 +78,31 @@ module _ (m : Map) (w h u v : ℕ) (values marks : List ℕ) where
       (ap (λ (p : Placed). record { num = f .num * p .value; den = f .den }) (told a (List·Memᴰ·head refl)))
       (told-products es (λ b n. told b (List·Memᴰ·tail n)))
 
--- Values times weights: where each value whose blend weighs more than 0 is at most k, or at least k, the sum is that to k times the sum of the weights.
+-- Values times weights: where each value whose blend weighs more than 0 is at most k, or at least
+-- k, the sum is that to k times the sum of the weights.
 module _ (k : ℕ) where
-  products-den : (vs : List ℕ) (es : List Weight) → length vs ≡ length es → total (products vs es) .den ≡ total (map fraction es) .den
+  products-den : (vs : List ℕ) (es : List Weight) → length vs ≡ length es →
+      total (products vs es) .den ≡ total (map fraction es) .den
   products-den [] [] long = refl
   products-den [] (e ∷ es) long = absurd (omega arith)
   products-den (v ∷ vs) [] long = absurd (omega arith)
   products-den (v ∷ vs) (e ∷ es) long = ap (λ (n : ℕ). e .denominator * n) (products-den vs es (omega arith))
 
   -- the value of one blend, and those of the rest, by the test whether it weighs more than 0
-  heavy : (Fits : ℕ → Type 0) (v : ℕ) (vs : List ℕ) (e : Weight) (es : List Weight) → ((x : ℕ) → List·Memᴰ x (weighing (v ∷ vs) (e ∷ es)) → Fits x) →
+  heavy : (Fits : ℕ → Type 0) (v : ℕ) (vs : List ℕ) (e : Weight) (es : List Weight) →
+      ((x : ℕ) → List·Memᴰ x (weighing (v ∷ vs) (e ∷ es)) → Fits x) →
       ((e .numerator ≡ 0) ⊎ Fits v) × ((x : ℕ) → List·Memᴰ x (weighing vs es) → Fits x)
   heavy Fits v vs e es fits =
-      ⊎-elim (λ (t : ltb 0 (e .numerator) ≡ true). let f = rw t at fits in (inr (f v (List·Memᴰ·head refl)), λ x m. f x (List·Memᴰ·tail m)))
-      (λ (t : ltb 0 (e .numerator) ≡ false). (inl (let le = ltb-false 0 (e .numerator) t in omega arith), rw t at fits)) (either (ltb 0 (e .numerator)))
+      ⊎-elim (λ (t : ltb 0 (e .numerator) ≡ true). let f = rw t at fits in
+      (inr (f v (List·Memᴰ·head refl)), λ x m. f x (List·Memᴰ·tail m)))
+      (λ (t : ltb 0 (e .numerator) ≡ false). (
+        inl
+            (let le = ltb-false 0 (e .numerator) t in omega arith),
+        rw t at fits,
+      )) (either (ltb 0 (e .numerator)))
 
-  products-most : (vs : List ℕ) (es : List Weight) → length vs ≡ length es → ((x : ℕ) → List·Memᴰ x (weighing vs es) → x ≤ k) →
+  products-most : (vs : List ℕ) (es : List Weight) → length vs ≡ length es →
+      ((x : ℕ) → List·Memᴰ x (weighing vs es) → x ≤ k) →
       total (products vs es) .num ≤ k * total (map fraction es) .num
   products-most [] [] long most = omega arith
   products-most [] (e ∷ es) long most = absurd (omega arith)
@@ -106,7 +115,8 @@ module _ (k : ℕ) where
       ⊎-elim (λ z. rw z (omega arith)) (λ le. omega (arith, mul-le-mul-right (e .numerator) le)) (h .0) in
       rw (products-den vs es (omega arith)) (omega (arith, mul-le-mul-right D here, rest))
 
-  products-least : (vs : List ℕ) (es : List Weight) → length vs ≡ length es → ((x : ℕ) → List·Memᴰ x (weighing vs es) → k ≤ x) →
+  products-least : (vs : List ℕ) (es : List Weight) → length vs ≡ length es →
+      ((x : ℕ) → List·Memᴰ x (weighing vs es) → k ≤ x) →
       k * total (map fraction es) .num ≤ total (products vs es) .num
   products-least [] [] long least = omega arith
   products-least [] (e ∷ es) long least = absurd (omega arith)
@@ -119,8 +129,10 @@ module _ (k : ℕ) where
       ⊎-elim (λ z. rw z (omega arith)) (λ le. omega (arith, mul-le-mul-right (e .numerator) le)) (h .0) in
       rw (products-den vs es (omega arith)) (omega (arith, mul-le-mul-right D here, rest))
 
--- So where the weights add up to one, their sum, rounded, lies between the least and the greatest of these values.
-module _ (vs : List ℕ) (es : List Weight) (long : length vs ≡ length es) (one : total (map fraction es) .num ≡ total (map fraction es) .den)
+-- So where the weights add up to one, their sum, rounded, lies between the least and the greatest
+-- of these values.
+module _ (vs : List ℕ) (es : List Weight) (long : length vs ≡ length es)
+    (one : total (map fraction es) .num ≡ total (map fraction es) .den)
     (some : 0 < total (map fraction es) .den) where
   some-products : 0 < total (products vs es) .den
   some-products = rw (products-den 0 vs es long) some
@@ -196,8 +208,10 @@ module _ {P : Plain} (holds : Holds P) (u v : ℕ) (uw : u ≤ P .lines .w) (vh 
 
   as-many : length told-values ≡ length (weights (recordOf P) u v .entries)
   as-many =
-      length-map (map (λ (a : Entry). a .place) found) (λ i. tablePlace (recordOf P) i .value) ∙ length-map found (λ (a : Entry). a .place) ∙
-      sym (ap length the-weights ∙ length-map (map (λ (a : Entry). a .blend) found) (weightOver w h u v) ∙ length-map found (λ (a : Entry). a .blend))
+      length-map (map (λ (a : Entry). a .place) found) (λ i. tablePlace (recordOf P) i .value) ∙
+      length-map found (λ (a : Entry). a .place) ∙
+      sym (ap length the-weights ∙ length-map (map (λ (a : Entry). a .blend) found) (weightOver w h u v) ∙
+      length-map found (λ (a : Entry). a .blend))
 
   abbrev told-sums : List Fraction
   told-sums = products told-values (weights (recordOf P) u v .entries)
@@ -212,7 +226,8 @@ module _ {P : Plain} (holds : Holds P) (u v : ℕ) (uw : u ≤ P .lines .w) (vh 
       point-answers P holds u v uw vh ∙
       ap (λ (n : ℕ). record { number = 0; litres = n }) (summed ∙ ap (λ (fs : List Fraction). rounded (total fs)) same-sums)
 
-  -- the weights of the four blends over the square add up to one, since all others weigh nothing at the point
+  -- the weights of the four blends over the square add up to one, since all others weigh nothing at
+  -- the point
   is-sound : sound w h (blends P) ≡ true
   is-sound = replays-sound (holds .taken)
 
@@ -220,31 +235,40 @@ module _ {P : Plain} (holds : Holds P) (u v : ℕ) (uw : u ≤ P .lines .w) (vh 
   weight-here B = weightAt (corner w u + 1) (corner h v + 1) (u + 1) (v + 1) B
 
   the-fractions : map fraction (weights (recordOf P) u v .entries) ≡ map weight-here (only test (blends P))
-  the-fractions = ap (map fraction) the-weights ∙ as-fractions (map (λ (a : Entry). a .blend) found) ∙ ap (map weight-here) (entries-only test (blends P) 0)
+  the-fractions = ap (map fraction) the-weights ∙ as-fractions (map (λ (a : Entry). a .blend) found) ∙
+      ap (map weight-here) (entries-only test (blends P) 0)
     where
       as-fractions : (bs : List Blend) → map fraction (map (weightOver w h u v) bs) ≡ map weight-here bs
       as-fractions [] = refl
       as-fractions (B ∷ bs) = ap (λ (l : List Fraction). weight-here B ∷ l) (as-fractions bs)
 
   in-knots : (B : Blend) → List·Memᴰ B (blends P) → ProperIn 128 128 B
-  in-knots B m = proper-facts 128 128 B (all-at (proper 128 128) (blends P) (proper-most w h (blends P) (sides .1) (sides .3) all-proper) B m)
+  in-knots B m = proper-facts 128 128 B
+      (all-at (proper 128 128) (blends P) (proper-most w h (blends P) (sides .1) (sides .3) all-proper) B m)
 
-  weights-one : let sum = total (map fraction (weights (recordOf P) u v .entries)) in (sum .num ≡ sum .den) × (0 < sum .den)
+  weights-one : let sum = total (map fraction (weights (recordOf P) u v .entries)) in (sum .num ≡ sum .den) ×
+      (0 < sum .den)
   unfolding weightAt
   weights-one =
       let x = corner w u + 1 in
       let y = corner h v + 1 in
-      let whole = weights-add-up w h (sides .0) (sides .2) (meshOf (P .lines)) is-sound u v 1 (omega arith) (omega arith) (omega arith) in
+      let whole = weights-add-up w h (sides .0) (sides .2) (meshOf (P .lines)) is-sound u v 1 (omega arith)
+      (omega arith) (omega arith) in
       let same =
       total-only test (λ (C : Blend). weight C (u + 1) (v + 1) 1) weight-here (blends P)
       (λ B m t. weight-shares B (in-knots B m) x y (u + 1) (v + 1) across up .equal)
       (λ B m t. weight-outside B (in-knots B m) x y (u + 1) (v + 1) across up t) in
-      let some = total-positive weight-here (only test (blends P)) (λ B m. denominator-positive B (in-knots B (only-mem test (blends P) B m .0)) x y) in
-      subst (λ (fs : List Fraction). (total fs .num ≡ total fs .den) × (0 < total fs .den)) (sym the-fractions)
-      (eq-of-mul-eq-mul-left _ (whole .1) _ _ (omega (arith, same, ap (λ (n : ℕ). n * total (map weight-here (only test (blends P))) .den) (whole .0))), some)
+      let some = total-positive weight-here (only test (blends P))
+      (λ B m. denominator-positive B (in-knots B (only-mem test (blends P) B m .0)) x y) in
+      subst (λ (fs : List Fraction). (total fs .num ≡ total fs .den) × (0 < total fs .den)) (sym the-fractions) (
+        eq-of-mul-eq-mul-left _ (whole .1) _ _
+            (omega (arith, same, ap (λ (n : ℕ). n * total (map weight-here (only test (blends P))) .den) (whole .0))),
+        some,
+      )
 
   -- a weight is at most one, and over the square of the point no gap is longer than its side
-  weight-small : (B : Blend) → List·Memᴰ B (blends P) → (weight-here B .num ≤ weight-here B .den) × (weight-here B .den ≤ 16384)
+  weight-small : (B : Blend) → List·Memᴰ B (blends P) → (weight-here B .num ≤ weight-here B .den) ×
+      (weight-here B .den ≤ 16384)
   unfolding weightAt
   weight-small B m =
       let x = corner w u + 1 in
@@ -254,24 +278,32 @@ module _ {P : Plain} (holds : Holds P) (u v : ℕ) (uw : u ≤ P .lines .w) (vh 
       let one = one-way w h (sides .0) (sides .2) (P .lines .splits) in
       let a = one upright .rises B m in
       let b = one level .rises B m in
-      let wide = gap-side (B .across) x w (i .0) (i .1) (omega arith) (omega arith) (omega arith) (one upright .near B m) (one upright .far B m) in
-      let tall = gap-side (B .up) y h (j .0) (j .1) (omega arith) (omega arith) (omega arith) (one level .near B m) (one level .far B m) in
-      (mul-le-mul (share-gap (B .across) x (u + 1) across) (share-gap (B .up) y (v + 1) up), mul-le-mul (le-trans wide (sides .1)) (le-trans tall (sides .3)))
+      let wide = gap-side (B .across) x w (i .0) (i .1) (omega arith) (omega arith) (omega arith)
+      (one upright .near B m) (one upright .far B m) in
+      let tall = gap-side (B .up) y h (j .0) (j .1) (omega arith) (omega arith) (omega arith) (one level .near B m)
+      (one level .far B m) in (
+        mul-le-mul (share-gap (B .across) x (u + 1) across) (share-gap (B .up) y (v + 1) up),
+        mul-le-mul
+            (le-trans wide (sides .1)) (le-trans tall (sides .3)),
+      )
 
   pub record-weights : ByWeights (recordOf P) u v
   record-weights =
       record {
         places = map (λ (a : Entry). a .place) found;
-        four = length-map found (λ (a : Entry). a .place) ∙ entries-length test (blends P) 0 ∙ four-at w h (blends P) is-sound u v (sides .0) (sides .2) uw vh;
+        four = length-map found (λ (a : Entry). a .place) ∙ entries-length test (blends P) 0 ∙
+            four-at w h (blends P) is-sound u v (sides .0) (sides .2) uw vh;
         add-up = weights-one;
         at-most-one = λ e m.
             let r = map-mem (weightOver w h u v) _ e (subst (List·Memᴰ e) the-weights m) in
             let b = map-mem (λ (a : Entry). a .blend) found (r .0) (r .1) in
             let in-table = entry-in test (blends P) 0 (b .0) (b .1) .1 in
             rw (r .2, b .2) (weight-small (b .0 .blend) in-table);
-        not-below = subst (λ (r : Reading). smallest (weighing told-values (weights (recordOf P) u v .entries)) ≤ r .litres) (sym answered)
+        not-below = subst (λ (r : Reading). smallest
+            (weighing told-values (weights (recordOf P) u v .entries)) ≤ r .litres) (sym answered)
             (mean-least told-values (weights (recordOf P) u v .entries) as-many (weights-one .0) (weights-one .1));
-        not-above = subst (λ (r : Reading). r .litres ≤ greatest (weighing told-values (weights (recordOf P) u v .entries))) (sym answered)
+        not-above = subst (λ (r : Reading). r .litres ≤ greatest
+            (weighing told-values (weights (recordOf P) u v .entries))) (sym answered)
             (mean-most told-values (weights (recordOf P) u v .entries) as-many (weights-one .0) (weights-one .1));
         taken = λ i m.
             let r = map-mem (λ (a : Entry). a .place) found i m in

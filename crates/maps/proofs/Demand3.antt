@@ -90,7 +90,8 @@ same-lines P Q at from cs ds wide tall f g =
     ending-blends ds Q from ∙ ap₂ (λ (w h : ℕ). live w h (meshBy Q ds)) wide tall ∙
     same-steps (P .lines .w) (P .lines .h) (meshBy Q ds) (meshBy P cs) (λ d z k. same-test _ _ (g d z k) (f d z k)) ∙ sym (ending-blends cs P at)
 
-both-tabled : (P Q : Plain) → Reached P → Reached Q → Q .lines .w ≡ P .lines .w → Q .lines .h ≡ P .lines .h → (cs ds : List Call) →
+both-tabled : (P Q : Plain) → Reached P → Reached Q → Q .lines .w ≡ P .lines .w → Q .lines .h ≡ P .lines .h →
+    (cs ds : List Call) →
     Coarser (meshBy P cs) (meshBy Q ds) → Coarser (meshBy Q ds) (meshBy P cs) → (bs : List Blend) → Tabled (leftBy Q ds) bs → Tabled (leftBy P cs) bs
 both-tabled P Q at from wide tall cs ds f g bs tabled =
     rw (tabled-once tabled (end-tabled Q from ds) ∙ same-lines P Q at from cs ds wide tall f g) (end-tabled P at cs)
@@ -125,17 +126,20 @@ told-lines P Q at from cs ds wide tall same =
     (blends-tell-lines (A .lines) (B .lines) (built-after P at cs) (built-after Q from ds) (replays-stands (l .reached .holds .taken) .ranges)
     (replays-stands (k .reached .holds .taken) .ranges) (k .wide ∙ wide ∙ sym (l .wide)) (k .tall ∙ tall ∙ sym (l .tall)) same))
 
-both-lined : (P Q : Plain) → Reached P → Reached Q → Q .lines .w ≡ P .lines .w → Q .lines .h ≡ P .lines .h → (cs ds : List Call) →
+both-lined : (P Q : Plain) → Reached P → Reached Q → Q .lines .w ≡ P .lines .w → Q .lines .h ≡ P .lines .h →
+    (cs ds : List Call) →
     (bs : List Blend) → Tabled (leftBy P cs) bs → Tabled (leftBy Q ds) bs → Coarser (meshBy P cs) (meshBy Q ds) × Coarser (meshBy Q ds) (meshBy P cs)
 both-lined P Q at from wide tall cs ds bs here there =
     let same = sym (tabled-once there (end-tabled Q from ds)) ∙ tabled-once here (end-tabled P at cs) in
     (told-lines P Q at from cs ds wide tall same, told-lines Q P from at ds cs (sym wide) (sym tall) (sym same))
 
 -- no value after a list is above the greatest of those before it and of those that it set
-end-within : (P : Plain) → Reached P → (cs : List Call) → Within (greatest (P .values ++ valuesSet (recordOf P) cs)) (ending byMachine P cs)
+end-within : (P : Plain) → Reached P → (cs : List Call) →
+    Within (greatest (P .values ++ valuesSet (recordOf P) cs)) (ending byMachine P cs)
 end-within P at cs =
     let all = P .values ++ valuesSet (recordOf P) cs in
-    list-within cs (greatest all) P at (λ x m. at-most-greatest all x (Memᴰ·append-left _ m)) (λ x m. at-most-greatest all x (Memᴰ·append-right (P .values) m))
+    list-within cs (greatest all) P at (λ x m. at-most-greatest all x (Memᴰ·append-left _ m))
+    (λ x m. at-most-greatest all x (Memᴰ·append-right (P .values) m))
 
 -- The demand holds of it,
 pub reached-demand : (P : Plain) → Reached P → (cs : List Call) → DemandFrom P cs
@@ -151,8 +155,10 @@ reached-demand P at cs =
       are-tabled = end-tabled P at cs;
       cutting-ends = cutting-ends-live w h (at .valued .wide .0) (at .valued .tall .0) (meshBy P cs);
       any-order = λ ds way.
-          subst (SameMembers ds) (sym (ending-blends cs P at)) (any-order-live w h (at .valued .wide .0) (at .valued .tall .0) (meshBy P cs) ds way);
-      is-sound = subst (λ (L : Layout). sound (L .w) (L .h) (blends Q) ≡ true) (lines-after P at cs) (leads .reached .valued .is-sound);
+          subst (SameMembers ds) (sym (ending-blends cs P at))
+          (any-order-live w h (at .valued .wide .0) (at .valued .tall .0) (meshBy P cs) ds way);
+      is-sound = subst (λ (L : Layout). sound (L .w) (L .h) (blends Q) ≡ true) (lines-after P at cs)
+          (leads .reached .valued .is-sound);
       four-in = λ x y hx hy. valued-four Q (leads .reached .valued) x y (rw (leads .wide) hx) (rw (leads .tall) hy);
       add-up = λ p q d pos hp hq. valued-sum Q (leads .reached .valued) p q d pos (rw (leads .wide) hp) (rw (leads .tall) hq);
       gentle = λ earlier c later e. any-split P at earlier Gentle split-gentle c;
@@ -166,7 +172,8 @@ reached-demand P at cs =
       by-allowance = rw (ending-follows cs P at) (reached-allowance Q (leads .reached));
       reads-told =
           rw (ending-follows cs P at)
-          (subst (λ (L : Layout). Reads (recordOf Q) (L .w) (L .h) (length (blends Q))) (lines-after P at cs) (reached-reads Q (leads .reached)));
+          (subst (λ (L : Layout). Reads (recordOf Q) (L .w) (L .h) (length (blends Q))) (lines-after P at cs)
+          (reached-reads Q (leads .reached)));
       set-reads = rw (ending-follows cs P at) (set-then-reads Q (leads .reached));
       none-above = rw (ending-follows cs P at) (readings-within Q (leads .reached) _ (end-within P at cs));
       straight = reads-straight Q (leads .reached) (leftBy P cs) (P .lines .w) (P .lines .h) (ending-follows cs P at) (leads .wide) (leads .tall);
@@ -179,8 +186,18 @@ pub demand-three : (w h : ℕ) → allowedSide w ≡ true → allowedSide h ≡ 
 unfolding freshMap freshPlain
 demand-three w h a b cs =
     let demand = reached-demand (freshPlain w h) (fresh-reached w h a b) cs in
-    record { made = cond-true _ _ _ (and-of _ _ a b); holds = demand; none-above = λ u v. omega (arith, demand .none-above u v) }
+    record {
+      made = cond-true _ _ _ (and-of _ _ a b);
+      holds = demand;
+      none-above =
+          λ u v. omega (arith, demand .none-above u v);
+    }
 
 -- and on every good record.
 pub demand-of : (m : Map) → Held m → good m ≡ true → (cs : List Call) → DemandOf m cs
-demand-of m held g cs = record { is-record = good-facts m (held .full) g .is-record; holds = reached-demand (plain m) (good-reached m held g) cs }
+demand-of m held g cs =
+    record {
+      is-record = good-facts m (held .full) g .is-record;
+      holds =
+          reached-demand (plain m) (good-reached m held g) cs;
+    }

@@ -43,13 +43,16 @@ asked-among P s a =
     (by-test ok number (not (ended (meshOf P) s)) refl
     (by-test ok number (not (any (isCut (meshOf (withLine P s))) (liveOf P))) refl refl)))))
 
-drawn-among : (old : Map) (P : Plain) (s : Split) (a : ℕ) (cs : List Split) → OneOf (0 ∷ refusalsOf (split s a)) (drawnFirst old P cs .number)
+drawn-among : (old : Map) (P : Plain) (s : Split) (a : ℕ) (cs : List Split) →
+    OneOf (0 ∷ refusalsOf (split s a)) (drawnFirst old P cs .number)
 drawn-among old P s a [] = refl
 drawn-among old P s a (c ∷ cs) = refl
 
-pairs-among : (side : ℕ) (readings : ℕ → Reading) (wanted : ℕ) → OneOf (0 ∷ 10 ∷ 13 ∷ []) (pairsAlong side readings wanted .number)
+pairs-among : (side : ℕ) (readings : ℕ → Reading) (wanted : ℕ) →
+    OneOf (0 ∷ 10 ∷ 13 ∷ []) (pairsAlong side readings wanted .number)
 pairs-among side readings wanted =
-    by-test (OneOf (0 ∷ 10 ∷ 13 ∷ [])) (λ (p : Pairs). p .number) (leb 1 wanted && leb wanted 65535) (counted (pairs side readings wanted)) refl
+    by-test (OneOf (0 ∷ 10 ∷ 13 ∷ [])) (λ (p : Pairs). p .number) (leb 1 wanted && leb wanted 65535)
+    (counted (pairs side readings wanted)) refl
   where
     counted : (us : List ℕ) → OneOf (0 ∷ 10 ∷ 13 ∷ []) (countedPairs us .number)
     counted [] = refl
@@ -60,23 +63,30 @@ good-among : (m : Map) (c : Call) → good m ≡ true → OneOf (0 ∷ refusalsO
 unfolding setValue splitWithin tablePlace reading weights rowPairs columnPairs sameness
 good-among m (set i j v) g =
     let P = plain m in
-    rw g (by-test (OneOf (0 ∷ 9 ∷ [])) (λ (r : Changed). r .number) (ltb (placeOf (blends P) (i + 1) (j + 1)) (length (blends P))) refl refl)
+    rw g (by-test (OneOf (0 ∷ 9 ∷ [])) (λ (r : Changed). r .number)
+    (ltb (placeOf (blends P) (i + 1) (j + 1)) (length (blends P))) refl refl)
 good-among m (split s a) g =
     let P = plain m in
     rw g
-    (by-test (OneOf (0 ∷ refusalsOf (split s a))) (λ (r : Changed). r .number) (eqb (asked (P .lines) s a) 0) (drawn-among m P s a (chosen (P .lines) s a))
+    (by-test (OneOf (0 ∷ refusalsOf (split s a))) (λ (r : Changed). r .number) (eqb (asked (P .lines) s a) 0)
+    (drawn-among m P s a (chosen (P .lines) s a))
     (asked-among (P .lines) s a))
-good-among m (place i) g = rw g (by-test (OneOf (0 ∷ 9 ∷ [])) (λ (r : Placed). r .number) (ltb i (length (blends (plain m)))) refl refl)
-good-among m (reads u v) g = rw g (by-test (OneOf (0 ∷ 10 ∷ [])) (λ (r : Reading). r .number) (inDomain (plain m) u v) refl refl)
-good-among m (weighs u v) g = rw g (by-test (OneOf (0 ∷ 10 ∷ [])) (λ (r : Weights). r .number) (inDomain (plain m) u v) refl refl)
+good-among m (place i) g =
+    rw g (by-test (OneOf (0 ∷ 9 ∷ [])) (λ (r : Placed). r .number) (ltb i (length (blends (plain m)))) refl refl)
+good-among m (reads u v) g =
+    rw g (by-test (OneOf (0 ∷ 10 ∷ [])) (λ (r : Reading). r .number) (inDomain (plain m) u v) refl refl)
+good-among m (weighs u v) g =
+    rw g (by-test (OneOf (0 ∷ 10 ∷ [])) (λ (r : Weights). r .number) (inDomain (plain m) u v) refl refl)
 good-among m (alongRow v wanted) g =
     let P = plain m in
     rw g
-    (by-test (OneOf (0 ∷ 10 ∷ 13 ∷ [])) (λ (r : Pairs). r .number) (leb v (P .lines .h)) (pairs-among (P .lines .w) (λ u. readingOn P u v) wanted) refl)
+    (by-test (OneOf (0 ∷ 10 ∷ 13 ∷ [])) (λ (r : Pairs). r .number) (leb v (P .lines .h))
+    (pairs-among (P .lines .w) (λ u. readingOn P u v) wanted) refl)
 good-among m (alongColumn u wanted) g =
     let P = plain m in
     rw g
-    (by-test (OneOf (0 ∷ 10 ∷ 13 ∷ [])) (λ (r : Pairs). r .number) (leb u (P .lines .w)) (pairs-among (P .lines .h) (λ v. readingOn P u v) wanted) refl)
+    (by-test (OneOf (0 ∷ 10 ∷ 13 ∷ [])) (λ (r : Pairs). r .number) (leb u (P .lines .w))
+    (pairs-among (P .lines .h) (λ v. readingOn P u v) wanted) refl)
 good-among m (sameAs other) g = by-test (OneOf (0 ∷ 2 ∷ [])) (λ (r : Same). r .number) (good m && good other) refl refl
 
 -- and on one that is not
@@ -95,11 +105,14 @@ pub own-numbers : OwnNumbers
 unfolding freshMap
 own-numbers =
     record {
-      fresh = λ w h. by-test (OneOf (0 ∷ 1 ∷ [])) (λ (r : Changed). r .number) (allowedSide w && allowedSide h) refl refl;
-      calls = λ m c. ⊎-elim (λ g. one-more (refusalsOf c) (numberOf (byLibrary m c .answer)) (good-among m c g)) (λ b. rw (bad-says m c b)) (either (good m));
+      fresh = λ w h. by-test (OneOf (0 ∷ 1 ∷ [])) (λ (r : Changed). r .number)
+          (allowedSide w && allowedSide h) refl refl;
+      calls = λ m c. ⊎-elim (λ g. one-more (refusalsOf c) (numberOf (byLibrary m c .answer)) (good-among m c g))
+          (λ b. rw (bad-says m c b)) (either (good m));
       on-good = good-among;
     }
   where
     one-more : (rs : List ℕ) (n : ℕ) → OneOf (0 ∷ rs) n → OneOf (0 ∷ 2 ∷ rs) n
     one-more rs n is =
-        ⊎-elim (or-left (eqb n 0) _) (λ r. or-right (eqb n 0) _ (or-right (eqb n 2) _ r)) (or-either (eqb n 0) (any (eqb n) rs) is)
+        ⊎-elim (or-left (eqb n 0) _) (λ r. or-right (eqb n 0) _ (or-right (eqb n 2) _ r))
+        (or-either (eqb n 0) (any (eqb n) rs) is)

@@ -98,7 +98,8 @@ module _ (P : Plain) (valued : Valued P) where
       (either (ltb i (length (blends P))))
 
   -- A reading in the domain is at most what all values are: no flow that isn't there;
-  pub reading-within : (k : ℕ) → ((x : ℕ) → List·Memᴰ x (P .values) → x ≤ k) → (u v : ℕ) → u ≤ P .lines .w → v ≤ P .lines .h →
+  pub reading-within : (k : ℕ) → ((x : ℕ) → List·Memᴰ x (P .values) → x ≤ k) → (u v : ℕ) → u ≤ P .lines .w →
+      v ≤ P .lines .h →
       readingAt (blends P) (P .values) u v ≤ k
   reading-within k within u v u-in v-in =
       let w = P .lines .w in
@@ -137,7 +138,8 @@ module _ (P : Plain) (valued : Valued P) (s : Split) (still : sound (P .lines .w
       carried-reading P valued (getD (liveOf (withLine (P .lines) s)) i none)
 
   -- so none is above what all old values are,
-  pub drawn-within : (k : ℕ) → ((x : ℕ) → List·Memᴰ x (P .values) → x ≤ k) → (x : ℕ) → List·Memᴰ x (drawn P s .values) → x ≤ k
+  pub drawn-within : (k : ℕ) → ((x : ℕ) → List·Memᴰ x (P .values) → x ≤ k) → (x : ℕ) →
+      List·Memᴰ x (drawn P s .values) → x ≤ k
   unfolding drawn
   drawn-within k within x m =
       let r = map-mem (carried (blends P) (P .values)) (liveOf (withLine (P .lines) s)) x m in

@@ -1,4 +1,5 @@
--- What users are told of readings, of every map that calls may have reached; and how large values are after a list of calls.
+-- What users are told of readings, of every map that calls may have reached; and how large values
+-- are after a list of calls.
 use Prim.Native.Nat.{ℕ, _+_, _-_, _%_, _≤_}
 use native.Mathlib.Omega.{arith}
 use native.Mathlib.Nat.{mod-lt}
@@ -42,7 +43,8 @@ abbrev pub Within : ℕ → Plain → Type 0
 Within k P = (x : ℕ) → List·Memᴰ x (P .values) → x ≤ k
 
 module _ (P : Plain) (at : Reached P) where
-  -- What is at most k at every whole point of the domain is so at every point that is asked for: outside it the answer is 0.
+  -- What is at most k at every whole point of the domain is so at every point that is asked for:
+  -- outside it the answer is 0.
   point-within : (k : ℕ) → ((u v : ℕ) → u ≤ P .lines .w → v ≤ P .lines .h → readingAt (blends P) (P .values) u v ≤ k) →
       (u v : ℕ) → reading (recordOf P) u v .litres ≤ k
   point-within k most u v =
@@ -75,9 +77,12 @@ module _ (P : Plain) (at : Reached P) where
               v,
               a .0,
               a .1,
-              point-answers P (at .holds) u v (d .0) (d .1) ∙ ap (λ (n : ℕ). record { number = 0; litres = n }) (reading-value P (at .valued) i lt),
+              point-answers P (at .holds) u v (d .0) (d .1) ∙
+                  ap (λ (n : ℕ). record { number = 0; litres = n }) (reading-value P (at .valued) i lt),
             );
-        in-table = readings-within _ (subst (λ (vs : List ℕ). (x : ℕ) → List·Memᴰ x (P .values) → x ≤ greatest vs) (sym (table-values P (at .holds)))
+        in-table = readings-within _
+            (subst (λ (vs : List ℕ). (x : ℕ) → List·Memᴰ x (P .values) → x ≤ greatest vs)
+            (sym (table-values P (at .holds)))
             (at-most-greatest (P .values)));
         at-most = point-within 65535 (reading-most P (at .valued));
       }
@@ -89,20 +94,24 @@ module _ (P : Plain) (at : Reached P) where
       ⊎-elim
       (λ (t : eqb (asked (P .lines) s a) 0 ≡ true).
       let e = asked-says (P .lines) s a (eqb-true _ _ t) .1 in
-      rw (t, least (P .lines) (at .holds .taken) s e .taken a) (by (nearest-accepted (P .lines) (at .holds .taken) s e) (within s a (nearestGood (P .lines) s))))
+      rw (t, least (P .lines) (at .holds .taken) s e .taken a)
+      (by (nearest-accepted (P .lines) (at .holds .taken) s e) (within s a (nearestGood (P .lines) s))))
       (λ (f : eqb (asked (P .lines) s a) 0 ≡ false). rw f (inl refl)) (either (eqb (asked (P .lines) s a) 0))
     where
       n : List Split
       n = nearestGood (P .lines) s ∷ []
 
-      by : exactNumber (P .lines) (nearestGood (P .lines) s) ≡ 0 → (b : Bool) → let Q = firstDrawn P (cond b n []) .next in
+      by : exactNumber (P .lines) (nearestGood (P .lines) s) ≡ 0 → (b : Bool) → let Q =
+          firstDrawn P (cond b n []) .next in
           (Q ≡ P) ⊎ ((c : Split) × (exactNumber (P .lines) c ≡ 0) × (Q ≡ drawn P c))
       by e true = inr (nearestGood (P .lines) s, e, refl)
       by e false = inl refl
 
-  -- Values after a call are at most k, where those before it are and the value that it sets, if it is accepted.
+  -- Values after a call are at most k, where those before it are and the value that it sets, if it
+  -- is accepted.
   step-within : (k : ℕ) → Within k P → (c : Call) →
-      ((x : ℕ) → List·Memᴰ x (cond (eqb (numberOf (byMachine P c .answer)) 0) (valueSet c) []) → x ≤ k) → Within k (byMachine P c .next)
+      ((x : ℕ) → List·Memᴰ x (cond (eqb (numberOf (byMachine P c .answer)) 0) (valueSet c) []) → x ≤ k) →
+      Within k (byMachine P c .next)
   unfolding setPlain
   step-within k old (set i j v) new =
       ⊎-elim
@@ -112,19 +121,22 @@ module _ (P : Plain) (at : Reached P) where
       (either (ltb (placeOf (blends P) (i + 1) (j + 1)) (length (blends P))))
   step-within k old (split s a) new =
       ⊎-elim (λ q. rw q old)
-      (λ r. rw (r .2) (drawn-within P (at .valued) (r .0) (exact-says (P .lines) (r .0) (r .1) .1) k old)) (split-next s a)
+      (λ r. rw (r .2) (drawn-within P (at .valued) (r .0) (exact-says (P .lines) (r .0) (r .1) .1) k old))
+      (split-next s a)
   step-within k old (place i) new = old
   step-within k old (reads u v) new = old
   step-within k old (weighs u v) new = old
   step-within k old (alongRow v wanted) new = old
   step-within k old (alongColumn u wanted) new = old
-  step-within k old (sameAs m) new = ⊎-elim (λ (t : good m ≡ true). rw t old) (λ (f : good m ≡ false). rw f old) (either (good m))
+  step-within k old (sameAs m) new =
+      ⊎-elim (λ (t : good m ≡ true). rw t old) (λ (f : good m ≡ false). rw f old) (either (good m))
 
   -- After a value is set, the reading at its anchor is that value.
   pub set-then-reads : (i j v : ℕ) → byLibrary (recordOf P) (set i j v) .answer ≡ number 0 →
       reading (byLibrary (recordOf P) (set i j v) .next) i j ≡ record { number = 0; litres = v % 65536 }
   set-then-reads i j v =
-      subst (λ (o : Outcome Map). o .answer ≡ number 0 → reading (o .next) i j ≡ record { number = 0; litres = v % 65536 })
+      subst (λ (o : Outcome Map). o .answer ≡ number 0 →
+      reading (o .next) i j ≡ record { number = 0; litres = v % 65536 })
       (sym (step-follows P at (set i j v)))
       (⊎-elim
       (λ (t : ltb (placeOf (blends P) (i + 1) (j + 1)) (length (blends P)) ≡ true).
@@ -134,18 +146,22 @@ module _ (P : Plain) (at : Reached P) where
       let d = anchor-in P (at .holds) (getD (blends P) k none) (entry (blends P) k none there) in
       let l : Leads P [] (setPlain P i j (v % 65536)) = rw t at (step-leads P at (set i j v)) in
       rw t (λ e.
-      point-answers (setPlain P i j (v % 65536)) (l .reached .holds) i j (rw (l .wide) (omega (arith, d .0, f .0))) (rw (l .tall) (omega (arith, d .1, f .1))) ∙
-      ap (λ (n : ℕ). record { number = 0; litres = n }) (set-reading P (at .valued) i j (v % 65536) there (mod-lt v (omega arith)))))
+      point-answers (setPlain P i j (v % 65536)) (l .reached .holds) i j (rw (l .wide) (omega (arith, d .0, f .0)))
+      (rw (l .tall) (omega (arith, d .1, f .1))) ∙
+      ap (λ (n : ℕ). record { number = 0; litres = n })
+      (set-reading P (at .valued) i j (v % 65536) there (mod-lt v (omega arith)))))
       (λ (f : ltb (placeOf (blends P) (i + 1) (j + 1)) (length (blends P)) ≡ false).
       rw f (λ e. let z : _≡_ {A = ℕ} 9 0 = ap numberOf e in absurd (omega (arith, z))))
       (either (ltb (placeOf (blends P) (i + 1) (j + 1)) (length (blends P)))))
 
 -- So it is after a list.
-pub list-within : (cs : List Call) (k : ℕ) (P : Plain) → Reached P → Within k P → ((x : ℕ) → List·Memᴰ x (valuesSet (recordOf P) cs) → x ≤ k) →
+pub list-within : (cs : List Call) (k : ℕ) (P : Plain) → Reached P → Within k P →
+    ((x : ℕ) → List·Memᴰ x (valuesSet (recordOf P) cs) → x ≤ k) →
     Within k (ending byMachine P cs)
 list-within [] k P at old new = old
 list-within (c ∷ cs) k P at old new =
     let Q = byMachine P c .next in
     let here = cond (eqb (numberOf (byMachine P c .answer)) 0) (valueSet c) [] in
     let all : (x : ℕ) → List·Memᴰ x (here ++ valuesSet (recordOf Q) cs) → x ≤ k = rw (step-follows P at c) at new in
-    list-within cs k Q (step-leads P at c .reached) (step-within P at k old c (λ x m. all x (Memᴰ·append-left _ m))) (λ x m. all x (Memᴰ·append-right here m))
+    list-within cs k Q (step-leads P at c .reached) (step-within P at k old c (λ x m. all x (Memᴰ·append-left _ m)))
+    (λ x m. all x (Memᴰ·append-right here m))

@@ -154,7 +154,8 @@ module _ (P : Plain) (at : Reached P) (A B C D : ℤ) (given : ValuesStraight (r
       record {
         readings = λ u v uw vh. rw (point-answers P (at .holds) u v uw vh) (refl, reading-flows u v uw vh);
         sums = λ p q d positive p-in q-in.
-            rw (table-values P (at .holds)) (flow-point A B C D _ _ p q d (sum-flows p q d positive p-in q-in), sum-positive p q d positive p-in q-in);
+            rw (table-values P (at .holds))
+            (flow-point A B C D _ _ p q d (sum-flows p q d positive p-in q-in), sum-positive p q d positive p-in q-in);
       }
 
 -- of a map that was reached, however it is told

@@ -31,17 +31,31 @@ weighing (v ∷ vs) (e ∷ es) = let rest = weighing vs es in cond (ltb 0 (e .nu
 abbrev pub valuesAt : Map → List ℕ → List ℕ
 valuesAt m places = map (λ i. tablePlace m i .value) places
 
--- The four blends of the weights answer stand at these places of the table, their weights add up to exactly one, each over at most 128 × 128, and the
--- reading is the sum of the values there times the weights, rounded: the whole number nearest to it.
+-- of the blends at these places of the table: the sum of their values times their weights at a point,
+-- and the values of those that weigh more than 0 there
+abbrev pub sumOver : Map → ℕ → ℕ → List ℕ → Fraction
+sumOver m u v places = total (products (valuesAt m places) (weights m u v .entries))
+
+abbrev pub valuesOver : Map → ℕ → ℕ → List ℕ → List ℕ
+valuesOver m u v places = weighing (valuesAt m places) (weights m u v .entries)
+
+-- The four blends of the weights answer stand at these places of the table, and their weights add
+-- up to exactly one.
 pub record ByWeights (m : Map) (u v : ℕ) : Type 0 where
   pub places : List ℕ
   pub four : length places ≡ 4
   pub taken : (i : ℕ) → List·Memᴰ i places → tablePlace m i .number ≡ 0
-  pub same-blends : map (λ i. tablePlace m i .blend) places ≡ map (λ (e : Weight). e .blend) (weights m u v .entries)
-  pub add-up : let sum = total (map fraction (weights m u v .entries)) in (sum .num ≡ sum .den) × (0 < sum .den)
-  pub at-most-one : (e : Weight) → List·Memᴰ e (weights m u v .entries) → (e .numerator ≤ e .denominator) × (e .denominator ≤ 16384)
-  pub is-sum : reading m u v ≡ record { number = 0; litres = rounded (total (products (valuesAt m places) (weights m u v .entries))) }
-  pub is-nearest : Nearest (total (products (valuesAt m places) (weights m u v .entries))) (reading m u v .litres)
-  -- No flow that isn't there: it lies between the least and the greatest of the values whose blends weigh more than 0.
-  pub not-below : smallest (weighing (valuesAt m places) (weights m u v .entries)) ≤ reading m u v .litres
-  pub not-above : reading m u v .litres ≤ greatest (weighing (valuesAt m places) (weights m u v .entries))
+  pub same-blends :
+      map (λ i. tablePlace m i .blend) places ≡ map (λ (e : Weight). e .blend) (weights m u v .entries)
+  pub add-up :
+      let sum = total (map fraction (weights m u v .entries)) in (sum .num ≡ sum .den) × (0 < sum .den)
+  -- Each weight is at most one, over at most 128 × 128.
+  pub at-most-one : (e : Weight) → List·Memᴰ e (weights m u v .entries) →
+      (e .numerator ≤ e .denominator) × (e .denominator ≤ 16384)
+  -- The reading is the sum of value times weight, rounded: the whole number nearest to it.
+  pub is-sum : reading m u v ≡ record { number = 0; litres = rounded (sumOver m u v places) }
+  pub is-nearest : Nearest (sumOver m u v places) (reading m u v .litres)
+  -- No flow that isn't there: it lies between the least and the greatest of the values whose blends
+  -- weigh more than 0.
+  pub not-below : smallest (valuesOver m u v places) ≤ reading m u v .litres
+  pub not-above : reading m u v .litres ≤ greatest (valuesOver m u v places)

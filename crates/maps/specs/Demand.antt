@@ -29,8 +29,9 @@ use Rattle.maps.specs.Straight.{ValuesStraight, ReadsStraight}
 use Rattle.maps.specs.Reads.{Reads, valuesSet}
 use Rattle.axis.specs.Range.{Distinct, greatest}
 
--- "A history starts from the fresh map of sides W and H"; beyond that, from any good record as the struct holds it, such as one that was read from a file.
--- What the map holds at the start of a list:
+-- "A history starts from the fresh map of sides W and H"; beyond that, from any good record as the
+-- struct holds it, such as one that was read from a file. What the map holds at the start of a
+-- list:
 pub data Start : Plain → Type 0 where
   fresh : (w h : ℕ) → allowedSide w ≡ true → allowedSide h ≡ true → Start (freshPlain w h)
   given-record : (m : Map) → Held m → good m ≡ true → Start (plain m)
@@ -134,10 +135,11 @@ pub record DemandFrom (P : Plain) (cs : List Call) : Type 0 where
   -- "A history's blends are the live blends, as the table calls give them after the list."
   pub blends : List Blend
   pub are-tabled : Tabled (leftBy P cs) blends
-  -- "The order of cutting must be shown not to matter": in whatever order the list's lines cut the first four, that comes to an end, and then exactly these
-  -- blends are left.
+  -- "The order of cutting must be shown not to matter": in whatever order the list's lines cut the
+  -- first four, that comes to an end, and then exactly these blends are left.
   pub cutting-ends : CuttingEnds (meshBy P cs) (firstFour (P .lines .w) (P .lines .h))
-  pub any-order : (ds : List Blend) → Cutting (meshBy P cs) (firstFour (P .lines .w) (P .lines .h)) ds → SameMembers ds blends
+  pub any-order : (ds : List Blend) → Cutting (meshBy P cs) (firstFour (P .lines .w) (P .lines .h)) ds →
+      SameMembers ds blends
   -- The map is sound, by both halves of document 01's sentence.
   pub is-sound : sound (P .lines .w) (P .lines .h) blends ≡ true
   -- 2. After the list, for each unit square of the domain exactly four of the table's blends are positive throughout its inside, the same four
@@ -167,12 +169,15 @@ pub record DemandFrom (P : Plain) (cs : List Call) : Type 0 where
   pub by-ends : (s : Split) → let m = leftBy P cs in given (plain m .lines) s ≡ 0 → ByEnds m s
   -- Document 02, L7, of every split that follows the list: what its allowance comes to.
   pub by-allowance : (s : Split) → ByAllowance (leftBy P cs) s
-  -- What the readings after the list are: weights that add up to one, values at anchors, and no flow that isn't there.
+  -- What the readings after the list are: weights that add up to one, values at anchors, and no
+  -- flow that isn't there.
   pub reads-told : Reads (leftBy P cs) (P .lines .w) (P .lines .h) (length blends)
-  -- After a value is set, where that is accepted, the reading at its anchor is that value, a 16-bit number.
+  -- After a value is set, where that is accepted, the reading at its anchor is that value, a 16-bit
+  -- number.
   pub set-reads : (i j v : ℕ) → let m = leftBy P cs in byLibrary m (set i j v) .answer ≡ number 0 →
       reading (byLibrary m (set i j v) .next) i j ≡ record { number = 0; litres = v % 65536 }
-  -- No reading after the list is above the greatest value that the map had before it or that some accepted call of the list set.
+  -- No reading after the list is above the greatest value that the map had before it or that some
+  -- accepted call of the list set.
   pub none-above : (u v : ℕ) → reading (leftBy P cs) u v .litres ≤ greatest (P .values ++ valuesSet (recordOf P) cs)
   -- Document 02, L1: where the value at each anchor (m, n), as the table calls give them after the list, is A + B × m + C × n + D × m × n, the reading at
   -- every whole point (u, v) of the domain is A + B × u + C × v + D × u × v.
@@ -186,10 +191,13 @@ pub record DemandFrom (P : Plain) (cs : List Call) : Type 0 where
 pub record Demand3 (w h : ℕ) (cs : List Call) : Type 0 where
   pub made : freshMap w h ≡ changed 0 (recordOf (freshPlain w h))
   pub holds : DemandFrom (freshPlain w h) cs
-  -- On a fresh map no reading after the list is above the greatest value that some accepted call of it set: 0 where none did.
-  pub none-above : (u v : ℕ) → reading (leftBy (freshPlain w h) cs) u v .litres ≤ greatest (valuesSet (recordOf (freshPlain w h)) cs)
+  -- On a fresh map no reading after the list is above the greatest value that some accepted call of
+  -- it set: 0 where none did.
+  pub none-above : (u v : ℕ) →
+      reading (leftBy (freshPlain w h) cs) u v .litres ≤ greatest (valuesSet (recordOf (freshPlain w h)) cs)
 
--- and of a list of calls on any good record: it is the record of what it holds, so these are the calls on the record itself.
+-- and of a list of calls on any good record: it is the record of what it holds, so these are the
+-- calls on the record itself.
 pub record DemandOf (m : Map) (cs : List Call) : Type 0 where
   pub is-record : recordOf (plain m) ≡ m
   pub holds : DemandFrom (plain m) cs

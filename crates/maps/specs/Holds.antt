@@ -13,7 +13,8 @@ use Rattle.maps.specs.Plain.{Plain, blends}
 abbrev pub AreMarks : List ℕ → Type 0
 AreMarks marks = (k : ℕ) → List·Memᴰ k marks → k ≤ 1
 
--- What a good record holds: splits that are accepted in order from the fresh map, and a value and a mark for each live blend.
+-- What a good record holds: splits that are accepted in order from the fresh map, and a value and a
+-- mark for each live blend.
 pub record Holds (P : Plain) : Type 0 where
   pub taken : Replays (P .lines)
   pub counted : length (P .values) ≡ length (blends P)

@@ -9,7 +9,8 @@ use Rattle.maps.specs.Record.{good}
 use Rattle.maps.specs.Calls.{freshMap}
 use Rattle.maps.specs.Histories.{Call, set, split, place, reads, weighs, alongRow, alongColumn, sameAs, numberOf, byLibrary}
 
--- the refusals of each call on a good record, in checking order; of sameness 2 is that of the other record
+-- the refusals of each call on a good record, in checking order; of sameness 2 is that of the other
+-- record
 abbrev pub refusalsOf : Call → List ℕ
 refusalsOf (set i j v) = 9 ∷ []
 refusalsOf (split s allowance) = 3 ∷ 4 ∷ 5 ∷ 6 ∷ 7 ∷ 8 ∷ []
@@ -20,7 +21,8 @@ refusalsOf (alongRow v wanted) = 10 ∷ 13 ∷ []
 refusalsOf (alongColumn u wanted) = 10 ∷ 13 ∷ []
 refusalsOf (sameAs other) = 2 ∷ []
 
--- What `own-numbers` shows, of all records and all arguments: 0, the call's own refusals, and 2 where the record is not good.
+-- What `own-numbers` shows, of all records and all arguments: 0, the call's own refusals, and 2
+-- where the record is not good.
 pub record OwnNumbers : Type 0 where
   pub fresh : (w h : ℕ) → OneOf (0 ∷ 1 ∷ []) (freshMap w h .number)
   pub calls : (m : Map) (c : Call) → OneOf (0 ∷ 2 ∷ refusalsOf c) (numberOf (byLibrary m c .answer))

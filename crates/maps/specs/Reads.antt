@@ -14,7 +14,8 @@ use Rattle.maps.specs.ByWeights.{ByWeights}
 
 -- Of a map of sides w and h whose table has `count` places:
 pub record Reads (m : Map) (w h count : ℕ) : Type 0 where
-  -- At each whole point the four weights add up to one, and the reading lies between the values of the blends that weigh more than 0 there.
+  -- At each whole point the four weights add up to one, and the reading lies between the values of
+  -- the blends that weigh more than 0 there.
   pub by-weights : (u v : ℕ) → u ≤ w → v ≤ h → ByWeights m u v
   -- The reading at an anchor is the table call's value there.
   pub at-anchors : (i : ℕ) → tablePlace m i .number ≡ 0 →

@@ -85,7 +85,8 @@ anchored m n B = eqb (B .across .m) m && eqb (B .up .m) n
 
 -- no two of the blends have one anchor
 abbrev pub OwnAnchors : List Blend → Type 0
-OwnAnchors bs = (B C : Blend) → List·Memᴰ B bs → List·Memᴰ C bs → B .across .m ≡ C .across .m → B .up .m ≡ C .up .m → B ≡ C
+OwnAnchors bs = (B C : Blend) → List·Memᴰ B bs → List·Memᴰ C bs → B .across .m ≡ C .across .m → B .up .m ≡ C .up .m →
+    B ≡ C
 
 -- Knots are 0 to 130, so a square table of 131 by 131 has a place for each pair of them; and the place of a blend is its anchor's.
 abbrev pub at : ℕ → ℕ → ℕ

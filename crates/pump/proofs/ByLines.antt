@@ -58,14 +58,16 @@ module _ {d e : Desk} (at : At d) (too : At e) (same : d .holds .lines ≡ e .ho
   SameMarks P Q = recordOf (d .holds) .marks ≡ recordOf (e .holds) .marks → recordOf P .marks ≡ recordOf Q .marks
 
   -- two buffers that are left with the files of maps with the same lines
-  left-alike : {f g : Desk} → At f → At g → f .holds .lines ≡ g .holds .lines → SameMarks (f .holds) (g .holds) → length (f .file) ≡ length (g .file) →
+  left-alike : {f g : Desk} → At f → At g → f .holds .lines ≡ g .holds .lines → SameMarks (f .holds) (g .holds) →
+      length (f .file) ≡ length (g .file) →
       (a : PumpAnswer) → Alike (outcome a (lentBy f)) (outcome a (lentBy g))
   left-alike {f} {g} here there lines marks long a =
       record {
         same-answer = refl;
         same-used = long;
         same-lines =
-            ap (λ (m : Map). m .lines) (in-buffer here) ∙ records-alike (f .holds) (g .holds) lines ∙ sym (ap (λ (m : Map). m .lines) (in-buffer there));
+            ap (λ (m : Map). m .lines) (in-buffer here) ∙ records-alike (f .holds) (g .holds) lines ∙
+            sym (ap (λ (m : Map). m .lines) (in-buffer there));
         same-marks = λ k.
             let marks-of : Map → List ℕ = λ m. m .marks in
             ap marks-of (in-buffer here) ∙ marks (sym (ap marks-of (in-buffer at)) ∙ k ∙ ap marks-of (in-buffer too)) ∙
@@ -78,7 +80,8 @@ module _ {d e : Desk} (at : At d) (too : At e) (same : d .holds .lines ≡ e .ho
 
   -- a change that the machine answers alike, and that leaves the same lines,
   changes-alike : (c : Call) → numberOf (byMachine (d .holds) c .answer) ≡ numberOf (byMachine (e .holds) c .answer) →
-      byMachine (d .holds) c .next .lines ≡ byMachine (e .holds) c .next .lines → SameMarks (byMachine (d .holds) c .next) (byMachine (e .holds) c .next) →
+      byMachine (d .holds) c .next .lines ≡ byMachine (e .holds) c .next .lines →
+      SameMarks (byMachine (d .holds) c .next) (byMachine (e .holds) c .next) →
       Alike (shown (changes d c)) (shown (changes e c))
   changes-alike c number lines marks =
       let n = numberOf (byMachine (e .holds) c .answer) in
@@ -128,7 +131,8 @@ pub border-by-lines : (one other : Buffer) → readFile (lent (one .bytes) (one 
 unfolding plain
 border-by-lines one other e f same used room s a =
     subst (λ (b : Buffer). SameInBuffer b other (byBorder b (split s a)) (byBorder other (split s a))) (file-lent one e)
-    (subst (λ (b : Buffer). SameInBuffer (lentBy (file-desk one e)) b (byBorder (lentBy (file-desk one e)) (split s a)) (byBorder b (split s a)))
+    (subst (λ (b : Buffer). SameInBuffer (lentBy (file-desk one e)) b (byBorder (lentBy (file-desk one e)) (split s a))
+    (byBorder b (split s a)))
     (file-lent other f)
     (border-alike (file-at one e) (file-at other f) (ap layoutOf same)
     (ap (λ (b : Buffer). b .used) (file-lent one e) ∙ used ∙ sym (ap (λ (b : Buffer). b .used) (file-lent other f))) room s a))

@@ -96,11 +96,13 @@ module _ (b : Buffer) (c : PumpCall) where
   abbrev was : Plain
   was = read-holds file .of
 
-  -- a call on the map that is read, which is good: it gives one of its own numbers, and so does the plain machine
+  -- a call on the map that is read, which is good: it gives one of its own numbers, and so does the
+  -- plain machine
   own : (k : Call) → all (isFair (numbersAt c) (HasRoom b c)) (0 ∷ refusalsOf k) ≡ true →
       Ok (numberOf (byLibrary (readFile file .map) k .answer))
   own k are =
-      fair-among (numbersAt c) (HasRoom b c) (0 ∷ refusalsOf k) are (numberOf (byLibrary (readFile file .map) k .answer))
+      fair-among (numbersAt c) (HasRoom b c) (0 ∷ refusalsOf k) are
+      (numberOf (byLibrary (readFile file .map) k .answer))
       (Own.own-numbers .on-good (readFile file .map) k (read-good file))
 
   own-machine : (k : Call) → all (isFair (numbersAt c) (HasRoom b c)) (0 ∷ refusalsOf k) ≡ true →
@@ -119,7 +121,8 @@ module _ (b : Buffer) (c : PumpCall) where
         (new-fair (numbersAt c) (HasRoom b c) (readFile file .number) (call (recordOf was)) Q holds is (b .bytes) zero
         short enough (reading-gives Ok file zero none) number)
 
-    change-fair : (k : Call) (call : Map → Changed) → all (isFair (numbersAt c) (HasRoom b c)) (0 ∷ refusalsOf k) ≡ true →
+    change-fair : (k : Call) (call : Map → Changed) →
+        all (isFair (numbersAt c) (HasRoom b c)) (0 ∷ refusalsOf k) ≡ true →
         (let r = call (recordOf was) in Maps.outcome (Maps.number (r .number)) (r .map) ≡ recorded (byMachine was k)) →
         Ok (changeNumber call (b .bytes) (b .used))
     change-fair k call are e =
@@ -155,7 +158,8 @@ call-fair b (set m n v) =
     (set-follows (was b c) (read-reached (file b c)) m n v t)))
     (λ (f : leb v 65535 ≡ false).
     rw f
-    (read-fair b c (ok 0 refl) (ok 11 refl) refl (λ room. room) (λ old. changed 3 old) (was b c) (read-holds (file b c) .holds) refl
+    (read-fair b c (ok 0 refl) (ok 11 refl) refl (λ room. room) (λ old. changed 3 old) (was b c)
+    (read-holds (file b c) .holds) refl
     (ok 3 refl)))
     (either (leb v 65535))
 call-fair b (split s a) =

@@ -9,9 +9,11 @@ use Rattle.pump.specs.Histories.{Buffer, PumpOutcome}
 abbrev pub inBuffer : Buffer → Map
 inBuffer b = readFile (lent (b .bytes) (b .used)) .map
 
--- What a split call gives on two buffers: the answer, how many bytes are then in use, the lines of the map that the buffer then holds and, where the two maps
--- differ only in values, its marks. So the whole outcome is the same but for the values. `border-by-lines` shows it of two buffers of one length, with as many
--- bytes in use, that hold maps with the same lines, and of every split and allowance.
+-- What a split call gives on two buffers: the answer, how many bytes are then in use, the lines of
+-- the map that the buffer then holds and, where the two maps differ only in values, its marks. So
+-- the whole outcome is the same but for the values. `border-by-lines` shows it of two buffers of
+-- one length, with as many bytes in use, that hold maps with the same lines, and of every split and
+-- allowance.
 pub record SameInBuffer (b c : Buffer) (one other : PumpOutcome Buffer) : Type 0 where
   pub same-answer : one .answer ≡ other .answer
   pub same-used : one .next .used ≡ other .next .used

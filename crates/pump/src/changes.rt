@@ -63,7 +63,8 @@ fn change_lent(buffer: &mut [u8], used: &mut usize, old: Opened, change: Change)
 {
     match change {
         Change::Set(m, n, value) => {
-            // No value is above 65,535: a larger number, as -1 is from C, would be set as another one.
+            // No value is above 65,535: a larger number, as -1 is from C, would be set as another
+            // one.
             if 65535 < value {
                 return first(old.number, 3, 0);
             }

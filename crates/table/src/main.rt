@@ -1,5 +1,5 @@
-// Reads a map file on standard input and prints its table: the number of blends, then a line for each; or `refused 11`. A line on standard error
-// helps whoever meant something else.
+// Reads a map file on standard input and prints its table: the number of blends, then a line for
+// each; or `refused 11`. A line on standard error helps whoever meant something else.
 use files::LARGEST_FILE;
 use files::listing::LARGEST_TEXT;
 use files::listing::list;
