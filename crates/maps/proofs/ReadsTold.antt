@@ -5,7 +5,7 @@ use native.Mathlib.Omega.{arith}
 use native.Mathlib.Nat.{mod-lt}
 use mathlib.Core.Path.{_≡_, refl, sym, ap, subst, _∙_}
 use mathlib.Core.Logic.{_⊎_, inl, inr, ⊎-elim}
-use mathlib.Core.Bool.{Bool, true, false, cond, _&&_}
+use mathlib.Core.Bool.{Bool, true, false, cond}
 use mathlib.Core.List.{List, [], _∷_, _++_, List·Memᴰ, Memᴰ·append-left, Memᴰ·append-right}
 use mathlib.Core.List.List·Memᴰ.{List·Memᴰ·head}
 use borrow.Author.Tests.{eqb-true, leb-true, ltb-true}
@@ -16,21 +16,18 @@ use Rattle.axis.proofs.Tests.{either, and-both}
 use Rattle.axis.proofs.Extremes.{at-most-greatest}
 use Rattle.axis.proofs.Members.{entry, set-mem}
 use Rattle.mesh.specs.declared.Split.{Split}
-use Rattle.mesh.specs.declared.Blend.{Blend}
 use Rattle.mesh.specs.Sound.{none}
-use Rattle.mesh.specs.Splits.{given, asked, exactNumber}
-use Rattle.mesh.specs.Lengthening.{within, chosen}
+use Rattle.mesh.specs.Splits.{asked, exactNumber}
+use Rattle.mesh.specs.Lengthening.{within}
 use Rattle.mesh.specs.Ends.{nearestGood}
 use Rattle.mesh.proofs.Passing.{asked-says, exact-says}
 use Rattle.mesh.proofs.Allowance.{least, nearest-accepted}
 use Rattle.maps.specs.declared.Map.{Map}
-use Rattle.maps.specs.declared.Reading.{Reading}
 use Rattle.maps.specs.Plain.{Plain, blends}
 use Rattle.maps.specs.Values.{readingAt, inDomain, placeOf, drawn}
 use Rattle.maps.specs.Record.{recordOf, good}
 use Rattle.maps.specs.Calls.{setPlain, reading}
 use Rattle.maps.specs.Histories.{Call, set, split, place, reads, weighs, alongRow, alongColumn, sameAs, number, numberOf, Outcome, firstDrawn, byLibrary, byMachine, ending}
-use Rattle.maps.specs.Straight.{tableValues}
 use Rattle.maps.specs.Reads.{Reads, valueSet, valuesSet}
 use Rattle.maps.proofs.Readings.{place-found, reading-value, reading-within, reading-most, drawn-within, set-reading}
 use Rattle.maps.proofs.Reached.{Reached, Leads, step-leads}

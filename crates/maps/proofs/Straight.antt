@@ -2,7 +2,7 @@
 use Prim.Native.Nat.{ℕ, suc, _+_, _-_, _*_, _≤_, _<_}
 use native.Mathlib.Omega.{arith}
 use native.Mathlib.Nat.{le-of-mul-le-mul-right}
-use mathlib.Core.Path.{_≡_, refl, ap, subst, _∙_}
+use mathlib.Core.Path.{_≡_, refl, ap, _∙_}
 use mathlib.Core.Logic.{_↔_}
 use mathlib.Core.List.{List, [], _∷_, map}
 use lib.IntN.{ℤ, pos, _*ℤ_}
@@ -21,7 +21,6 @@ use Rattle.maps.specs.declared.Placed.{Placed}
 use Rattle.maps.specs.Plain.{Plain, blends}
 use Rattle.maps.specs.Values.{paired, sumAt, readingAt, drawn}
 use Rattle.maps.specs.Record.{recordOf}
-use Rattle.maps.specs.Calls.{tablePlace}
 use Rattle.maps.specs.Straight.{flow, ValuesStraight, ReadsStraight}
 use Rattle.maps.proofs.Integers.{Difference, as-whole, is-whole, apart}
 use Rattle.maps.proofs.Integers as Integers

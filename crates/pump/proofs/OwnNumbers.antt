@@ -4,7 +4,7 @@ use native.Mathlib.Omega.{arith}
 use mathlib.Core.Path.{_≡_, refl, sym, ap, subst}
 use mathlib.Core.Logic.{⊎-elim}
 use mathlib.Core.Bool.{Bool, true, false, _&&_, not}
-use mathlib.Core.List.{List, [], _∷_}
+use mathlib.Core.List.{List, _∷_}
 use borrow.Author.Tests.{ltb-true, eqb-true}
 use lib.Dec.{leb, ltb, eqb}
 use lib.ListN.{length}
@@ -34,7 +34,7 @@ use Rattle.files.proofs.GoodFiles.{file-most}
 use Rattle.files.proofs.ReadMaps.{read-holds, read-good}
 use Rattle.files.proofs.TableText.{text-most}
 use Rattle.files.proofs.Numbers.{first-refusal, reading-gives}
-use Rattle.pump.specs.Border.{firstOf, newNumber, lent, changeNumber, setWide, placeNumber, weightsNumber, readingNumber, sameNumber}
+use Rattle.pump.specs.Border.{firstOf, newNumber, lent, changeNumber, placeNumber, weightsNumber, readingNumber, sameNumber}
 use Rattle.pump.specs.Histories.{PumpCall, fresh, set, split, place, reads, weighs, alongRow, alongColumn, sameAs, sameTo, checks, payloads, lists, Buffer, byBorder}
 use Rattle.pump.specs.OwnNumbers.{numbersAt, HasRoom}
 use Rattle.pump.proofs.Histories.{set-follows}
