@@ -89,27 +89,35 @@ same-lists P marks at other =
           ap withoutMarks (ending-follows cs (marking P marks) other) ∙ machine-ending cs P marks ∙ sym (ap withoutMarks (ending-follows cs P at));
     }
 
--- Two good records that differ only in marks:
+-- Records that differ only in marks hold maps that do;
+pub remarked : (m n : Map) → withoutMarks m ≡ withoutMarks n → plain m ≡ marking (plain n) (plain m .marks)
+unfolding plain
+remarked m n same =
+    let lines = ap (λ (x : Map). x .lines) same in
+    let values = ap (λ (x : Map). x .values) same in
+    λ i. let L = layoutOf (lines i) in
+    record { lines = L; values = take (length (liveOf L)) (values i); marks = plain m .marks }
+
+-- so two good ones get the same answers.
 module _ (m n : Map) (hm : Held m) (hn : Held n) (gm : good m ≡ true) (gn : good n ≡ true) (same : withoutMarks m ≡ withoutMarks n) where
-  remarked : plain m ≡ marking (plain n) (plain m .marks)
-  unfolding plain
-  remarked =
-      let lines = ap (λ (x : Map). x .lines) same in
-      let values = ap (λ (x : Map). x .values) same in
-      λ i. let L = layoutOf (lines i) in record { lines = L; values = take (length (liveOf L)) (values i); marks = plain m .marks }
+  is-marked : plain m ≡ marking (plain n) (plain m .marks)
+  is-marked = remarked m n same
 
   pub by-marks : ByMarks m n
   unfolding sameness samePlain
   by-marks =
       let fm = good-facts m (hm .full) gm in
       let fn = good-facts n (hn .full) gn in
-      let lists = same-lists (plain n) (plain m .marks) (good-reached n hn gn) (subst Reached remarked (good-reached m hm gm)) in
-      let is-m : recordOf (marking (plain n) (plain m .marks)) ≡ m = ap recordOf (sym remarked) ∙ fm .is-record in
+      let lists = same-lists (plain n) (plain m .marks) (good-reached n hn gn)
+      (subst Reached is-marked (good-reached m hm gm)) in
+      let is-m : recordOf (marking (plain n) (plain m .marks)) ≡ m = ap recordOf (sym is-marked) ∙ fm .is-record in
       record {
         lists = subst (λ (x : Map). SameLists x n) is-m (subst (SameLists (recordOf (marking (plain n) (plain m .marks)))) (fn .is-record) lists);
         same-told = λ x. (
-          rw (gm, gn) (ap (λ (P : Plain). cond (good x) (record { number = 0; yes = samePlain P (plain x) }) (record { number = 2; yes = false })) remarked),
+          rw (gm, gn) (ap (λ (P : Plain). cond (good x) (record { number = 0; yes = samePlain P (plain x) })
+              (record { number = 2; yes = false })) is-marked),
           rw (gm, gn)
-              (ap (λ (P : Plain). cond (good x && true) (record { number = 0; yes = samePlain (plain x) P }) (record { number = 2; yes = false })) remarked),
+              (ap (λ (P : Plain). cond (good x && true) (record { number = 0; yes = samePlain (plain x) P })
+              (record { number = 2; yes = false })) is-marked),
         );
       }

@@ -2,11 +2,11 @@
 use Prim.Native.Nat.{ℕ, suc, _+_, _*_, _≤_, _<_}
 use native.Mathlib.Omega.{arith}
 use mathlib.Core.Path.{_≡_, refl, sym, ap, ap₂, subst, _∙_}
-use mathlib.Core.Logic.{_⊎_, inl, inr, ⊎-elim}
+use mathlib.Core.Logic.{⊎-elim}
 use mathlib.Core.Bool.{Bool, true, false, _&&_}
 use mathlib.Core.List.{List, [], _∷_, map, List·Memᴰ, List·Memᴰ·cases-cons, List·Memᴰ·not-nil}
 use mathlib.Core.List.List·Memᴰ.{List·Memᴰ·head, List·Memᴰ·tail}
-use native.Mathlib.Nat.{le-trans, mul-le-mul, mul-le-mul-right, eq-of-mul-eq-mul-left}
+use native.Mathlib.Nat.{le-trans, mul-zero, mul-le-mul, mul-le-mul-right, eq-of-mul-eq-mul-left}
 use borrow.Author.Tests.{le-leb, ltb-false}
 use lib.Dec.{leb, ltb}
 use lib.ListN.{length, getD, length-map}
@@ -78,56 +78,63 @@ module _ (m : Map) (w h u v : ℕ) (values marks : List ℕ) where
       (ap (λ (p : Placed). record { num = f .num * p .value; den = f .den }) (told a (List·Memᴰ·head refl)))
       (told-products es (λ b n. told b (List·Memᴰ·tail n)))
 
--- Values times weights: where each value whose blend weighs more than 0 is at most k, or at least
--- k, the sum is that to k times the sum of the weights.
-module _ (k : ℕ) where
-  products-den : (vs : List ℕ) (es : List Weight) → length vs ≡ length es →
-      total (products vs es) .den ≡ total (map fraction es) .den
-  products-den [] [] long = refl
-  products-den [] (e ∷ es) long = absurd (omega arith)
-  products-den (v ∷ vs) [] long = absurd (omega arith)
-  products-den (v ∷ vs) (e ∷ es) long = ap (λ (n : ℕ). e .denominator * n) (products-den vs es (omega arith))
+-- Sums of values times weights have the denominator of the sum of the weights,
+products-den : (vs : List ℕ) (es : List Weight) → length vs ≡ length es →
+    total (products vs es) .den ≡ total (map fraction es) .den
+products-den [] [] long = refl
+products-den [] (e ∷ es) long = absurd (omega arith)
+products-den (v ∷ vs) [] long = absurd (omega arith)
+products-den (v ∷ vs) (e ∷ es) long = ap (λ (n : ℕ). e .denominator * n) (products-den vs es (omega arith))
 
-  -- the value of one blend, and those of the rest, by the test whether it weighs more than 0
-  heavy : (Fits : ℕ → Type 0) (v : ℕ) (vs : List ℕ) (e : Weight) (es : List Weight) →
-      ((x : ℕ) → List·Memᴰ x (weighing (v ∷ vs) (e ∷ es)) → Fits x) →
-      ((e .numerator ≡ 0) ⊎ Fits v) × ((x : ℕ) → List·Memᴰ x (weighing vs es) → Fits x)
-  heavy Fits v vs e es fits =
-      ⊎-elim (λ (t : ltb 0 (e .numerator) ≡ true). let f = rw t at fits in
-      (inr (f v (List·Memᴰ·head refl)), λ x m. f x (List·Memᴰ·tail m)))
-      (λ (t : ltb 0 (e .numerator) ≡ false). (
-        inl
-            (let le = ltb-false 0 (e .numerator) t in omega arith),
-        rw t at fits,
-      )) (either (ltb 0 (e .numerator)))
+-- and where each value whose blend weighs more than 0 is at most k, or each is at least k, so is
+-- the sum to k times the sum of the weights: the order goes through sums and multiples, either way.
+record Order (Less : ℕ → ℕ → Type 0) : Type 0 where
+  same : (n : ℕ) → Less n n
+  sums : {a b c d : ℕ} → Less a b → Less c d → Less (a + c) (b + d)
+  multiples : {a b : ℕ} (c : ℕ) → Less a b → Less (a * c) (b * c)
 
-  products-most : (vs : List ℕ) (es : List Weight) → length vs ≡ length es →
-      ((x : ℕ) → List·Memᴰ x (weighing vs es) → x ≤ k) →
-      total (products vs es) .num ≤ k * total (map fraction es) .num
-  products-most [] [] long most = omega arith
-  products-most [] (e ∷ es) long most = absurd (omega arith)
-  products-most (v ∷ vs) [] long most = absurd (omega arith)
-  products-most (v ∷ vs) (e ∷ es) long most =
-      let h = heavy (λ x. x ≤ k) v vs e es most in
+at-most : Order (λ a b. a ≤ b)
+at-most = record { same = λ n. omega arith; sums = λ p q. omega arith; multiples = λ c p. mul-le-mul-right c p }
+
+at-least : Order (λ a b. b ≤ a)
+at-least = record { same = λ n. omega arith; sums = λ p q. omega arith; multiples = λ c p. mul-le-mul-right c p }
+
+module _ (k : ℕ) {Less : ℕ → ℕ → Type 0} (order : Order Less) where
+  -- a value times its weight, by the test whether the blend weighs more than 0; and what is known
+  -- of the rest
+  heavy : (v : ℕ) (vs : List ℕ) (e : Weight) (es : List Weight) →
+      ((x : ℕ) → List·Memᴰ x (weighing (v ∷ vs) (e ∷ es)) → Less x k) →
+      Less (v * e .numerator) (k * e .numerator) × ((x : ℕ) → List·Memᴰ x (weighing vs es) → Less x k)
+  heavy v vs e es fits =
+      ⊎-elim
+      (λ (t : ltb 0 (e .numerator) ≡ true).
+      let f = rw t at fits in
+      (order .multiples (e .numerator) (f v (List·Memᴰ·head refl)), λ x m. f x (List·Memᴰ·tail m)))
+      (λ (t : ltb 0 (e .numerator) ≡ false).
+      let le = ltb-false 0 (e .numerator) t in
+      let none : e .numerator ≡ 0 = omega arith in
+      (rw (none, mul-zero, mul-zero) (order .same 0), rw t at fits))
+      (either (ltb 0 (e .numerator)))
+
+  products-by : (vs : List ℕ) (es : List Weight) → length vs ≡ length es →
+      ((x : ℕ) → List·Memᴰ x (weighing vs es) → Less x k) →
+      Less (total (products vs es) .num) (k * total (map fraction es) .num)
+  products-by [] [] long fits = rw mul-zero (order .same 0)
+  products-by [] (e ∷ es) long fits = absurd (omega arith)
+  products-by (v ∷ vs) [] long fits = absurd (omega arith)
+  products-by (v ∷ vs) (e ∷ es) long fits =
+      let h = heavy v vs e es fits in
       let D = total (map fraction es) .den in
-      let rest = mul-le-mul-right (e .denominator) (products-most vs es (omega arith) (h .1)) in
-      let here : e .numerator * v ≤ k * e .numerator =
-      ⊎-elim (λ z. rw z (omega arith)) (λ le. omega (arith, mul-le-mul-right (e .numerator) le)) (h .0) in
-      rw (products-den vs es (omega arith)) (omega (arith, mul-le-mul-right D here, rest))
-
-  products-least : (vs : List ℕ) (es : List Weight) → length vs ≡ length es →
-      ((x : ℕ) → List·Memᴰ x (weighing vs es) → k ≤ x) →
-      k * total (map fraction es) .num ≤ total (products vs es) .num
-  products-least [] [] long least = omega arith
-  products-least [] (e ∷ es) long least = absurd (omega arith)
-  products-least (v ∷ vs) [] long least = absurd (omega arith)
-  products-least (v ∷ vs) (e ∷ es) long least =
-      let h = heavy (λ x. k ≤ x) v vs e es least in
-      let D = total (map fraction es) .den in
-      let rest = mul-le-mul-right (e .denominator) (products-least vs es (omega arith) (h .1)) in
-      let here : k * e .numerator ≤ e .numerator * v =
-      ⊎-elim (λ z. rw z (omega arith)) (λ le. omega (arith, mul-le-mul-right (e .numerator) le)) (h .0) in
-      rw (products-den vs es (omega arith)) (omega (arith, mul-le-mul-right D here, rest))
+      let N = total (map fraction es) .num in
+      let left : v * e .numerator * D + total (products vs es) .num * e .denominator ≡ total
+      (products (v ∷ vs) (e ∷ es)) .num =
+      rw (products-den vs es (omega arith)) (omega arith) in
+      let right : k * e .numerator * D + k * N * e .denominator ≡ k * total (map fraction (e ∷ es)) .num =
+      omega arith in
+      subst (λ (n : ℕ). Less n (k * total (map fraction (e ∷ es)) .num)) left
+      (subst (Less (v * e .numerator * D + total (products vs es) .num * e .denominator)) right
+      (order .sums (order .multiples D (h .0))
+      (order .multiples (e .denominator) (products-by vs es (omega arith) (h .1)))))
 
 -- So where the weights add up to one, their sum, rounded, lies between the least and the greatest
 -- of these values.
@@ -135,19 +142,19 @@ module _ (vs : List ℕ) (es : List Weight) (long : length vs ≡ length es)
     (one : total (map fraction es) .num ≡ total (map fraction es) .den)
     (some : 0 < total (map fraction es) .den) where
   some-products : 0 < total (products vs es) .den
-  some-products = rw (products-den 0 vs es long) some
+  some-products = rw (products-den vs es long) some
 
   pub mean-most : rounded (total (products vs es)) ≤ greatest (weighing vs es)
   mean-most =
       let k = greatest (weighing vs es) in
       nearest-most (total (products vs es) .den) some-products (total (products vs es) .num) k
-      (rw (products-den 0 vs es long, ← one) (products-most k vs es long (at-most-greatest (weighing vs es))))
+      (rw (products-den vs es long, ← one) (products-by k at-most vs es long (at-most-greatest (weighing vs es))))
 
   pub mean-least : smallest (weighing vs es) ≤ rounded (total (products vs es))
   mean-least =
       let k = smallest (weighing vs es) in
       nearest-least (total (products vs es) .den) some-products (total (products vs es) .num) k
-      (rw (products-den 0 vs es long, ← one) (products-least k vs es long (at-least-smallest (weighing vs es))))
+      (rw (products-den vs es long, ← one) (products-by k at-least vs es long (at-least-smallest (weighing vs es))))
 
 -- the record of a map that a good one holds, at a point of the domain
 module _ {P : Plain} (holds : Holds P) (u v : ℕ) (uw : u ≤ P .lines .w) (vh : v ≤ P .lines .h) where

@@ -31,8 +31,8 @@ weighing (v ∷ vs) (e ∷ es) = let rest = weighing vs es in cond (ltb 0 (e .nu
 abbrev pub valuesAt : Map → List ℕ → List ℕ
 valuesAt m places = map (λ i. tablePlace m i .value) places
 
--- of the blends at these places of the table: the sum of their values times their weights at a point,
--- and the values of those that weigh more than 0 there
+-- of the blends at these places of the table: the sum of their values times their weights at a
+-- point, and the values of those that weigh more than 0 there
 abbrev pub sumOver : Map → ℕ → ℕ → List ℕ → Fraction
 sumOver m u v places = total (products (valuesAt m places) (weights m u v .entries))
 

@@ -6,15 +6,14 @@ use mathlib.Core.Logic.{⊎-elim}
 use mathlib.Core.Bool.{true, false, _&&_}
 use mathlib.Core.List.{List, [], _∷_, _++_}
 use lib.Dec.{leb, ltb}
-use lib.ListN.{length, take, drop, length-append, length-drop}
+use lib.ListN.{length, drop, length-append, length-drop}
 use lib.Seq.{take-append-seam, drop-append-seam}
 use Rattle.axis.proofs.Tests.{either, and-both}
-use Rattle.mesh.specs.Lines.{allowedSide, layoutOf}
-use Rattle.mesh.specs.Splits.{liveOf}
+use Rattle.mesh.specs.Lines.{allowedSide}
 use Rattle.maps.specs.declared.Map.{Map}
 use Rattle.maps.specs.declared.Changed.{Changed}
 use Rattle.maps.specs.Plain.{Plain, freshPlain, blends}
-use Rattle.maps.specs.Record.{recordOf, plain}
+use Rattle.maps.specs.Record.{recordOf}
 use Rattle.maps.specs.Histories as Maps
 use Rattle.maps.specs.Histories.{Call, Answer, number, placed, read, weighed, walked, told, Outcome, numberOf, byLibrary, byMachine}
 use Rattle.maps.specs.Demand.{recorded}
@@ -24,7 +23,7 @@ use Rattle.maps.specs.Holds.{Holds}
 use Rattle.maps.proofs.GoodRecords.{record-good}
 use Rattle.maps.proofs.Reached.{Reached, fresh-reached, step-leads}
 use Rattle.maps.proofs.Following.{step-follows}
-use Rattle.maps.proofs.ByMarks.{marking, same-lists}
+use Rattle.maps.proofs.ByMarks.{marking, same-lists, remarked}
 use Rattle.files.specs.File.{fileOf}
 use Rattle.files.specs.Calls.{ifRefused, shortOf, answered}
 use Rattle.files.specs.Listing.{tableText, marksBlanked}
@@ -35,19 +34,11 @@ use Rattle.pump.proofs.Histories.{At, put-at, is-read, step-shown}
 use Rattle.pump.proofs.Demand3.{file-desk, file-lent, file-at}
 use Rattle.pump.proofs.ByLines.{files-alike}
 
--- records that differ only in marks are of maps that do
-plain-remarked : (m n : Map) → withoutMarks m ≡ withoutMarks n → plain m ≡ marking (plain n) (plain m .marks)
-unfolding plain
-plain-remarked m n same =
-    let lines = ap (λ (k : Map). k .lines) same in
-    let values = ap (λ (k : Map). k .values) same in
-    λ i. let L = layoutOf (lines i) in
-    record { lines = L; values = take (length (liveOf L)) (values i); marks = plain m .marks }
-
-remarked : {P Q : Plain} → Holds P → Holds Q → withoutMarks (recordOf P) ≡ withoutMarks (recordOf Q) →
+-- what two records hold that differ only in marks
+held-remarked : {P Q : Plain} → Holds P → Holds Q → withoutMarks (recordOf P) ≡ withoutMarks (recordOf Q) →
     P ≡ marking Q (P .marks)
-remarked {P} {Q} p q same =
-    rw (record-good p .1, record-good q .1) at (plain-remarked (recordOf P) (recordOf Q) same)
+held-remarked {P} {Q} p q same =
+    rw (record-good p .1, record-good q .1) at (remarked (recordOf P) (recordOf Q) same)
 
 -- an answer of the machine has the same number without its mark
 same-number : (a : Answer) → numberOf (unmarked a) ≡ numberOf a
@@ -130,7 +121,7 @@ module _ {d e : Desk} (both : Pair d e) where
       ⊎-elim (λ (t : leb 1 n ≡ true). rw (number, t) (refl, both))
       (λ (f : leb 1 n ≡ false).
       rw (number, f)
-      (puts-both (byMachine (d .holds) c .next) (byMachine P c .next) p q (remarked (p .holds) (q .holds) next)))
+      (puts-both (byMachine (d .holds) c .next) (byMachine P c .next) p q (held-remarked (p .holds) (q .holds) next)))
       (either (leb 1 n))
 
   -- a question to each
@@ -226,7 +217,7 @@ border-by-marks one other a cs =
       at = here;
       too = there;
       same =
-          remarked (here .reached .holds) (there .reached .holds)
+          held-remarked (here .reached .holds) (there .reached .holds)
           (sym (ap (λ (r : Changed). withoutMarks (r .map)) (here .is-file)) ∙ a .same-map ∙
           ap (λ (r : Changed). withoutMarks (r .map)) (there .is-file));
       used =
