@@ -180,6 +180,10 @@ module _ {P : Plain} (holds : Holds P) (u v : ℕ) (uw : u ≤ P .lines .w) (vh 
   in-domain : leb u w && leb v h ≡ true
   in-domain = and-of _ _ (le-leb u w uw) (le-leb v h vh)
 
+  weighed : weights (recordOf P) u v .number ≡ 0
+  unfolding weights
+  weighed = rw (record-good holds .0, record-good holds .1, in-domain)
+
   the-weights : weights (recordOf P) u v .entries ≡ map (weightOver w h u v) (map (λ (a : Entry). a .blend) found)
   unfolding weights
   the-weights = rw (record-good holds .0, record-good holds .1, in-domain, entries-only test (blends P) 0)
@@ -297,6 +301,7 @@ module _ {P : Plain} (holds : Holds P) (u v : ℕ) (uw : u ≤ P .lines .w) (vh 
   pub record-weights : ByWeights (recordOf P) u v
   record-weights =
       record {
+        accepted = weighed;
         places = map (λ (a : Entry). a .place) found;
         four = length-map found (λ (a : Entry). a .place) ∙ entries-length test (blends P) 0 ∙
             four-at w h (blends P) is-sound u v (sides .0) (sides .2) uw vh;

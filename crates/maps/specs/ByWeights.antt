@@ -39,9 +39,10 @@ sumOver m u v places = total (products (valuesAt m places) (weights m u v .entri
 abbrev pub valuesOver : Map → ℕ → ℕ → List ℕ → List ℕ
 valuesOver m u v places = weighing (valuesAt m places) (weights m u v .entries)
 
--- The four blends of the weights answer stand at these places of the table, and their weights add
--- up to exactly one.
+-- The weights call is accepted, its four blends stand at these places of the table, and their
+-- weights add up to exactly one.
 pub record ByWeights (m : Map) (u v : ℕ) : Type 0 where
+  pub accepted : weights m u v .number ≡ 0
   pub places : List ℕ
   pub four : length places ≡ 4
   pub taken : (i : ℕ) → List·Memᴰ i places → tablePlace m i .number ≡ 0
