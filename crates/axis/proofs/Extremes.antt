@@ -1,13 +1,11 @@
 -- The greatest and the smallest of some numbers.
 use Prim.Native.Nat.{ℕ, _≤_}
 use native.Mathlib.Omega.{arith}
-use mathlib.Core.Path.{refl}
 use mathlib.Core.Logic.{⊎-elim}
 use mathlib.Core.List.{List, [], _∷_, List·Memᴰ, List·Memᴰ·cases-cons, List·Memᴰ·not-nil}
-use mathlib.Core.List.List·Memᴰ.{List·Memᴰ·head, List·Memᴰ·tail}
 use Rattle.axis.specs.Range.{greatest, smallest}
 
--- each of them is at most the greatest and at least the smallest,
+-- each of them is at most the greatest and at least the smallest
 pub at-most-greatest : (ns : List ℕ) (n : ℕ) → List·Memᴰ n ns → n ≤ greatest ns
 at-most-greatest [] n m = absurd (List·Memᴰ·not-nil m)
 at-most-greatest (k ∷ ns) n m =
@@ -19,9 +17,3 @@ at-least-smallest (k ∷ []) n m =
     ⊎-elim (λ q. omega (arith, q)) (λ l. absurd (List·Memᴰ·not-nil l)) (List·Memᴰ·cases-cons m)
 at-least-smallest (k ∷ j ∷ ns) n m =
     ⊎-elim (λ q. omega (arith, q)) (λ l. omega (arith, at-least-smallest (j ∷ ns) n l)) (List·Memᴰ·cases-cons m)
-
--- and the greatest is at most what all of them are.
-pub greatest-within : (ns : List ℕ) (k : ℕ) → ((n : ℕ) → List·Memᴰ n ns → n ≤ k) → greatest ns ≤ k
-greatest-within [] k within = omega arith
-greatest-within (n ∷ ns) k within =
-    omega (arith, within n (List·Memᴰ·head refl), greatest-within ns k (λ j m. within j (List·Memᴰ·tail m)))

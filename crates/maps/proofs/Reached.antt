@@ -3,6 +3,7 @@ use Prim.Native.Nat.{ℕ, _+_, _<_, _%_}
 use native.Mathlib.Omega.{arith}
 use native.Mathlib.Nat.{mod-lt}
 use mathlib.Core.Path.{_≡_, refl, sym, ap, _∙_}
+use mathlib.Core.Logic.{⊎-elim}
 use mathlib.Core.Bool.{Bool, true, false, cond}
 use mathlib.Core.List.{List, [], _∷_, _++_, append-assoc, append-nil, List·Memᴰ}
 use borrow.Author.Tests.{eqb-true}
@@ -13,13 +14,14 @@ use Rattle.mesh.specs.Lines.{allowedSide, layoutOf}
 use Rattle.maps.specs.declared.Map.{Map}
 use Rattle.maps.specs.Plain.{Plain, freshPlain, blends}
 use Rattle.maps.specs.Values.{placeOf, drawn}
-use Rattle.mesh.specs.Splits.{given, asked, liveOf, exactNumber}
-use Rattle.mesh.specs.Lengthening.{within, chosen}
+use Rattle.mesh.specs.Splits.{asked, liveOf, exactNumber}
+use Rattle.mesh.specs.Lengthening.{within}
 use Rattle.mesh.specs.Ends.{nearestGood}
 use Rattle.maps.specs.Record.{Held, plain, good}
 use Rattle.maps.specs.Calls.{setPlain}
 use Rattle.maps.specs.Histories.{Call, set, split, place, reads, weighs, alongRow, alongColumn, sameAs, Outcome, firstDrawn, byMachine, ending}
 use Rattle.maps.specs.Demand.{Start, fresh, given-record, lineBy, linesBy}
+use Rattle.axis.proofs.Tests.{either}
 use Rattle.axis.proofs.Entries.{taken-mem}
 use Rattle.axis.proofs.Members.{placed}
 use Rattle.axis.proofs.Padding.{copies}
@@ -77,6 +79,11 @@ pub record Leads (P : Plain) (lines : List Split) (Q : Plain) : Type 0 where
   pub tall : Q .lines .h ≡ P .lines .h
   pub more : Q .lines .splits ≡ P .lines .splits ++ lines
 
+-- What a split may do to a map: it stays, or a line is drawn that is accepted as an exact split.
+pub data Takes (P : Plain) : List Split → Plain → Type 0 where
+  no-line : Takes P [] P
+  one-line : (c : Split) → exactNumber (P .lines) c ≡ 0 → Takes P (c ∷ []) (drawn P c)
+
 -- One call:
 module _ (P : Plain) (at : Reached P) where
   leads-nowhere : Leads P [] P
@@ -103,15 +110,26 @@ module _ (P : Plain) (at : Reached P) where
       }
 
   -- a split takes one line, if any, and draws it
-  one-leads : (s : Split) (a : ℕ) → given (P .lines) s ≡ 0 → Leads P (chosen (P .lines) s a) (firstDrawn P (chosen (P .lines) s a) .next)
-  one-leads s a e = rw (least (P .lines) (at .holds .taken) s e .taken a) (by (within s a (nearestGood (P .lines) s)))
+  pub split-takes : (s : Split) (a : ℕ) → Takes P (lineBy P (split s a)) (byMachine P (split s a) .next)
+  split-takes s a =
+      ⊎-elim
+      (λ (t : eqb (asked (P .lines) s a) 0 ≡ true).
+      let e = asked-says (P .lines) s a (eqb-true _ _ t) .1 in
+      rw (t, least (P .lines) (at .holds .taken) s e .taken a)
+      (by (nearest-accepted (P .lines) (at .holds .taken) s e) (within s a (nearestGood (P .lines) s))))
+      (λ (f : eqb (asked (P .lines) s a) 0 ≡ false). rw f no-line) (either (eqb (asked (P .lines) s a) 0))
     where
       n : List Split
       n = nearestGood (P .lines) s ∷ []
 
-      by : (b : Bool) → Leads P (cond b n []) (firstDrawn P (cond b n []) .next)
-      by true = drawn-leads _ (nearest-accepted (P .lines) (at .holds .taken) s e)
-      by false = leads-nowhere
+      by : exactNumber (P .lines) (nearestGood (P .lines) s) ≡ 0 → (b : Bool) →
+          Takes P (cond b n []) (firstDrawn P (cond b n []) .next)
+      by e true = one-line _ e
+      by e false = no-line
+
+  takes-leads : {lines : List Split} {Q : Plain} → Takes P lines Q → Leads P lines Q
+  takes-leads no-line = leads-nowhere
+  takes-leads (one-line c e) = drawn-leads c e
 
   by-test : (lines : List Split) (b : Bool) (x y : Outcome Plain) → (b ≡ true → Leads P lines (x .next)) → (b ≡ false → Leads P lines (y .next)) →
       Leads P lines (cond b x y .next)
@@ -122,8 +140,7 @@ module _ (P : Plain) (at : Reached P) where
   step-leads (set i j v) =
       by-test [] (ltb (placeOf (blends P) (i + 1) (j + 1)) (length (blends P))) _ _ (λ e. set-leads i j (v % 65536) (mod-lt v (omega arith)))
       (λ e. leads-nowhere)
-  step-leads (split s a) =
-      by-test _ (eqb (asked (P .lines) s a) 0) _ _ (λ e. rw e (one-leads s a (asked-says (P .lines) s a (eqb-true _ _ e) .1))) (λ e. rw e leads-nowhere)
+  step-leads (split s a) = takes-leads (split-takes s a)
   step-leads (place i) = leads-nowhere
   step-leads (reads u v) = leads-nowhere
   step-leads (weighs u v) = leads-nowhere

@@ -3,12 +3,12 @@
 use Prim.Native.Nat.{ℕ, _+_, _-_, _%_, _≤_}
 use native.Mathlib.Omega.{arith}
 use native.Mathlib.Nat.{mod-lt}
-use mathlib.Core.Path.{_≡_, refl, sym, ap, subst, _∙_}
-use mathlib.Core.Logic.{_⊎_, inl, inr, ⊎-elim}
-use mathlib.Core.Bool.{Bool, true, false, cond}
+use mathlib.Core.Path.{_≡_, sym, ap, subst, _∙_}
+use mathlib.Core.Logic.{_⊎_, ⊎-elim}
+use mathlib.Core.Bool.{true, false, cond}
 use mathlib.Core.List.{List, [], _∷_, _++_, List·Memᴰ, Memᴰ·append-left, Memᴰ·append-right}
 use mathlib.Core.List.List·Memᴰ.{List·Memᴰ·head}
-use borrow.Author.Tests.{eqb-true, leb-true, ltb-true}
+use borrow.Author.Tests.{leb-true, ltb-true}
 use lib.Dec.{leb, ltb, eqb}
 use lib.ListN.{length, getD}
 use Rattle.axis.specs.Range.{greatest}
@@ -17,20 +17,17 @@ use Rattle.axis.proofs.Extremes.{at-most-greatest}
 use Rattle.axis.proofs.Members.{entry, set-mem}
 use Rattle.mesh.specs.declared.Split.{Split}
 use Rattle.mesh.specs.Sound.{none}
-use Rattle.mesh.specs.Splits.{asked, exactNumber}
 use Rattle.mesh.specs.Lengthening.{within}
-use Rattle.mesh.specs.Ends.{nearestGood}
-use Rattle.mesh.proofs.Passing.{asked-says, exact-says}
-use Rattle.mesh.proofs.Allowance.{least, nearest-accepted}
+use Rattle.mesh.proofs.Passing.{exact-says}
 use Rattle.maps.specs.declared.Map.{Map}
 use Rattle.maps.specs.Plain.{Plain, blends}
-use Rattle.maps.specs.Values.{readingAt, inDomain, placeOf, drawn}
+use Rattle.maps.specs.Values.{readingAt, inDomain, placeOf}
 use Rattle.maps.specs.Record.{recordOf, good}
 use Rattle.maps.specs.Calls.{setPlain, reading}
-use Rattle.maps.specs.Histories.{Call, set, split, place, reads, weighs, alongRow, alongColumn, sameAs, number, numberOf, Outcome, firstDrawn, byLibrary, byMachine, ending}
+use Rattle.maps.specs.Histories.{Call, set, split, place, reads, weighs, alongRow, alongColumn, sameAs, number, numberOf, Outcome, byLibrary, byMachine, ending}
 use Rattle.maps.specs.Reads.{Reads, valueSet, valuesSet}
 use Rattle.maps.proofs.Readings.{place-found, reading-value, reading-within, reading-most, drawn-within, set-reading}
-use Rattle.maps.proofs.Reached.{Reached, Leads, step-leads}
+use Rattle.maps.proofs.Reached.{Reached, Leads, Takes, no-line, one-line, split-takes, step-leads}
 use Rattle.maps.proofs.Following.{step-follows}
 use Rattle.maps.proofs.Answers.{place-listed, answers-listed, table-values, anchor-shown, anchor-in, point-answers, outside-answers}
 use Rattle.maps.proofs.ByWeights.{record-weights}
@@ -84,25 +81,9 @@ module _ (P : Plain) (at : Reached P) where
         at-most = point-within 65535 (reading-most P (at .valued));
       }
 
-  -- A split leaves the map alone, or draws a line that is accepted as an exact split.
-  split-next : (s : Split) (a : ℕ) → let Q = byMachine P (split s a) .next in
-      (Q ≡ P) ⊎ ((c : Split) × (exactNumber (P .lines) c ≡ 0) × (Q ≡ drawn P c))
-  split-next s a =
-      ⊎-elim
-      (λ (t : eqb (asked (P .lines) s a) 0 ≡ true).
-      let e = asked-says (P .lines) s a (eqb-true _ _ t) .1 in
-      rw (t, least (P .lines) (at .holds .taken) s e .taken a)
-      (by (nearest-accepted (P .lines) (at .holds .taken) s e) (within s a (nearestGood (P .lines) s))))
-      (λ (f : eqb (asked (P .lines) s a) 0 ≡ false). rw f (inl refl)) (either (eqb (asked (P .lines) s a) 0))
-    where
-      n : List Split
-      n = nearestGood (P .lines) s ∷ []
-
-      by : exactNumber (P .lines) (nearestGood (P .lines) s) ≡ 0 → (b : Bool) → let Q =
-          firstDrawn P (cond b n []) .next in
-          (Q ≡ P) ⊎ ((c : Split) × (exactNumber (P .lines) c ≡ 0) × (Q ≡ drawn P c))
-      by e true = inr (nearestGood (P .lines) s, e, refl)
-      by e false = inl refl
+  takes-within : (k : ℕ) → Within k P → {lines : List Split} {Q : Plain} → Takes P lines Q → Within k Q
+  takes-within k old no-line = old
+  takes-within k old (one-line c e) = drawn-within P (at .valued) c (exact-says (P .lines) c e .1) k old
 
   -- Values after a call are at most k, where those before it are and the value that it sets, if it
   -- is accepted.
@@ -116,10 +97,7 @@ module _ (P : Plain) (at : Reached P) where
       rw t (λ x m. ⊎-elim (λ q. (rw t at new) x (List·Memᴰ·head q)) (old x) (set-mem (P .values) _ (v % 65536) x m)))
       (λ (f : ltb (placeOf (blends P) (i + 1) (j + 1)) (length (blends P)) ≡ false). rw f old)
       (either (ltb (placeOf (blends P) (i + 1) (j + 1)) (length (blends P))))
-  step-within k old (split s a) new =
-      ⊎-elim (λ q. rw q old)
-      (λ r. rw (r .2) (drawn-within P (at .valued) (r .0) (exact-says (P .lines) (r .0) (r .1) .1) k old))
-      (split-next s a)
+  step-within k old (split s a) new = takes-within k old (split-takes P at s a)
   step-within k old (place i) new = old
   step-within k old (reads u v) new = old
   step-within k old (weighs u v) new = old
