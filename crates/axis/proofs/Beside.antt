@@ -23,8 +23,8 @@ module _ {A : Type 0} {B : Type 0} {C : Type 0} (f : A → B → C) where
 
   -- each entry is made of two entries
   beside_mem : (xs : List A) (ys : List B) (c : C) → Memᴰ c (beside f xs ys) → (x : A) × (y : B) × Memᴰ x xs × Memᴰ y ys × (c ≡ f x y)
-  beside_mem [] ys c m = absurd (Memᴰ.not_nil m)
-  beside_mem (x ∷ xs) [] c m = absurd (Memᴰ.not_nil m)
+  beside_mem [] ys c m = absurd (Memᴰ.not-nil m)
+  beside_mem (x ∷ xs) [] c m = absurd (Memᴰ.not-nil m)
   beside_mem (x ∷ xs) (y ∷ ys) c m =
       ⊎_elim (λ e. (x, y, Memᴰ.head refl, Memᴰ.head refl, e))
       (λ k. let r = beside_mem xs ys c k in (r.0, r.1, Memᴰ.tail r.2, Memᴰ.tail r.3, r.4)) (Memᴰ.cases_cons m)

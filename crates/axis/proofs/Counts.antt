@@ -34,14 +34,14 @@ module _ {ℓ} {A : Type ℓ} (test : A → Bool) where
   some_pass x xs m e = positive (only test xs) (mem_only test xs x m e)
     where
       positive : (ys : List A) → Memᴰ x ys → 1 ≤ length ys
-      positive [] n = absurd (Memᴰ.not_nil n)
+      positive [] n = absurd (Memᴰ.not-nil n)
       positive (y ∷ ys) n = omega arith
 
   pub one_passes : (x y : A) (xs : List A) → Memᴰ x xs → Memᴰ y xs → test x ≡ true → test y ≡ true → length (only test xs) ≡ 1 → x ≡ y
   one_passes x y xs m n e f = single (only test xs) (mem_only test xs x m e) (mem_only test xs y n f)
     where
       single : (ys : List A) → Memᴰ x ys → Memᴰ y ys → length ys ≡ 1 → x ≡ y
-      single [] m n l = absurd (Memᴰ.not_nil m)
+      single [] m n l = absurd (Memᴰ.not-nil m)
       single (z ∷ []) m n l = Memᴰ.eq_of_singleton m ∙ sym (Memᴰ.eq_of_singleton n)
       single (z ∷ u ∷ ys) m n l = absurd (omega arith)
 

@@ -14,16 +14,19 @@ use Rattle.axis.proofs.Members.{map_mem, mem_map}
 module _ {ℓ} {A : Type ℓ} where
   -- a list without one of its members
   without : {x : A} (ys : List A) → Memᴰ x ys → List A
+  without [] m = elim m [ ]
   without (y ∷ ys) (Memᴰ.head e) = ys
   without (y ∷ ys) (Memᴰ.tail m) = y ∷ without ys m
 
   without_length : {x : A} (ys : List A) (m : Memᴰ x ys) → length ys ≡ suc (length (without ys m))
   unfolding without
+  without_length [] m = elim m [ ]
   without_length (y ∷ ys) (Memᴰ.head e) = refl
   without_length (y ∷ ys) (Memᴰ.tail m) = ap suc (without_length ys m)
 
   still_there : {x : A} (ys : List A) (m : Memᴰ x ys) (z : A) → (z ≡ x → ⊥) → Memᴰ z ys → Memᴰ z (without ys m)
   unfolding without
+  still_there [] m z ne h = elim m [ ]
   still_there (y ∷ ys) (Memᴰ.head e) z ne h = ⊎_elim (λ q. absurd (ne (q ∙ sym e))) (λ k. k) (Memᴰ.cases_cons h)
   still_there (y ∷ ys) (Memᴰ.tail m) z ne h = ⊎_elim (λ q. Memᴰ.head q) (λ k. Memᴰ.tail (still_there ys m z ne k)) (Memᴰ.cases_cons h)
 
@@ -85,7 +88,7 @@ module _ {ℓ} {A : Type ℓ} where
 
   -- a list without repeats whose members all equal x, x among them
   pub singleton : (x : A) (xs : List A) → Distinct xs → ((y : A) → Memᴰ y xs → y ≡ x) → Memᴰ x xs → xs ≡ x ∷ []
-  singleton x [] d e m = absurd (Memᴰ.not_nil m)
+  singleton x [] d e m = absurd (Memᴰ.not-nil m)
   singleton x (y ∷ []) d e m = ap (λ (z : A). z ∷ []) (e y (Memᴰ.head refl))
   singleton x (y ∷ z ∷ zs) d e m =
       absurd (d.0 (Memᴰ.head (e y (Memᴰ.head refl) ∙ sym (e z (Memᴰ.tail (Memᴰ.head refl))))))
@@ -103,8 +106,8 @@ module _ {ℓ} {A : Type ℓ} (key : A → ℕ) where
   pub ascending_unique : (xs ys : List A) → Ascending xs → Ascending ys →
       ((x : A) → Memᴰ x xs → Memᴰ x ys) → ((y : A) → Memᴰ y ys → Memᴰ y xs) → xs ≡ ys
   ascending_unique [] [] a b f g = refl
-  ascending_unique [] (y ∷ ys) a b f g = absurd (Memᴰ.not_nil (g y (Memᴰ.head refl)))
-  ascending_unique (x ∷ xs) [] a b f g = absurd (Memᴰ.not_nil (f x (Memᴰ.head refl)))
+  ascending_unique [] (y ∷ ys) a b f g = absurd (Memᴰ.not-nil (g y (Memᴰ.head refl)))
+  ascending_unique (x ∷ xs) [] a b f g = absurd (Memᴰ.not-nil (f x (Memᴰ.head refl)))
   ascending_unique (x ∷ xs) (y ∷ ys) a b f g =
       let e : x ≡ y =
       ⊎_elim (λ q. q)
@@ -144,7 +147,7 @@ module _ {ℓ} {A : Type ℓ} (before : A → A → Type 0) where
   -- a list of at most one kind of entry, without repeats
   pub lone : (xs : List A) → Distinct xs → ((x y : A) → Memᴰ x xs → Memᴰ y xs → x ≡ y) → Ordered before xs
   lone [] d e = tt
-  lone (x ∷ []) d e = (λ y m. absurd (Memᴰ.not_nil m), tt)
+  lone (x ∷ []) d e = (λ y m. absurd (Memᴰ.not-nil m), tt)
   lone (x ∷ y ∷ ys) d e = absurd (d.0 (Memᴰ.head (e x y (Memᴰ.head refl) (Memᴰ.tail (Memᴰ.head refl)))))
 
   -- the first of a list

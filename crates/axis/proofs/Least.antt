@@ -33,5 +33,5 @@ module _ {ℓ} {A : Type ℓ} (number : A → ℕ) where
       (λ gt. (r.0, Memᴰ.tail r.1, λ z m. ⊎_elim (λ q. let e = ap number q in omega arith) (r.2 z) (Memᴰ.cases_cons m)))
 
   pub some_least : (xs : List A) (x : A) → Memᴰ x xs → (y : A) × Memᴰ y (least number xs)
-  some_least [] x m = absurd (Memᴰ.not_nil m)
+  some_least [] x m = absurd (Memᴰ.not-nil m)
   some_least (w ∷ xs) x m = let r = smallest w xs in (r.0, least_of_lem (w ∷ xs) r.0 r.1 r.2)

@@ -12,11 +12,12 @@ use Rattle.axis.specs.Range.{each, joined}
 
 module _ {ℓ κ} {A : Type ℓ} {B : Type κ} where
   pub mem_map : (f : A → B) (xs : List A) (x : A) → Memᴰ x xs → Memᴰ (f x) (map f xs)
+  mem_map f [] x m = elim m [ ]
   mem_map f (y ∷ ys) x (Memᴰ.head e) = Memᴰ.head (ap f e)
   mem_map f (y ∷ ys) x (Memᴰ.tail m) = Memᴰ.tail (mem_map f ys x m)
 
   pub map_mem : (f : A → B) (xs : List A) (y : B) → Memᴰ y (map f xs) → (x : A) × Memᴰ x xs × (y ≡ f x)
-  map_mem f [] y m = absurd (Memᴰ.not_nil m)
+  map_mem f [] y m = absurd (Memᴰ.not-nil m)
   map_mem f (x ∷ xs) y m =
       ⊎_elim (λ q. (x, Memᴰ.head refl, q)) (λ k. let r = map_mem f xs y k in (r.0, Memᴰ.tail r.1, r.2)) (Memᴰ.cases_cons m)
 
@@ -33,6 +34,7 @@ entry (x ∷ xs) (suc i) d lt = Memᴰ.tail (entry xs i d (omega arith))
 
 -- what is in the list stands at some place,
 pub placed {ℓ} : {A : Type ℓ} (xs : List A) (x d : A) → Memᴰ x xs → (i : ℕ) × (i < length xs) × (get_or xs i d ≡ x)
+placed [] x d m = elim m [ ]
 placed (y ∷ ys) x d m =
     ⊎_elim (λ q. (0, omega arith, sym q)) (λ n. let r = placed ys x d n in (suc r.0, omega (arith, r.1), r.2)) (Memᴰ.cases_cons m)
 

@@ -12,7 +12,7 @@ use Rattle.axis.specs.Range.{all}
 use Rattle.axis.proofs.Tests.{and_both, and_of}
 
 pub copies : {A : Type 0} (d : A) (n : ℕ) (x : A) → Memᴰ x (replicate n d) → x ≡ d
-copies d zero x m = absurd (Memᴰ.not_nil m)
+copies d zero x m = absurd (Memᴰ.not-nil m)
 copies d (suc n) x m = ⊎_elim (λ e. e) (copies d n x) (Memᴰ.cases_cons m)
 
 module _ {ℓ} {A : Type ℓ} (test : A → Bool) (d : A) where

@@ -118,7 +118,7 @@ module _ {A : Type 0} where
   -- a sum all of whose terms but one are 0
   pub sum_single : (f : A → ℕ) (xs : List A) → Distinct xs → (a : A) → Memᴰ a xs →
       ((x : A) → Memᴰ x xs → (x ≡ a → ⊥) → f x ≡ 0) → sum f xs ≡ f a
-  sum_single f [] dist a m h = absurd (Memᴰ.not_nil m)
+  sum_single f [] dist a m h = absurd (Memᴰ.not-nil m)
   sum_single f (x ∷ xs) dist a m h =
       ⊎_elim
       (λ q. omega (arith, ap f q, sum_zero f xs (λ y n. h y (Memᴰ.tail n) (λ r. dist.0 (Memᴰ.cast (sym (r ∙ q)) n)))))

@@ -184,7 +184,7 @@ each_past a b e f le none = go (b - a) a (omega arith) none
 
 module _ {ℓ} {A : Type ℓ} where
   pub all_at : (test : A → Bool) (xs : List A) → all test xs ≡ true → (x : A) → Memᴰ x xs → test x ≡ true
-  all_at test [] e x h = absurd (Memᴰ.not_nil h)
+  all_at test [] e x h = absurd (Memᴰ.not-nil h)
   all_at test (y ∷ ys) e x h =
       ⊎_elim (λ q. ap test q ∙ (and_both (test y) (all test ys) e).0)
       (λ m. all_at test ys (and_both (test y) (all test ys) e).1 x m) (Memᴰ.cases_cons h)
@@ -205,7 +205,7 @@ module _ {ℓ} {A : Type ℓ} where
       (λ q. let r = any_at test ys q in (r.0, Memᴰ.tail r.1, r.2)) (or_either _ _ e)
 
   pub any_of : (test : A → Bool) (xs : List A) (x : A) → Memᴰ x xs → test x ≡ true → any test xs ≡ true
-  any_of test [] x h e = absurd (Memᴰ.not_nil h)
+  any_of test [] x h e = absurd (Memᴰ.not-nil h)
   any_of test (y ∷ ys) x h e =
       ⊎_elim (λ q. or_left (test y) _ (ap test (sym q) ∙ e)) (λ m. or_right (test y) _ (any_of test ys x m e)) (Memᴰ.cases_cons h)
 
@@ -220,7 +220,7 @@ module _ {ℓ} {A : Type ℓ} where
 
   -- membership in `only`, `joined` and `each`
   pub only_mem : (test : A → Bool) (xs : List A) (x : A) → Memᴰ x (only test xs) → Memᴰ x xs × (test x ≡ true)
-  only_mem test [] x h = absurd (Memᴰ.not_nil h)
+  only_mem test [] x h = absurd (Memᴰ.not-nil h)
   only_mem test (y ∷ ys) x h =
       ⊎_elim
       (λ t. ⊎_elim (λ q. (Memᴰ.head q, ap test q ∙ t)) (λ m. let r = only_mem test ys x m in (Memᴰ.tail r.0, r.1))
@@ -229,7 +229,7 @@ module _ {ℓ} {A : Type ℓ} where
       (either (test y))
 
   pub mem_only : (test : A → Bool) (xs : List A) (x : A) → Memᴰ x xs → test x ≡ true → Memᴰ x (only test xs)
-  mem_only test [] x h e = absurd (Memᴰ.not_nil h)
+  mem_only test [] x h e = absurd (Memᴰ.not-nil h)
   mem_only test (y ∷ ys) x h e =
       ⊎_elim
       (λ q. let t : test y ≡ true = ap test (sym q) ∙ e in rw t (Memᴰ.head q))
@@ -243,7 +243,7 @@ module _ {ℓ} {A : Type ℓ} where
       rw (t, only_all test xs (λ y m. f y (Memᴰ.tail m)))
 
   pub each_mem : (from n : ℕ) (f : ℕ → List A) (x : A) → Memᴰ x (each from n f) → (k : ℕ) × (from ≤ k) × (k < from + n) × Memᴰ x (f k)
-  each_mem from zero f x h = absurd (Memᴰ.not_nil h)
+  each_mem from zero f x h = absurd (Memᴰ.not-nil h)
   each_mem from (suc n) f x h =
       ⊎_elim (λ m. (from, omega arith, omega arith, m))
       (λ m. let r = each_mem (from + 1) n f x m in
@@ -266,13 +266,13 @@ module _ {ℓ} {A : Type ℓ} where
 
 module _ {ℓ ℓ'} {A : Type ℓ} {B : Type ℓ'} where
   pub joined_mem : (f : A → List B) (xs : List A) (y : B) → Memᴰ y (joined f xs) → (x : A) × Memᴰ x xs × Memᴰ y (f x)
-  joined_mem f [] y h = absurd (Memᴰ.not_nil h)
+  joined_mem f [] y h = absurd (Memᴰ.not-nil h)
   joined_mem f (x ∷ xs) y h =
       ⊎_elim (λ m. (x, Memᴰ.head refl, m))
       (λ m. let r = joined_mem f xs y m in (r.0, Memᴰ.tail r.1, r.2)) (Memᴰ.append_cases (f x) h)
 
   pub mem_joined : (f : A → List B) (xs : List A) (x : A) (y : B) → Memᴰ x xs → Memᴰ y (f x) → Memᴰ y (joined f xs)
-  mem_joined f [] x y h m = absurd (Memᴰ.not_nil h)
+  mem_joined f [] x y h m = absurd (Memᴰ.not-nil h)
   mem_joined f (a ∷ xs) x y h m =
       ⊎_elim (λ q. Memᴰ.append_left _ (subst (λ (i : A). Memᴰ y (f i)) q m)) (λ t. Memᴰ.append_right (f a) (mem_joined f xs x y t m))
       (Memᴰ.cases_cons h)

@@ -34,7 +34,7 @@ turns_same from n f g e = each_same from n _ _ (λ k lo hi. rw (e k (omega arith
 
 at_turn : (b : Bool) (k x : ℕ) → Memᴰ x (cond b (k ∷ []) []) → (x ≡ k) × (b ≡ true)
 at_turn true k x m = (Memᴰ.eq_of_singleton m, refl)
-at_turn false k x m = absurd (Memᴰ.not_nil m)
+at_turn false k x m = absurd (Memᴰ.not-nil m)
 
 module _ (test : ℕ → Bool) where
   -- the list holds exactly the numbers of the run where the test turns, in rising order
@@ -53,7 +53,7 @@ module _ (test : ℕ → Bool) where
       (λ j k x y lt hi mx my. omega (arith, (at_turn (turns test j) j x mx).0, (at_turn (turns test k) k y my).0))
     where
       single : (b : Bool) (k : ℕ) → Ordered ◌<◌ (cond b (k ∷ []) [])
-      single true k = (λ y m. absurd (Memᴰ.not_nil m), tt)
+      single true k = (λ y m. absurd (Memᴰ.not-nil m), tt)
       single false k = tt
 
   -- where it does not turn, it stays

@@ -2,6 +2,8 @@
 //
 // A knot is a line's position, kept shifted by one: knot k is document 01's coordinate k - 1, so that its -1 is 0.
 
+#![tactic(auto)]
+
 pub mod knots;
 pub mod shares;
 pub mod supports;

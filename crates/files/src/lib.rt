@@ -1,4 +1,6 @@
 // Map files: the third of the three layers.
+
+#![tactic(auto)]
 pub mod bytes;
 mod compare;
 pub mod listing;

@@ -50,7 +50,7 @@ use Rattle.maps.proofs.Answers.{place_listed, point_answers}
 -- an entry's blend stands at its place
 entry_blend : (test : Blend → Bool) (all bs : List Blend) (i : ℕ) → ((k : ℕ) → k < length bs → get_or all (i + k) none ≡ get_or bs k none) →
     (a : Entry) → Memᴰ a (entries_over test bs i) → get_or all a.place none ≡ a.blend
-entry_blend test all [] i same a m = absurd (Memᴰ.not_nil m)
+entry_blend test all [] i same a m = absurd (Memᴰ.not-nil m)
 entry_blend test all (B ∷ bs) i same a m =
     let here : get_or all i none ≡ B = ap (λ (k : ℕ). get_or all k none) (omega arith) ∙ same 0 (omega arith) in
     let later = entry_blend test all bs (i + 1) (λ k lt. ap (λ (j : ℕ). get_or all j none) (omega arith) ∙ same (suc k) (omega arith)) a in

@@ -88,7 +88,7 @@ module _ (test : Blend → Bool) where
 
   pub entry_in : (bs : List Blend) (i : ℕ) (e : Entry) → Memᴰ e (entries_over test bs i) →
       (e.place < i + length bs) × Memᴰ e.blend bs
-  entry_in [] i e m = absurd (mathlib.Core.List.Memᴰ.not_nil m)
+  entry_in [] i e m = absurd (mathlib.Core.List.Memᴰ.not-nil m)
   entry_in (B ∷ bs) i e m =
       let later : Memᴰ e (entries_over test bs (i + 1)) → (e.place < i + length (B ∷ bs)) × Memᴰ e.blend (B ∷ bs) =
       λ k. let r = entry_in bs (i + 1) e k in (omega (arith, r.0), mathlib.Core.List.Memᴰ.tail r.1) in

@@ -70,7 +70,7 @@ module _ (side : ℕ) (readings : ℕ → Reading) (wanted : ℕ) (read : (u : �
         counts = λ z. absurd (omega arith);
         is_pair = λ z. absurd (omega arith);
         none_before = λ u lt p. omega arith;
-        refused = λ ne. (refl, refl, λ u lt p. mathlib.Core.List.Memᴰ.not_nil (in_list [] e u lt p));
+        refused = λ ne. (refl, refl, λ u lt p. mathlib.Core.List.Memᴰ.not-nil (in_list [] e u lt p));
         one_side = λ a u le us none. between a u le none;
         odd = λ d. rw d at (parity [] e);
         even = λ d. rw d at (parity [] e);

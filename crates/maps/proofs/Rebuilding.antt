@@ -62,7 +62,7 @@ accepted_ends (c ∷ cs) P Q e = accepted_ends cs (by_machine P c).next Q e.1
 
 machine_accepts : (cs : List Call) (P Q : Plain) → AcceptedTo P cs Q → (o : Outcome Plain) → Memᴰ o (outcomes by_machine P cs) →
     o.answer ≡ number 0
-machine_accepts [] P Q e o m = absurd (mathlib.Core.List.Memᴰ.not_nil m)
+machine_accepts [] P Q e o m = absurd (mathlib.Core.List.Memᴰ.not-nil m)
 machine_accepts (c ∷ cs) P Q e o m =
     ⊎_elim (λ q. ap (λ (x : Outcome Plain). x.answer) q ∙ e.0) (machine_accepts cs (by_machine P c).next Q e.1 o) (mathlib.Core.List.Memᴰ.cases_cons m)
 

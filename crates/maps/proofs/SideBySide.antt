@@ -36,7 +36,7 @@ of_left bs i B m = subst (Memᴰ B) (take-append-drop i bs) (Memᴰ.append_right
 -- the blend with an anchor stands where the walk has come to, or nowhere
 place_at : (bs : List Blend) (j : ℕ) (y : Blend) (rest : List Blend) → Ascending place bs → drop j bs ≡ y ∷ rest → (m n : ℕ) → anchored m n y ≡ true →
     place_of bs m n ≡ j
-place_at [] j y rest up e m n on = absurd (Memᴰ.not_nil (of_left [] j y (subst (Memᴰ y) (sym e) (Memᴰ.head refl))))
+place_at [] j y rest up e m n on = absurd (Memᴰ.not-nil (of_left [] j y (subst (Memᴰ y) (sym e) (Memᴰ.head refl))))
 place_at (B ∷ bs) zero y rest up e m n on =
     ⊎_elim (λ q. cond_true _ _ _ (subst (λ (X : Blend). anchored m n X ≡ true) q on))
     (λ k.
@@ -100,7 +100,7 @@ module _ (old new : List Blend) (grown : Grown old new) where
     -- it has not, so no old one has:
     module _ (other : (y : Blend) (olds : List Blend) → drop j old ≡ y ∷ olds → place y ≡ place x → ⊥) where
       none_left : (olds : List Blend) → drop j old ≡ olds → (B : Blend) → Memᴰ B olds → place x < place B
-      none_left [] e B m = absurd (Memᴰ.not_nil m)
+      none_left [] e B m = absurd (Memᴰ.not-nil m)
       none_left (y ∷ olds) e B m =
           let r = at.ahead y (subst (Memᴰ y) (sym e) (Memᴰ.head refl)) in
           let first : place x < place y =

@@ -53,7 +53,7 @@ module _ (P : Layout) (s : Split) where
   unfolding containing
   containing_distinct =
       each_distinct (λ c. c.from) 0 (s.from + 1) starts
-      (λ from. each_distinct (λ c. c.to) s.to (run P s + 1 - s.to) (ends from) (λ to. (λ m. Memᴰ.not_nil m, tt))
+      (λ from. each_distinct (λ c. c.to) s.to (run P s + 1 - s.to) (ends from) (λ to. (λ m. Memᴰ.not-nil m, tt))
       (λ to c m. rw (Memᴰ.eq_of_singleton m)))
       (λ from c m. rw (Memᴰ.eq_of_singleton (each_mem s.to (run P s + 1 - s.to) (ends from) c m).3))
 
@@ -131,7 +131,7 @@ module _ (P : Layout) (s : Split) where
           lowest = λ b c m i e f. let t = taken_says c m in t.lowest b (as_short b c t i e f);
           one = λ b i. let c = some b i in (c.0, singleton c.0 (chosen P s a) chosen_distinct (λ y m. one_taken rises y c.0 m c.1) c.1);
           none = (
-            λ e b i. let c = some b i in Memᴰ.not_nil (subst (Memᴰ c.0) e c.1),
+            λ e b i. let c = some b i in Memᴰ.not-nil (subst (Memᴰ c.0) e c.1),
             λ f. nothing (chosen P s a) (λ c m. f c (is_allowed c (taken_says c m).there)),
           );
         }

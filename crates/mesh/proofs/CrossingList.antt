@@ -52,7 +52,7 @@ module _ (P : Layout) (m n : ℕ) where
 -- blends at one point, at most one of them, and none or some by a test
 at_point : (m n : ℕ) (ys : List Blend) (b : Bool) → ((B : Blend) → Memᴰ B ys → (B.across.m ≡ m) × (B.up.m ≡ n)) → length ys ≤ 1 →
     (b ≡ true → (B : Blend) × Memᴰ B ys) → (b ≡ false → (B : Blend) → Memᴰ B ys → ⊥) → anchors ys ≡ cond b (point m n ∷ []) []
-at_point m n [] true here few some none = absurd (Memᴰ.not_nil (some refl).1)
+at_point m n [] true here few some none = absurd (Memᴰ.not-nil (some refl).1)
 at_point m n [] false here few some none = refl
 at_point m n (B ∷ []) true here few some none =
     let e = here B (Memᴰ.head refl) in

@@ -55,7 +55,7 @@ behind B (drop xs C ys m) = drop (B ∷ xs) C ys (Memᴰ.tail m)
 -- No line cuts any of some blends, or there is a step.
 end_or_step : (M : Mesh) (bs : List Blend) → Rising bs →
     ((C : Blend) → Memᴰ C bs → Uncut M C) ⊎ ((cs : List Blend) × Step M bs cs)
-end_or_step M [] h = inl (λ C m. absurd (Memᴰ.not_nil m))
+end_or_step M [] h = inl (λ C m. absurd (Memᴰ.not-nil m))
 end_or_step M (B ∷ bs) h =
     ⊎_elim
     (λ u. ⊎_elim

@@ -36,7 +36,7 @@ pub first_four_lem : (w h : ℕ) (B : Blend) → Memᴰ B (first_four w h) → F
 first_four_lem w h B m =
     at_head (record { across = is_low; up = is_low })
     (at_head (record { across = is_low; up = is_high })
-    (at_head (record { across = is_high; up = is_low }) (at_head (record { across = is_high; up = is_high }) (λ n. absurd (Memᴰ.not_nil n)))))
+    (at_head (record { across = is_high; up = is_low }) (at_head (record { across = is_high; up = is_high }) (λ n. absurd (Memᴰ.not-nil n)))))
     m
   where
     at_head : {C : Blend} {bs : List Blend} → FirstBlend w h C → (Memᴰ B bs → FirstBlend w h B) → Memᴰ B (C ∷ bs) → FirstBlend w h B
@@ -118,7 +118,7 @@ module _ (w h : ℕ) (hw : 1 ≤ w) (hh : 1 ≤ h) where
       λ y m. ⊎_elim (λ q. at_least y (high w) (low h) q (omega arith)) (λ o. lone y o (omega arith)) (Memᴰ.cases_cons m),
       (
         λ y m. lone y m (omega arith),
-        (λ y m. absurd (Memᴰ.not_nil m), tt),
+        (λ y m. absurd (Memᴰ.not-nil m), tt),
       ),
     ),
   )
@@ -127,7 +127,7 @@ module _ (w h : ℕ) (hw : 1 ≤ w) (hh : 1 ≤ h) where
       at_least {k} y s t q lt = subst (λ (X : Blend). k < place X) (sym q) lt
 
       lone : {k : ℕ} (y : Blend) → Memᴰ y (blend (high w) (high h) ∷ []) → k < place (blend (high w) (high h)) → k < place y
-      lone y m lt = ⊎_elim (λ q. at_least y (high w) (high h) q lt) (λ n. absurd (Memᴰ.not_nil n)) (Memᴰ.cases_cons m)
+      lone y m lt = ⊎_elim (λ q. at_least y (high w) (high h) q lt) (λ n. absurd (Memᴰ.not-nil n)) (Memᴰ.cases_cons m)
 
   -- its live blends are the first four,
   pub fresh_live : h ≤ 128 → live w h (mesh w h []) ≡ first_four w h

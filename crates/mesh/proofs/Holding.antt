@@ -41,7 +41,7 @@ kept_last : (T : List ℕ) (bs : List Blend) → ((C : Blend) → Memᴰ C bs �
     ((C : Blend) × Memᴰ C bs × (place C ≡ i) × (get_or (keep_all T bs) i 0 ≡ packed C)) ⊎
     (((C : Blend) → Memᴰ C bs → place C ≡ i → ⊥) × (get_or (keep_all T bs) i 0 ≡ get_or T i 0))
 unfolding keep_all
-kept_last T [] fit i = inr (λ C m. absurd (Memᴰ.not_nil m), refl)
+kept_last T [] fit i = inr (λ C m. absurd (Memᴰ.not-nil m), refl)
 kept_last T (B ∷ bs) fit i =
     ⊎_elim (λ r. inl (r.0, Memᴰ.tail r.1, r.2, r.3))
     (λ r.

@@ -67,7 +67,7 @@ module _ (e : Side) (d : Direction) (z k : ℕ) where
   note_entry : (T : List ℕ) (bs : List Blend) → k < length T → let c = get_or (note_all e d z T bs) k 0 in
       ((B : Blend) × Beside bs B × (c ≡ noted B)) ⊎ (((B : Blend) → Beside bs B → ⊥) × (c ≡ get_or T k 0))
   unfolding note_all
-  note_entry T [] lt = inr (λ B b. Memᴰ.not_nil b.0, refl)
+  note_entry T [] lt = inr (λ B b. Memᴰ.not-nil b.0, refl)
   note_entry T (B ∷ bs) lt =
       ⊎_elim
       (λ t. rw t (⊎_elim (λ r. inl (r.0, more_beside r.1, r.2))
@@ -223,7 +223,7 @@ module _ (w h : ℕ) (hw : 1 ≤ w) (wide : w ≤ 128) (hh : 1 ≤ h) (high : h 
       where
         of_note : (e : Side) (k : ℕ) → Memᴰ B (if_reached d from to (entry e k)) → Along B
         of_note e k m =
-            ⊎_elim (λ t. subst Along (sym (Memᴰ.eq_of_singleton (rw t at m))) (reached_along e k t)) (λ t. absurd (Memᴰ.not_nil (rw t at m)))
+            ⊎_elim (λ t. subst Along (sym (Memᴰ.eq_of_singleton (rw t at m))) (reached_along e k t)) (λ t. absurd (Memᴰ.not-nil (rw t at m)))
             (either (reached d from to (entry e k)))
 
         at_note : (e : Side) → Memᴰ B (if_reached d from to (entry e (along d B).m)) → Memᴰ B (found (along d B).m)

@@ -1,5 +1,7 @@
 // Lines and blends: the first of the three layers.
 
+#![tactic(auto)]
+
 mod carried;
 mod cut;
 mod exact;

@@ -85,7 +85,7 @@ module _ (start : Buffer) (none : read_number start ≡ 11) where
 
   -- Whole lists:
   nothing : BorderBare start []
-  nothing = record { no_fresh = λ w h m z. Memᴰ.not_nil m; same_outcomes = refl; same_left = refl }
+  nothing = record { no_fresh = λ w h m z. Memᴰ.not-nil m; same_outcomes = refl; same_left = refl }
 
   one_more : (c : PumpCall) (cs : List PumpCall) → Stays c → BorderBare start cs → BorderBare start (c ∷ cs)
   one_more c cs s rest =
