@@ -9,7 +9,7 @@ pub mod shares;
 pub mod supports;
 
 // One axis of a blend: its three knots, rising.
-#[derive(Drop)]
+#[derive(Clone, Copy)]
 pub struct Triple {
     pub l: u8,
     pub m: u8,

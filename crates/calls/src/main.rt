@@ -14,7 +14,7 @@ const ROOM: usize = 32768;
 
 // What goes on from one read to the next: the map; how many bytes at the front of the buffer start a line; whether they follow on a start that was
 // too long to keep; and whether the input has ended.
-#[derive(Drop)]
+#[derive(Clone, Copy)]
 struct State {
     map: Opened,
     held: usize,

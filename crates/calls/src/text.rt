@@ -2,7 +2,7 @@
 ghost use Rattle.std.specs.Prelude.{◌≤◌, ◌<◌, length};
 
 // What a line calls for.
-#[derive(Drop)]
+#[derive(Clone, Copy)]
 pub enum Call {
     History,
     Set,
@@ -18,7 +18,7 @@ pub enum Call {
 }
 
 // The last five numbers of a line, the last in e; not `whole` where the line holds anything else.
-#[derive(Drop)]
+#[derive(Clone, Copy)]
 pub struct Five {
     pub whole: bool,
     pub a: usize,
@@ -29,7 +29,7 @@ pub struct Five {
 }
 
 // A number and the place after it; none where no digit stands there, or too many.
-#[derive(Drop)]
+#[derive(Clone, Copy)]
 pub struct Found {
     pub some: bool,
     pub value: usize,

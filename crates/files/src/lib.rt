@@ -40,7 +40,7 @@ pub(crate) const ENDS: usize = HEAD + TAIL;
 pub const LARGEST_FILE: usize = ENDS + SPLIT * Map::MOST_SPLITS + VALUE * Table::MOST_BLENDS;
 
 // A number, and how many bytes were written.
-#[derive(Drop)]
+#[derive(Clone, Copy)]
 pub struct Written {
     pub number: usize,
     pub length: usize,

@@ -84,7 +84,7 @@ module _ (P : Plain) where
   record_set i j v lt lt_marks = rw (padded_set P.values 1024 0 v _ lt, padded_set P.marks 1024 0 1 _ lt_marks)
 
 -- a map that is passed by value has all the places of its arrays
-pub full : (m : Map) (vs : List Val) → shadow ((row the_type).own m vs) → Full m
+pub full : (m : Map) (vs : List Val) → shadow ((row the_type).own_val m vs) → Full m
 full m vs p =
     record {
       splits = lines_full m.lines p.1.1.0;
@@ -103,10 +103,10 @@ opened_map {m} {t} o whole =
     let f = good_facts m whole o.is_good in
     record { is_good = o.is_good; facts = f; has_table = rw (o.is_table ∙ good_table m o.is_good) f.has_table }
 
-pub good_map : {m : Map} {t : Table} → IsTable m t → (vs : List Val) → shadow ((row the_type).own m vs) → GoodMap m t
+pub good_map : {m : Map} {t : Table} → IsTable m t → (vs : List Val) → shadow ((row the_type).own_val m vs) → GoodMap m t
 good_map {m} o vs p = opened_map o (full m vs p)
 
-pub open_map : (o : Opened) → Opens o → (vs : List Val) → shadow ((row opened.the_type).own o vs) → GoodMap o.map o.table
+pub open_map : (o : Opened) → Opens o → (vs : List Val) → shadow ((row opened.the_type).own_val o vs) → GoodMap o.map o.table
 open_map o is vs p = good_map is _ p.1.1.1.0
 
 -- What opening a record says of it.

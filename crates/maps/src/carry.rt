@@ -10,7 +10,7 @@ use axis::knots::wide;
 use mesh::{Table, knots};
 
 // The values and marks of a table's blends.
-#[derive(Drop)]
+#[derive(Clone, Copy)]
 pub(crate) struct Carried {
     pub values: [u16; Table::MOST_BLENDS],
     pub marks: [u8; Table::MOST_BLENDS],

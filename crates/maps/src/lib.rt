@@ -18,7 +18,7 @@ use mesh::{Lines, Split, Table};
 
 // The record of a map: its lines, which are its sides and its splits in order, and in table order its values and their marks, 1 measured and 0 worked out;
 // all unused places are zero.
-#[derive(Drop)]
+#[derive(Clone, Copy)]
 pub struct Map {
     pub lines: Lines,
     pub values: [u16; Table::MOST_BLENDS],
@@ -82,7 +82,7 @@ fn blank(w: usize, h: usize) -> Map
 }
 
 // A blend in document 01's coordinates.
-#[derive(Drop)]
+#[derive(Clone, Copy)]
 pub struct Shape {
     pub l: i64,
     pub m: i64,
@@ -93,14 +93,14 @@ pub struct Shape {
 }
 
 // A number, and the map that the call hands back.
-#[derive(Drop)]
+#[derive(Clone, Copy)]
 pub struct Changed {
     pub number: usize,
     pub map: Map,
 }
 
 // A number, and the blend, value and mark at a table place.
-#[derive(Drop)]
+#[derive(Clone, Copy)]
 pub struct Placed {
     pub number: usize,
     pub blend: Shape,
@@ -109,14 +109,14 @@ pub struct Placed {
 }
 
 // A number, and a reading in litres a minute.
-#[derive(Drop)]
+#[derive(Clone, Copy)]
 pub struct Reading {
     pub number: usize,
     pub litres: usize,
 }
 
 // A blend with its weight as numerator over denominator.
-#[derive(Drop)]
+#[derive(Clone, Copy)]
 pub struct Weight {
     pub blend: Shape,
     pub numerator: usize,
@@ -124,14 +124,14 @@ pub struct Weight {
 }
 
 // A number, and the weights of the four blends over a unit square, in table order.
-#[derive(Drop)]
+#[derive(Clone, Copy)]
 pub struct Weights {
     pub number: usize,
     pub entries: [Weight; 4],
 }
 
 // A number, how many pairs of neighbouring points lie on different sides of a wanted flow along a row or a column, and the first point of the first pair.
-#[derive(Drop)]
+#[derive(Clone, Copy)]
 pub struct Pairs {
     pub number: usize,
     pub count: usize,
@@ -139,7 +139,7 @@ pub struct Pairs {
 }
 
 // A number, and whether two maps are the same.
-#[derive(Drop)]
+#[derive(Clone, Copy)]
 pub struct Same {
     pub number: usize,
     pub yes: bool,

@@ -24,7 +24,7 @@ use mesh::tables::fresh_table;
 use mesh::{Blend, Split, Table};
 
 // A number, a map, and the table of its live blends; an empty one where its record is not good.
-#[derive(Drop)]
+#[derive(Clone, Copy)]
 pub struct Opened {
     pub number: usize,
     pub map: Map,

@@ -98,7 +98,7 @@ pub(crate) fn place_of(table: Table, m: usize, n: usize) -> usize
 }
 
 // A sum of fractions: a whole number, and a rest over the product of the denominators.
-#[derive(Drop)]
+#[derive(Clone, Copy)]
 struct Sum {
     whole: usize,
     top: usize,
@@ -122,13 +122,13 @@ fn added(s: Sum, b: Blend, value: u16, x: usize, y: usize, u: usize, v: usize) -
 }
 
 // A blend of a table, and its place there.
-#[derive(Drop)]
+#[derive(Clone, Copy)]
 pub(crate) struct Entry {
     pub blend: Blend,
     pub place: usize,
 }
 
-#[derive(Drop)]
+#[derive(Clone, Copy)]
 pub(crate) struct Four {
     pub first: Entry,
     pub second: Entry,

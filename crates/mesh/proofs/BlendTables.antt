@@ -21,12 +21,6 @@ use Rattle.mesh.specs.contracts.Table as tables
 use Rattle.mesh.specs.contracts.Lines as lines
 use Rattle.mesh.proofs.Cuts.{proper_facts, proper_wider, proper_of}
 
-pub table_full : (t : Table) {vs : List Val} → shadow ((row tables.the_type).own t vs) → length t.blends ≡ most_blends
-table_full t p = simp length-map at p.1.1.1.0.1.0.1
-
-pub lines_full : (L : Lines) {vs : List Val} → shadow ((row lines.the_type).own L vs) → length L.splits ≡ most_splits
-lines_full L p = simp length-map at p.1.1.1.1.1.0.1.0.1
-
 -- a table's own blends and their number
 pub table_blends : (bs : List Blend) → blends_of (table bs) ≡ bs
 unfolding table
@@ -59,10 +53,10 @@ module _ (t : Table) (i : ℕ) where
     pub there : Memᴰ (get_or t.blends i none) (blends_of t)
     pub proper : Proper (get_or t.blends i none)
 
-  pub next_blend : {vs : List Val} → shadow ((row tables.the_type).own t vs) → t.count ≤ most_blends → all (proper largest_side largest_side) (blends_of t) ≡ true →
+  pub next_blend : length t.blends ≡ most_blends → t.count ≤ most_blends → all (proper largest_side largest_side) (blends_of t) ≡ true →
       i < t.count → Next
-  next_blend own few e lt =
-      let le : t.count ≤ length t.blends = omega (arith, table_full t own) in
+  next_blend full few e lt =
+      let le : t.count ≤ length t.blends = omega arith in
       let there = left_mem t.blends t.count i le none lt in
       record {
         turn = blends_turn lt le;

@@ -3,7 +3,7 @@ use Prim.Native.Nat.{ℕ, ◌+◌, ◌-◌, ◌*◌, ◌/◌, ◌%◌, ◌≤◌
 use native.Mathlib.Omega.{arith}
 use mathlib.Core.Path.{◌≡◌, refl, sym, ap, subst, ◌∙◌}
 use mathlib.Core.Logic.{◌↔◌, ◌⊎◌, inl, inr, ⊎_elim}
-use mathlib.Core.Bool.{Bool, true, false, ◌&&◌, ◌||◌, not}
+use mathlib.Core.Bool.{cond, Bool, true, false, ◌&&◌, ◌||◌, not}
 use mathlib.Core.List.Memᴰ
 use mathlib.Core.List.{List, [], ◌∷◌, ◌++◌, Memᴰ}
 use lib.Dec.{leb, eqb}
@@ -50,7 +50,7 @@ note_length : (e : Side) (d : Direction) (z : ℕ) (T : List ℕ) (bs : List Ble
 unfolding note_all
 note_length e d z T [] = refl
 note_length e d z T (B ∷ bs) =
-    note_length e d z _ bs ∙ ⊎_elim (λ t. rw t (length-set T _ _)) (λ t. rw t) (either (knot_in e z (crossed d B)))
+    note_length e d z (cond (knot_in e z (crossed d B)) (set T (along d B).m (noted B)) T) bs ∙ ⊎_elim (λ t. rw t (length-set T _ _)) (λ t. rw t) (either (knot_in e z (crossed d B)))
 
 -- Noting some blends leaves at a level the note of one with its anchor there, or what was there where none has it.
 module _ (e : Side) (d : Direction) (z k : ℕ) where

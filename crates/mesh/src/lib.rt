@@ -17,14 +17,14 @@ pub mod tables;
 use axis::Triple;
 
 // A blend: its triples across and up. Its anchor is the two middles, its support the two outer pairs.
-#[derive(Drop)]
+#[derive(Clone, Copy)]
 pub struct Blend {
     pub across: Triple,
     pub up: Triple,
 }
 
 // A split as drawn, in document 01's own coordinates: direction 0 upright, 1 level; before run-out.
-#[derive(Drop)]
+#[derive(Clone, Copy)]
 pub struct Split {
     pub direction: usize,
     pub position: usize,
@@ -33,7 +33,7 @@ pub struct Split {
 }
 
 // The lines of a map: its sides W and H, and the first `count` of the splits.
-#[derive(Drop)]
+#[derive(Clone, Copy)]
 pub struct Lines {
     pub w: usize,
     pub h: usize,
@@ -51,7 +51,7 @@ impl Lines {
 }
 
 // Blends in table order; places from `count` on are zero.
-#[derive(Drop)]
+#[derive(Clone, Copy)]
 pub struct Table {
     pub count: usize,
     pub blends: [Blend; Table::MOST_BLENDS],
@@ -62,14 +62,14 @@ impl Table {
 }
 
 // A yes with a table of blends, or a no with an empty one.
-#[derive(Drop)]
+#[derive(Clone, Copy)]
 pub struct Found {
     pub ok: bool,
     pub table: Table,
 }
 
 // A split's number; the line that is drawn, and the table of blends after it. On a refusal the split and the table as they came.
-#[derive(Drop)]
+#[derive(Clone, Copy)]
 pub struct Step {
     pub number: usize,
     pub split: Split,

@@ -23,7 +23,7 @@ fn refused(number: usize, s: Split, table: Table) -> Step
 }
 
 // What a split comes to: its number, and the line that it draws; on a refusal the split as it came.
-#[derive(Drop)]
+#[derive(Clone, Copy)]
 pub(crate) struct Verdict {
     pub number: usize,
     pub line: Split,

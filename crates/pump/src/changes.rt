@@ -46,7 +46,7 @@ pub extern "C" fn pump_fresh(w: usize, h: usize, buffer: &mut [u8], used: &mut u
 }
 
 // A change of a map: a value is set at an anchor, or a line is drawn within an allowance.
-#[derive(Drop)]
+#[derive(Clone, Copy)]
 pub(crate) enum Change {
     Set(usize, usize, usize),
     Draw(Split, usize),
