@@ -70,6 +70,8 @@ module _ (g : Blend → ℕ) where
 
 -- the blends of the terms are those of the table
 pub paired_of : (bs : List Blend) (vs : List ℕ) (t : Term) → Memᴰ t (paired bs vs) → Memᴰ t.of bs
+paired_of [] vs t m = elim m [ ]
+paired_of (B ∷ bs) [] t m = elim m [ ]
 paired_of (B ∷ bs) (v ∷ vs) t m =
     ⊎_elim (λ q. Memᴰ.head (ap (λ (t : Term). t.of) q)) (λ m. Memᴰ.tail (paired_of bs vs t m)) (Memᴰ.cases_cons m)
 
