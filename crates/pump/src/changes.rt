@@ -37,8 +37,7 @@ fn replace(buffer: &mut [u8], used: &mut usize, refused: usize, next: Opened) ->
     file.number
 }
 
-#[unsafe(no_mangle)]
-pub extern "C" fn pump_fresh(w: usize, h: usize, buffer: &mut [u8], used: &mut usize) -> usize
+pub fn pump_fresh(w: usize, h: usize, buffer: &mut [u8], used: &mut usize) -> usize
     ensures { (result ≡ fresh_number w h buffer.old) × (buffer.new ≡ fresh_bytes w h buffer.old) ×
         (used.new ≡ fresh_used w h buffer.old used.old) }
 {
@@ -77,8 +76,7 @@ fn change_lent(buffer: &mut [u8], used: &mut usize, old: Opened, change: Change)
     }
 }
 
-#[unsafe(no_mangle)]
-pub extern "C" fn pump_set(
+pub fn pump_set(
     buffer: &mut [u8],
     used: &mut usize,
     m: usize,
@@ -94,8 +92,7 @@ pub extern "C" fn pump_set(
     change_lent(buffer, used, old, Change::Set(m, n, value))
 }
 
-#[unsafe(no_mangle)]
-pub extern "C" fn pump_split(
+pub fn pump_split(
     buffer: &mut [u8],
     used: &mut usize,
     direction: usize,

@@ -1,6 +1,8 @@
-// The library for callers in C and other languages: c/pump.h tells each call and number. A map crosses the border as its file.
+// The calls as other languages see them, where a map crosses the border as its file. The crate `pump_c` exports them for C, under the same names:
+// c/pump.h tells each call and number.
 
 #![tactic(auto)]
-mod changes;
+
+pub mod changes;
 mod numbers;
-mod questions;
+pub mod questions;

@@ -14,8 +14,7 @@ use files::listing::list;
 use files::{read, read_opened};
 use maps::{Pairs, Weight};
 
-#[unsafe(no_mangle)]
-pub extern "C" fn pump_place(file: &[u8], place: usize, out: &mut [u8]) -> usize
+pub fn pump_place(file: &[u8], place: usize, out: &mut [u8]) -> usize
     ensures { (result ≡ place_number file.now place out.old) ×
         (out.new ≡ place_after file.now place out.old) }
 {
@@ -31,8 +30,7 @@ pub extern "C" fn pump_place(file: &[u8], place: usize, out: &mut [u8]) -> usize
     number
 }
 
-#[unsafe(no_mangle)]
-pub extern "C" fn pump_reading(file: &[u8], u: usize, v: usize, litres: &mut usize) -> usize
+pub fn pump_reading(file: &[u8], u: usize, v: usize, litres: &mut usize) -> usize
     ensures { (result ≡ reading_number file.now u v) × (litres.new ≡ reading_litres file.now u v) }
 {
     let known = read_opened(file);
@@ -57,8 +55,7 @@ fn put_weights(out: &mut [u8], entries: [Weight; 4])
     }
 }
 
-#[unsafe(no_mangle)]
-pub extern "C" fn pump_weights(file: &[u8], u: usize, v: usize, out: &mut [u8]) -> usize
+pub fn pump_weights(file: &[u8], u: usize, v: usize, out: &mut [u8]) -> usize
     ensures { (result ≡ weights_number file.now u v out.old) ×
         (out.new ≡ weights_after file.now u v out.old) }
 {
@@ -84,8 +81,7 @@ fn tell_pairs(refused: usize, pairs: Pairs, count: &mut usize, at: &mut usize) -
     number
 }
 
-#[unsafe(no_mangle)]
-pub extern "C" fn pump_row(
+pub fn pump_row(
     file: &[u8],
     v: usize,
     wanted: usize,
@@ -100,8 +96,7 @@ pub extern "C" fn pump_row(
     tell_pairs(known.number, known.row(v, wanted), count, first)
 }
 
-#[unsafe(no_mangle)]
-pub extern "C" fn pump_column(
+pub fn pump_column(
     file: &[u8],
     u: usize,
     wanted: usize,
@@ -125,8 +120,7 @@ fn one_or_none(yes: bool) -> usize
     0
 }
 
-#[unsafe(no_mangle)]
-pub extern "C" fn pump_same<'a>(one: &'a [u8], two: &'a [u8], yes: &mut usize) -> usize
+pub fn pump_same<'a>(one: &'a [u8], two: &'a [u8], yes: &mut usize) -> usize
     ensures { (result ≡ same_number one.now two.now) × (yes.new ≡ same_yes one.now two.now) }
 {
     let left = read_opened(one);
@@ -137,16 +131,14 @@ pub extern "C" fn pump_same<'a>(one: &'a [u8], two: &'a [u8], yes: &mut usize) -
     number
 }
 
-#[unsafe(no_mangle)]
-pub extern "C" fn pump_check(file: &[u8]) -> usize
+pub fn pump_check(file: &[u8]) -> usize
     ensures { result ≡ check_number file.now }
 {
     let known = read(file);
     known.number
 }
 
-#[unsafe(no_mangle)]
-pub extern "C" fn pump_payload(
+pub fn pump_payload(
     bytes: &[u8],
     place: usize,
     from: &mut usize,
@@ -166,8 +158,7 @@ pub extern "C" fn pump_payload(
     0
 }
 
-#[unsafe(no_mangle)]
-pub extern "C" fn pump_table(file: &[u8], out: &mut [u8], count: &mut usize) -> usize
+pub fn pump_table(file: &[u8], out: &mut [u8], count: &mut usize) -> usize
     ensures { (result ≡ text_number file.now out.old) × (out.new ≡ text_after file.now out.old) ×
         (count.new ≡ (text_written file.now out.old).length) }
 {
