@@ -1,12 +1,18 @@
 // Reads lists of calls on standard input, a line each, and prints each line with ` = ` and its answer.
+#![tactic(auto)]
+
 mod answers;
 mod show;
 mod text;
 
-ghost use Rattle.std.specs.Prelude.{◌≤◌, length};
+ghost use Rattle.std.specs.Prelude.{◌≤◌, length, IfOk};
 ghost use Rattle.maps.specs.Opened.{Opens};
 
+use crate::show::Out;
 use maps::opened::{Opened, fresh};
+use std::io;
+use std::io::Read;
+use std::rt::Stdin;
 
 // The longest call, `same ` and the largest file in hexadecimal, has 26,045 bytes (zeros before a
 // number may make any call longer).
@@ -38,41 +44,41 @@ fn line_end(input: &[u8], from: usize) -> usize
 }
 
 // Answers a line, of which the end alone may be left.
-fn line(map: Opened, bytes: &[u8], long: bool, out: &mut [u8], at: &mut usize) -> Opened
+fn line(map: Opened, bytes: &[u8], long: bool, out: &mut Out) -> io::Result<Opened>
     requires { Opens map }
-    ensures { Opens result }
+    ensures { IfOk result (λ r. Opens r) }
 {
     if long {
-        answers::answer_rest(bytes, out, at);
-        show::text(b"\n", out, at);
-        return map;
+        answers::answer_rest(bytes, out)?;
+        show::text(b"\n", out)?;
+        return Ok(map);
     }
-    let next = answers::answer(map, bytes, out, at);
-    show::text(b"\n", out, at);
-    next
+    let next = answers::answer(map, bytes, out)?;
+    show::text(b"\n", out)?;
+    Ok(next)
 }
 
 // Answers each whole line; `held` is then where the rest starts.
-fn whole_lines(s: State, input: &[u8], out: &mut [u8], at: &mut usize) -> State
+fn whole_lines(s: State, input: &[u8], out: &mut Out) -> io::Result<State>
     requires { Opens s.map }
-    ensures { Opens result.map × (result.held ≤ length input.now) }
+    ensures { IfOk result (λ r. Opens r.map × (r.held ≤ length input.now)) }
 {
     let mut map = s.map;
     let mut long = s.long;
     let mut from = 0;
     let mut to = line_end(input, from);
     while to < input.len() {
-        map = line(map, &input[from..to], long, out, at);
+        map = line(map, &input[from..to], long, out)?;
         long = false;
         from = to + 1;
         to = line_end(input, from);
     }
-    State {
+    Ok(State {
         map: map,
         held: from,
         long: long,
         ended: false,
-    }
+    })
 }
 
 // Moves the bytes between two places to the front, and counts them.
@@ -89,70 +95,68 @@ fn to_front(input: &mut [u8], from: usize, to: usize) -> usize
 }
 
 // A line that fills the buffer is no call: its bytes are shown and given up, and it is answered with `?` where it ends.
-fn with_room(s: State, input: &[u8], out: &mut [u8], at: &mut usize) -> State
+fn with_room(s: State, input: &[u8], out: &mut Out) -> io::Result<State>
     requires { Opens s.map }
-    ensures { Opens result.map × (result.held ≤ length input.now) }
+    ensures { IfOk result (λ r. Opens r.map × (r.held ≤ length input.now)) }
 {
     if s.held < input.len() {
-        return s;
+        return Ok(s);
     }
-    show::text(input, out, at);
+    show::text(input, out)?;
     let mut next = s;
     next.held = 0;
     next.long = true;
-    next
+    Ok(next)
 }
 
-// Reads once behind the held bytes, and tells where they then end. A read that fails leaves none of them: their line may be cut short.
-fn read_on(input: &mut [u8], held: usize) -> usize
+// Reads once behind the held bytes, and tells where they then end.
+fn read_on(from: &mut Stdin, input: &mut [u8], held: usize) -> io::Result<usize>
     requires { held ≤ length input.old }
-    ensures { result ≤ length input.new }
+    ensures { IfOk result (λ to. to ≤ length input.new) }
 {
-    let got = libc::read(libc::STDIN_FILENO, &mut input[held..]);
-    if got < 0 {
-        return 0;
-    }
-    held + io::count(got, &input[held..])
+    let got = from.read(&mut input[held..])?;
+    Ok(held + got)
 }
 
-// Reads once and answers the lines that are whole.
-fn turn(s: State, input: &mut [u8], out: &mut [u8], at: &mut usize) -> State
+// Reads once and answers the lines that are whole. After a read that fails none of the held bytes are answered: their line may be cut short.
+fn turn(s: State, from: &mut Stdin, input: &mut [u8], out: &mut Out) -> io::Result<State>
     requires { Opens s.map }
-    ensures { Opens result.map }
+    ensures { IfOk result (λ r. Opens r.map) }
 {
-    let mut now = with_room(s, input, out, at);
+    let mut now = with_room(s, input, out)?;
     let held = now.held;
-    let to = read_on(input, held);
+    let to = read_on(from, input, held)?;
     if to <= held {
         now.held = to;
         now.ended = true;
-        return now;
+        return Ok(now);
     }
-    let mut next = whole_lines(now, &input[..to], out, at);
+    let mut next = whole_lines(now, &input[..to], out)?;
     let from = next.held;
     next.held = to_front(input, from, to);
-    next
+    Ok(next)
 }
 
 // Answers the last line, where its line end is missing.
-fn last_line(s: State, input: &[u8], out: &mut [u8], at: &mut usize)
+fn last_line(s: State, input: &[u8], out: &mut Out) -> io::Result<()>
     requires { Opens s.map }
 {
     let held = s.held;
     if held == 0 {
         if !s.long {
-            return;
+            return Ok(());
         }
     }
     if held <= input.len() {
         let map = s.map;
-        line(map, &input[..held], s.long, out, at);
+        line(map, &input[..held], s.long, out)?;
     }
+    Ok(())
 }
 
 // A proved loop has to end, and nothing says that an input does: the turns count down from a number that no run uses up. What a turn answers is
 // written before the next one reads, for whoever waits for it.
-fn run(input: &mut [u8], out: &mut [u8]) {
+fn run(from: &mut Stdin, input: &mut [u8], out: &mut Out) -> io::Result<()> {
     let map = fresh(1, 1);
     let mut s = State {
         map: map,
@@ -160,22 +164,21 @@ fn run(input: &mut [u8], out: &mut [u8]) {
         long: false,
         ended: false,
     };
-    let mut at: usize = 0;
     let mut turns = u64::MAX;
     while turns > 0 {
         if s.ended {
             break;
         }
-        s = turn(s, input, out, &mut at);
-        show::flush(out, &mut at);
+        s = turn(s, from, input, out)?;
+        out.flush()?;
         turns -= 1;
     }
-    last_line(s, input, out, &mut at);
-    show::flush(out, &mut at);
+    last_line(s, input, out)?;
+    out.flush()
 }
 
-fn main() {
+fn main(rt: HostRuntime) -> io::Result<()> {
     let mut input = [0u8; ROOM];
-    let mut out = [0u8; ROOM];
-    run(&mut input, &mut out);
+    let mut out = Out::new(rt.stdout());
+    run(&mut rt.stdin(), &mut input, &mut out)
 }

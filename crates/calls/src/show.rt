@@ -1,89 +1,112 @@
-// Answers as text, gathered in a lent buffer: `at` counts the bytes that wait there for standard output.
+// Answers as text, gathered in a buffer that goes to standard output when it is full, and when whoever waits is to see it.
+use itoa::Buffer;
 use maps::{Shape, Weight, Weights};
+use std::io;
+use std::io::Print;
+use std::rt::Stdout;
 
-// Writes what waits.
-pub fn flush(out: &[u8], at: &mut usize) {
-    let n = *at;
-    *at = 0;
-    if n <= out.len() {
-        io::write_all(libc::STDOUT_FILENO, &out[..n]);
+// What waits for standard output: the first `at` bytes.
+#[derive(Drop)]
+pub struct Out {
+    to: Stdout,
+    bytes: [u8; Out::ROOM],
+    at: usize,
+}
+
+impl Out {
+    pub const ROOM: usize = 32768;
+
+    pub fn new(to: Stdout) -> Out {
+        Out {
+            to,
+            bytes: [0u8; Out::ROOM],
+            at: 0,
+        }
+    }
+
+    // Writes what waits.
+    pub fn flush(&mut self) -> io::Result<()> {
+        let n = self.at;
+        self.at = 0;
+        if n <= self.bytes.len() {
+            self.to.write_all(&self.bytes[..n])?;
+        }
+        Ok(())
     }
 }
 
-fn byte(x: u8, out: &mut [u8], at: &mut usize) {
-    if out.len() <= *at {
-        flush(out, at);
+fn byte(x: u8, out: &mut Out) -> io::Result<()> {
+    if out.bytes.len() <= out.at {
+        out.flush()?;
     }
-    let n = *at;
-    if n < out.len() {
-        out[n] = x;
-        *at = n + 1;
+    let n = out.at;
+    if n < out.bytes.len() {
+        out.bytes[n] = x;
+        out.at = n + 1;
     }
+    Ok(())
 }
 
-pub fn text(bytes: &[u8], out: &mut [u8], at: &mut usize) {
-    let mut i = 0;
-    while i < bytes.len() {
-        byte(bytes[i], out, at);
-        i += 1;
+pub fn text(bytes: &[u8], out: &mut Out) -> io::Result<()> {
+    for x in bytes {
+        byte(*x, out)?;
     }
+    Ok(())
 }
 
 // A blank and a number.
-pub fn number(n: usize, out: &mut [u8], at: &mut usize) {
-    let mut digits = [0u8; 20];
-    let k = io::decimal(n as u64, &mut digits);
-    byte(b' ', out, at);
-    text(&digits[..k], out, at);
+pub fn number(n: usize, out: &mut Out) -> io::Result<()> {
+    let mut digits = Buffer::new();
+    byte(b' ', out)?;
+    text(digits.format(n).as_bytes(), out)
 }
 
 // A blank and a coordinate: −1, or a number from 0 on.
-fn coordinate(n: i64, out: &mut [u8], at: &mut usize) {
+fn coordinate(n: i64, out: &mut Out) -> io::Result<()> {
     if n < 0 {
-        text(b" -1", out, at);
-        return;
+        return text(b" -1", out);
     }
-    number(n as usize, out, at);
+    number(n as usize, out)
 }
 
-fn triple(a: i64, b: i64, c: i64, out: &mut [u8], at: &mut usize) {
-    coordinate(a, out, at);
-    coordinate(b, out, at);
-    coordinate(c, out, at);
+fn triple(a: i64, b: i64, c: i64, out: &mut Out) -> io::Result<()> {
+    coordinate(a, out)?;
+    coordinate(b, out)?;
+    coordinate(c, out)
 }
 
-pub fn shape(s: Shape, out: &mut [u8], at: &mut usize) {
-    triple(s.l, s.m, s.r, out, at);
-    triple(s.b, s.n, s.t, out, at);
+pub fn shape(s: Shape, out: &mut Out) -> io::Result<()> {
+    triple(s.l, s.m, s.r, out)?;
+    triple(s.b, s.n, s.t, out)
 }
 
-fn weight(w: Weight, out: &mut [u8], at: &mut usize) {
-    shape(w.blend, out, at);
-    number(w.numerator, out, at);
-    number(w.denominator, out, at);
+fn weight(w: Weight, out: &mut Out) -> io::Result<()> {
+    shape(w.blend, out)?;
+    number(w.numerator, out)?;
+    number(w.denominator, out)
 }
 
-fn next_weight(w: Weight, out: &mut [u8], at: &mut usize) {
-    text(b" ;", out, at);
-    weight(w, out, at);
+fn next_weight(w: Weight, out: &mut Out) -> io::Result<()> {
+    text(b" ;", out)?;
+    weight(w, out)
 }
 
-pub fn four(w: Weights, out: &mut [u8], at: &mut usize) {
+pub fn four(w: Weights, out: &mut Out) -> io::Result<()> {
     let a = w.entries[0];
     let b = w.entries[1];
     let c = w.entries[2];
     let d = w.entries[3];
-    weight(a, out, at);
-    next_weight(b, out, at);
-    next_weight(c, out, at);
-    next_weight(d, out, at);
+    weight(a, out)?;
+    next_weight(b, out)?;
+    next_weight(c, out)?;
+    next_weight(d, out)
 }
 
 // A byte as two hexadecimal digits.
-pub fn hex(x: u8, out: &mut [u8], at: &mut usize) {
+pub fn hex(x: u8, out: &mut Out) -> io::Result<()> {
     let digits = b"0123456789abcdef";
     let high = (x / 16) as usize;
     let low = (x % 16) as usize;
-    byte(digits[high], out, at);
-    byte(digits[low], out, at);
+    byte(digits[high], out)?;
+    byte(digits[low], out)
 }
