@@ -27,10 +27,10 @@ point_by M d z p =
 pub returns-then-not-some_on : goal.returns-then-not-some_on
 unfolding ended
 returns-then-not-some_on c =
-    rw (← crossing c.args.s.direction c.requires.2, point_by, sym c.some_on.ensures ∙ c.if-not-some_on.true)
+    rw (← crossing c.args.s.direction c.requires.2, point_by _ _ (c.args.s.from + 1) _, sym c.some_on.ensures ∙ c.if-not-some_on.true)
 
 pub returns : goal.returns
 unfolding ended
 returns c =
     c.some_on-2.ensures ∙
-    rw (← crossing c.args.s.direction c.requires.2, point_by, point_by, sym c.some_on.ensures ∙ c.if-not-some_on.false)
+    rw (← crossing c.args.s.direction c.requires.2, point_by _ _ (c.args.s.from + 1) _, point_by, sym c.some_on.ensures ∙ c.if-not-some_on.false)
