@@ -47,7 +47,10 @@ loop-from-preserved c =
       reaches = omega arith;
       none = l.invariant.none;
       ahead = λ i. search_passes i c.search.length l.from (l.invariant.ahead i)
-          (λ le t. elim c.if-c-run.branch [ then-c-run+else-good_ends w ↦ true_not_false _ (w.good_ends.ensures ∙ t) w.if-good_ends.false | else-c-run w ↦ omega arith ]);
+          (λ le t. elim c.if-c-run.branch [
+            | then-c-run+else-good_ends w ↦ true_not_false _ (w.good_ends.ensures ∙ t) w.if-good_ends.false
+            | else-c-run w ↦ omega arith
+          ]);
     }
 
 pub search-preserved : goal.search-preserved
