@@ -1,18 +1,17 @@
-use Rattle.std.proofs.Common.{rules, ◌≡◌, true, cond, ℕ, ◌+◌, ◌-◌, ◌≤◌, ◌*◌, ◌<◌, length, ◌/◌, ◌%◌, Bool, false, nat_eq, nat_lt, List, [], ◌∷◌, ◌++◌, slice_index_or, slice_set, bit_and, bit_or, Fits, w8, w32, w64, Bor, MutBor}
-use Rattle.axis.specs.Range.{every}
-use Rattle.axis.specs.Triple.{Rises}
-use Rattle.mesh.specs.Lines.{upright, level}
-use Rattle.axis.specs.Nearest.{below, above, nearest}
-use Rattle.mesh.specs.Blends.{cutter, leaves, size}
-use Rattle.mesh.specs.Sound.{Proper}
-use Rattle.mesh.specs.Bytes.{Rows, step_on, bytes_mesh, keep, keep_all}
-use Rattle.mesh.specs.Carried.{RowsOf}
+-- `mesh::cut::first_line` meets its contract.
+use Rattle.std.proofs.Common.{sym, ◌∙◌}
+use Rattle.axis.proofs.Nearest.{nearest_under, nearest_beyond}
+use Rattle.mesh.proofs.Cutting.{over}
 use Rattle.mesh.proofs.cut.first_line.Goals as goal
 
--- src/cut.rt:57:9
 pub returns-then-z-ne0 : goal.returns-then-z-ne0
-returns-then-z-ne0 c = ?
+returns-then-z-ne0 c =
+    let a = c.args in
+    let low = c.nearest_below-z.ensures in
+    rw (nearest_under (over a.steps.now a.b a.n) a.x (λ e. c.if-z-ne0.true (low ∙ e))) low
 
--- src/cut.rt:51:1
 pub returns : goal.returns
-returns c = ?
+returns c =
+    let a = c.args in
+    let low = c.nearest_below-z.ensures in
+    rw (nearest_beyond (over a.steps.now a.b a.n) a.x (sym low ∙ c.if-z-ne0.false)) c.nearest_above.ensures
