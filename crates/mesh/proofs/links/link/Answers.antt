@@ -55,7 +55,7 @@ loop-k-preserved c =
     let here = l.invariant.left l.k (omega arith) in
     let looked = c.wide.ensures ∙ here in
     elim c.if-z-wide.branch [
-      then-z-wide w ↦ rw w.links-is
+      | then-z-wide w ↦ rw w.links-is
           (next l.invariant lt c.requires.1 (omega arith) (is_set a.links.now a.z l.k lt (subst (λ n. a.z < n) looked w.if-z-wide.true)))
       | else-z-wide w ↦ rw w.links-is (passed l.invariant lt (here ∙ stays a.links.now a.z l.k (subst (λ n. n ≤ a.z) looked w.if-z-wide.false)))
     ]
