@@ -21,7 +21,8 @@ use Rattle.mesh.specs.declared.Split.{Split}
 use Rattle.mesh.specs.declared.Blend.{Blend}
 use Rattle.axis.proofs.Tests.{either, and_both}
 use Rattle.mesh.proofs.Cuts.{proper_facts}
-use Rattle.mesh.proofs.Ranges.{in_range_rows}
+use Rattle.mesh.proofs.Ranges.{Small, in_range_small, in_range_rows, side_most}
+use Rattle.mesh.proofs.Passing.{ends_in}
 use Rattle.mesh.proofs.BlendTables.{proper_largest}
 use Rattle.mesh.proofs.SoundMaps.{live_proper}
 use Rattle.mesh.proofs.OneLineMore.{more_finer, in_bytes_more}
@@ -44,6 +45,16 @@ module _ {w h : ℕ} {ss : List Split} {ups lvs cols rows places : List ℕ} (no
   carried_walks =
       let a = carried_sides in
       held_walks w h a.0 a.1 a.2 a.3 ss cols rows places now.tall.2.0 now.held now.lines.over_columns now.lines.over_rows
+
+  -- a split in range, and the side that it runs along
+  module _ (s : Split) (fits : in_range w h s ≡ true) where
+    pub carried_small : Small s
+    carried_small = let a = carried_sides in in_range_small w h s fits a.1 a.3
+
+    pub carried_run : {run : ℕ} → run ≡ side (other (direction s.direction)) w h → (s.to ≤ run) × (run ≤ 128)
+    carried_run e =
+        let a = carried_sides in
+        rw e ((ends_in (layout w h ss) s fits).1, side_most (other (direction s.direction)) a.1 a.3)
 
   -- the rows of a split's position and ends
   pub carried_rows : (s : Split) → in_range w h s ≡ true → Rows (s.position + 2) ups × Rows (s.position + 2) lvs × Rows (s.to + 2) ups × Rows (s.to + 2) lvs
