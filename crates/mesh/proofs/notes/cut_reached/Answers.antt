@@ -85,15 +85,15 @@ loop-k-preserved c =
     let here = turned (rest_turn d a.from a.to a.lows.now a.highs.now l.k (omega arith)) l.invariant.1 in
     -- after the first of the two
     let half : Keeping (bytes_mesh a.uprights.now a.levels.now) a.places.now (all_reached d a.from a.to a.lows.now a.highs.now) c.if-is_reached.places
-        (if_reached d a.from a.to high ++ rest d a.from a.to a.lows.now a.highs.now (l.k + 1)) =
-        elim c.if-is_reached.branch [
-          then-is_reached w ↦
-              rw w.places-is (cut_note d a.from a.to low here (sym c.is_reached.ensures ∙ w.if-is_reached.true) _ w.from_note.ensures w.cut_across.ensures)
-          | else-is_reached w ↦ rw w.places-is (pass_note d a.from a.to low here (sym c.is_reached.ensures ∙ w.if-is_reached.false))
-        ] in (
+    (if_reached d a.from a.to high ++ rest d a.from a.to a.lows.now a.highs.now (l.k + 1)) =
+    elim c.if-is_reached.branch [
+      | then-is_reached w ↦
+          rw w.places-is (cut_note d a.from a.to low here (sym c.is_reached.ensures ∙ w.if-is_reached.true) _ w.from_note.ensures w.cut_across.ensures)
+      | else-is_reached w ↦ rw w.places-is (pass_note d a.from a.to low here (sym c.is_reached.ensures ∙ w.if-is_reached.false))
+    ] in (
       omega arith,
       elim c.if-is_reached-2.branch [
-        then-is_reached-2 w ↦ rw w.places-is
+        | then-is_reached-2 w ↦ rw w.places-is
             (cut_note d a.from a.to high half (sym c.is_reached-in-loop-k.ensures ∙ w.if-is_reached-2.true) _
             w.from_note-then-is_reached-2.ensures w.cut_across-then-is_reached-2.ensures)
         | else-is_reached-2 w ↦ rw w.places-is

@@ -52,7 +52,7 @@ loop-n-preserved c =
       omega (arith, c.wide-n.ensures),
       rw c.wide-n.ensures
           (elim c.if-c-ne0.branch [
-            then-c-ne0 w ↦
+            | then-c-ne0 w ↦
                 let here = turned (place_holds a.w a.h a.places.now walks m l.n (omega arith) (omega arith) w.if-c-ne0.true) l.invariant.1 in
                 let e = rw w.unpack.ensures at w.note.ensures in
                 rw (w.lows-is, w.highs-is) (one_more _ here e.0 e.1)

@@ -11,4 +11,4 @@ loop-k-preserved c =
     let less : a.to - l.k - 1 ≡ a.to - (l.k + 1) = omega arith in
     let turn = some_turn l.k (a.to - l.k) (at a.lows.now a.highs.now a.number a.from a.to) (omega arith) in
     sym (sym l.invariant ∙ turn ∙
-        rw (less, sym c.is_reached.ensures ∙ c.if-is_reached.false, sym c.is_reached-in-loop-k.ensures ∙ c.if-is_reached-2.false))
+    rw (less, sym c.is_reached.ensures ∙ c.if-is_reached.false, sym c.is_reached-in-loop-k.ensures ∙ c.if-is_reached-2.false))
