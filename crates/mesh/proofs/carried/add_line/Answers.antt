@@ -1,7 +1,8 @@
 -- `mesh::carried::add_line` meets its contract: the split is drawn in both directions' bytes, and its knot is linked in its own direction.
-use Rattle.std.proofs.Common.{ℕ, ◌+◌, ◌<◌, ◌≡◌, refl, List, arith}
-use mathlib.Core.Bool.{◌||◌}
-use Rattle.mesh.specs.Lines.{Direction, upright, level, draws}
+use Rattle.std.proofs.Common.{ℕ, ◌+◌, ◌≤◌, ◌<◌, ◌≡◌, refl, List, arith}
+use mathlib.Core.Bool.{true, ◌||◌}
+use Rattle.axis.specs.Limits.{largest_side}
+use Rattle.mesh.specs.Lines.{Direction, upright, level, in_range, draws}
 use Rattle.mesh.specs.Bytes.{step_on, bytes_mesh}
 use Rattle.mesh.specs.declared.Split.{Split}
 use Rattle.mesh.proofs.Ranges.{in_range_small, in_range_says, in_range_rows}
@@ -16,6 +17,10 @@ both_drawn : (ups ups' lvs lvs' : List ℕ) (w h : ℕ) (s : Split) →
 unfolding bytes_mesh
 both_drawn ups ups' lvs lvs' w h s f g upright = f
 both_drawn ups ups' lvs lvs' w h s f g level = g
+
+-- a split in range has its knot
+in_knots : (w h : ℕ) (s : Split) → in_range w h s ≡ true → w ≤ largest_side → h ≤ largest_side → s.position + 1 < 131
+in_knots w h s e wide high = omega (arith, (in_range_small w h s e wide high).position)
 
 pub draw_split-requires : goal.draw_split-requires
 draw_split-requires c =
@@ -32,12 +37,10 @@ draw_split-requires-2 c =
     (rows.0, pre.4, λ e. let r = in_range_says a.w a.h level a.s pre.6 e in (omega arith, r.1, r.2))
 
 pub overflow_add-s : goal.overflow_add-s
-overflow_add-s c = omega (arith, (in_range_small c.args.w c.args.h c.args.s c.requires.6 c.requires.4 c.requires.5).position)
+overflow_add-s c = omega (arith, in_knots c.args.w c.args.h c.args.s c.requires.6 c.requires.4 c.requires.5)
 
 pub link-requires : goal.link-requires
-link-requires c =
-    let small = in_range_small c.args.w c.args.h c.args.s c.requires.6 c.requires.4 c.requires.5 in
-    (c.requires.2, omega (arith, small.position))
+link-requires c = (c.requires.2, in_knots c.args.w c.args.h c.args.s c.requires.6 c.requires.4 c.requires.5)
 
 pub returns-then-s-eq0 : goal.returns-then-s-eq0
 returns-then-s-eq0 c =
@@ -54,12 +57,10 @@ returns-then-s-eq0 c =
     )
 
 pub overflow_add-s-2 : goal.overflow_add-s-2
-overflow_add-s-2 c = omega (arith, (in_range_small c.args.w c.args.h c.args.s c.requires.6 c.requires.4 c.requires.5).position)
+overflow_add-s-2 c = omega (arith, in_knots c.args.w c.args.h c.args.s c.requires.6 c.requires.4 c.requires.5)
 
 pub link-requires-2 : goal.link-requires-2
-link-requires-2 c =
-    let small = in_range_small c.args.w c.args.h c.args.s c.requires.6 c.requires.4 c.requires.5 in
-    (c.requires.3, omega (arith, small.position))
+link-requires-2 c = (c.requires.3, in_knots c.args.w c.args.h c.args.s c.requires.6 c.requires.4 c.requires.5)
 
 pub returns : goal.returns
 returns c =

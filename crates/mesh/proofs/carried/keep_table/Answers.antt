@@ -1,5 +1,5 @@
 -- `mesh::carried::keep_table` meets its contract.
-use Rattle.std.proofs.Common.{arith, ◌≡◌, length}
+use Rattle.std.proofs.Common.{arith}
 use Rattle.mesh.specs.Bytes.{keep_all}
 use Rattle.mesh.proofs.BlendTables.{blends_end, Next, next_blend}
 use Rattle.mesh.proofs.carried.keep_table.Goals as goal

@@ -1,5 +1,5 @@
 -- The lines of the splits so far are drawn and linked.
-use Rattle.std.proofs.Common.{◌-◌, ◌≤◌, ◌≡◌, length}
+use Rattle.std.proofs.Common.{◌-◌, ◌≤◌}
 use lib.ListN.{take}
 use Rattle.mesh.specs.Lines.{mesh}
 use Rattle.mesh.specs.Carried.{InBytes}

@@ -7,8 +7,8 @@ use Rattle.mesh.specs.Bytes.{step_on, bytes_mesh}
 use Rattle.mesh.specs.Carried.{Leads, Bare, InBytes}
 use Rattle.mesh.proofs.carried.load_sides.Goals as goal
 
-both_fresh : (w h : ℕ) (ups lvs : List ℕ) → ((z k : ℕ) → step_on ups z k ≡ fresh_mesh w h upright z k) → ((z k : ℕ) → step_on lvs z k ≡ fresh_mesh w h level z k) →
-    bytes_mesh ups lvs ≡ fresh_mesh w h
+both_fresh : (w h : ℕ) (ups lvs : List ℕ) → ((z k : ℕ) → step_on ups z k ≡ fresh_mesh w h upright z k) →
+    ((z k : ℕ) → step_on lvs z k ≡ fresh_mesh w h level z k) → bytes_mesh ups lvs ≡ fresh_mesh w h
 unfolding bytes_mesh
 both_fresh w h ups lvs f g = fun_ext by_direction
   where
