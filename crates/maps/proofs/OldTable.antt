@@ -8,7 +8,6 @@ use mathlib.Core.List.{List, [], ◌∷◌, ◌++◌, map, map-append, append_as
 use lib.ListN.{length, get_or, set, take, replicate, length-map}
 use lib.Seq.{get_or-take, take-length, take-suc, length-take-le, set_at}
 use Rattle.mesh.specs.declared.Table.{Table}
-use Rattle.mesh.specs.Blends.{at}
 use Rattle.axis.specs.Range.{all}
 use Rattle.mesh.specs.Sound.{proper, sound, blends_of, AllProperIn}
 use Rattle.axis.proofs.Tests.{all_of}

@@ -1,6 +1,7 @@
 // Maps: a pump's lines and values, and the calls on them. The second of the three layers.
 
 #![tactic(auto)]
+
 mod calls;
 mod carry;
 pub mod opened;
