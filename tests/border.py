@@ -1,6 +1,6 @@
 #!/usr/bin/env python3
 """Holds what is said of the calls from C together: c/pump.h, the declarations of tests/rust/src/ffi.rs, the source in
-crates/pump/src and the archive target/staticlib/libpump.a.
+crates/pump_c/src and the archive target/staticlib/libpump.a.
 
 The C compiler is the judge of types: target/border.c declares each function of the header again as Rust and as Rattle
 have it, and compares constants. Names and order of parameters are compared here.
@@ -59,9 +59,9 @@ def by_rust():
 
 
 def by_rattle():
-    source = "".join(re.sub(r"//.*", "", path.read_text()) for path in sorted(pathlib.Path("crates/pump/src").glob("*.rt")))
-    found = re.findall(r'#\[no_mangle\]\s+pub extern "C" fn (\w+)(?:<[^>]*>)?\(([^)]*)\) -> (\w+)', source)
-    need(len(found) == source.count('extern "C"'), "a function of crates/pump is written in a way that is not read here")
+    source = "".join(re.sub(r"//.*", "", path.read_text()) for path in sorted(pathlib.Path("crates/pump_c/src").glob("*.rt")))
+    found = re.findall(r'#\[unsafe\(no_mangle\)\]\s+pub extern "C" fn (\w+)(?:<[^>]*>)?\(([^)]*)\) -> (\w+)', source)
+    need(len(found) == source.count('extern "C"'), "a function of crates/pump_c is written in a way that is not read here")
     functions = {}
     for name, inside, answer in found:
         parameters = []
@@ -109,7 +109,7 @@ def run(*command):
 def main():
     header, rust, rattle, values = by_header(), by_rust(), by_rattle(), constants()
     lines = ['#include "pump.h"']
-    for where, functions in (("tests/rust/src/ffi.rs", rust), ("crates/pump/src", rattle)):
+    for where, functions in (("tests/rust/src/ffi.rs", rust), ("crates/pump_c/src", rattle)):
         lines.append(f"/* {where} */")
         lines += [declaration(name, function) for name, function in functions.items()]
     told = {constant: values[name] for constant, name in CONSTANTS.items()}
@@ -119,7 +119,7 @@ def main():
     compiled = subprocess.run("cc -std=c99 -Wall -Wextra -Werror -Ic -c -o target/border.o target/border.c".split())
     need(compiled.returncode == 0, "c/pump.h declares something else")
 
-    for where, functions in (("tests/rust/src/ffi.rs", rust), ("crates/pump/src", rattle)):
+    for where, functions in (("tests/rust/src/ffi.rs", rust), ("crates/pump_c/src", rattle)):
         for name in sorted(header.keys() | functions.keys()):
             here, there = header.get(name), functions.get(name)
             need(here == there, f"{name}: c/pump.h has {here}, {where} {there}")

@@ -2,16 +2,16 @@
 """Does what README.md shows, as README.md has it, in its order: command lines are run, the C program is saved and compiled, and what
 is shown to be printed must be printed. A command may use nothing below target/ that no earlier line of README.md has made.
 
-Checks and .ci/run are not run: what they make must be there.
+tools/build.sh and .ci/run are not run: what they make must be there.
 """
 import pathlib
 import re
 import subprocess
 import sys
 
-WORDS = ("rt ", "cc ", "python3 ", "target/", ".ci/run")
-# Checks and .ci/run take minutes, and .ci/run runs this.
-LONG = ("rt check ", ".ci/run")
+WORDS = ("tools/build.sh ", "cc ", "python3 ", "target/", ".ci/run")
+# What proves takes minutes, and .ci/run does it before it runs this.
+LONG = ("tools/build.sh ", ".ci/run")
 
 
 def need(holds, what):
@@ -48,10 +48,8 @@ class Page:
             need(name in self.made, f"nothing has made {name} yet: {command}")
             need(pathlib.Path(name).exists(), f"there is no {name}: {command}")
         self.made.update(made)
-        if command.startswith("rt check "):
-            self.made.update("target/bin/" + name for name in command.split()[2:])
-        if command.startswith("rt staticlib "):
-            self.made.update(f"target/staticlib/lib{name}.a" for name in command.split()[2:])
+        if command.startswith("tools/build.sh "):
+            self.made.update("target/staticlib/libpump.a" if name == "pump" else "target/bin/" + name for name in command.split()[1:])
         if command.startswith(LONG):
             return ""
         done = subprocess.run(["bash", "-c", command], capture_output=True, text=True)

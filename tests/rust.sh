@@ -1,5 +1,5 @@
 #!/usr/bin/env bash
-# Runs the tests from Rust against the archive; needs `rt staticlib pump` (tests/examples.sh makes it). The seed is printed.
+# Runs the tests from Rust against the archive; needs `tools/build.sh`. The seed is printed.
 set -eu
 cd "$(dirname "$0")/.."
 . tests/seed.sh

@@ -1,5 +1,5 @@
 #!/usr/bin/env bash
-# Runs the outside vectors through the compiled programs and compares every answer. Needs `rt check` (or `rt ci`) to have built them.
+# Runs the outside vectors through the compiled programs and compares every answer. Needs `tools/build.sh`.
 set -eu
 cd "$(dirname "$0")/.."
 part=$(mktemp -d)
@@ -8,7 +8,7 @@ failed=0
 
 for program in calls table; do
   if [ ! -x "target/bin/$program" ]; then
-    echo "vectors: there is no target/bin/$program; \`rt check $program\` builds it"
+    echo "vectors: there is no target/bin/$program; \`tools/build.sh $program\` builds it"
     exit 1
   fi
 done
