@@ -1,5 +1,5 @@
 -- `mesh::exact::runs_to` meets its contract: one step on at a time, while steps are on.
-use Rattle.std.proofs.Common.{ℕ, zero, suc, ◌+◌, ◌-◌, ◌≤◌, ◌<◌, ◌≡◌, sym, ◌∙◌, Bool, true, false, arith}
+use Rattle.std.proofs.Common.{ℕ, zero, suc, ◌+◌, ◌-◌, ◌<◌, ◌≡◌, sym, ◌∙◌, Bool, true, false, arith}
 use Rattle.mesh.specs.Carried.{runs_to}
 use Rattle.mesh.proofs.exact.runs_to.Goals as goal
 

@@ -1,5 +1,5 @@
 -- `mesh::read::read_out` meets its contract: one column after the other, and in each one place after the other.
-use Rattle.std.proofs.Common.{◌+◌, ◌≤◌, arith}
+use Rattle.std.proofs.Common.{arith}
 use Rattle.mesh.specs.Bytes.{walk}
 use Rattle.mesh.proofs.Reading.{walk_columns, column_leads, row_leads, column_ends, columns_end, place_empty, place_holds}
 use Rattle.mesh.proofs.Reading.{read_none, read_more, read_room, read_all}

@@ -1,7 +1,5 @@
 -- `mesh::splits::split_in` meets its contract: one step, with the line found.
 use Rattle.std.proofs.Common.{◌≡◌, sym, ◌∙◌, length, arith}
-use Rattle.mesh.specs.Lines.{splits_of, layout_of}
-use Rattle.mesh.specs.Replay.{Replays}
 use Rattle.mesh.proofs.Accepted.{counted_lines, lines_replay}
 use Rattle.mesh.proofs.Stepping.{carried_walks, carried_short}
 use Rattle.mesh.proofs.Replaying.{verdict_told, verdict_drawn}

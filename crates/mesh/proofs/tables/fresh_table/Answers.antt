@@ -1,10 +1,9 @@
 -- `mesh::tables::fresh_table` meets its contract: an empty table, or the first four blends.
-use Rattle.std.proofs.Common.{◌≡◌, ap, ◌∙◌, sym, true, ℕ, List, [], ◌∷◌}
+use Rattle.std.proofs.Common.{◌≡◌, ap, ◌∙◌, sym, ℕ, List, [], ◌∷◌}
 use lib.ListN.{get_or}
 use Rattle.mesh.specs.declared.Found.{Found}
 use Rattle.mesh.specs.declared.Blend.{Blend}
 use Rattle.mesh.specs.Blends.{first_four}
-use Rattle.mesh.specs.Lines.{allowed_side}
 use Rattle.mesh.specs.Sound.{none, table, fresh_table}
 use Rattle.mesh.proofs.BlendTables.{four_set}
 use Rattle.mesh.proofs.tables.fresh_table.Goals as goal
