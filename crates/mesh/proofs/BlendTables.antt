@@ -4,21 +4,15 @@ use native.Mathlib.Omega.{arith}
 use mathlib.Core.Path.{◌≡◌, refl, ap}
 use mathlib.Core.Bool.{true}
 use mathlib.Core.List.{List, [], ◌∷◌, Memᴰ}
-use lib.ListN.{length, get_or, set, drop, replicate, length-map}
+use lib.ListN.{length, get_or, set, drop, replicate}
 use lib.Seq.{take-append_seam}
-use mir.Val.{Val}
-use denote.Shadow.{shadow}
-use denote.Struct.Declared.{row}
-use Rattle.axis.specs.Limits.{largest_side, most_splits, most_blends}
+use Rattle.axis.specs.Limits.{largest_side, most_blends}
 use Rattle.axis.specs.Range.{all}
 use Rattle.mesh.specs.Sound.{proper, Proper, none, table, blends_of}
 use Rattle.mesh.specs.declared.Blend.{Blend}
 use Rattle.mesh.specs.declared.Table.{Table}
-use Rattle.mesh.specs.declared.Lines.{Lines}
 use Rattle.axis.proofs.Tests.{all_at, all_of}
 use Rattle.axis.proofs.Entries.{none_left, left_turn, left_mem}
-use Rattle.mesh.specs.contracts.Table as tables
-use Rattle.mesh.specs.contracts.Lines as lines
 use Rattle.mesh.proofs.Cuts.{proper_facts, proper_wider, proper_of}
 
 -- a table's own blends and their number

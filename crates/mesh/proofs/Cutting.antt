@@ -9,7 +9,7 @@ use Rattle.axis.specs.Range.{every}
 use Rattle.axis.specs.Triple.{Side, lower, upper, half}
 use Rattle.mesh.specs.Lines.{Direction, upright, level, other, Mesh}
 use Rattle.mesh.specs.Bytes.{step_on, keep, keep_all}
-use Rattle.mesh.specs.Sound.{Proper, proper, none}
+use Rattle.mesh.specs.Sound.{Proper, none}
 use Rattle.mesh.specs.Blends.{crossed, cutter, halve, leaves, leaves_of, size}
 use Rattle.axis.specs.declared.Triple.{Triple}
 use Rattle.mesh.specs.declared.Blend.{Blend}

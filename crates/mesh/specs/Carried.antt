@@ -5,7 +5,7 @@ use Rattle.axis.specs.Limits.{largest_side}
 use Rattle.axis.specs.Range.{each, only}
 use Rattle.axis.specs.Triple.{Side, lower, upper, knot_in}
 use Rattle.mesh.specs.Lines.{Direction, upright, level, direction, other, side, Mesh, mesh, Layout, layout}
-use Rattle.mesh.specs.Blends.{crossed, along, anchored, at, live}
+use Rattle.mesh.specs.Blends.{crossed, along, anchored, live}
 use Rattle.mesh.specs.Splits.{given}
 use Rattle.mesh.specs.Lengthening.{steps_of}
 use Rattle.mesh.specs.Replay.{Replays}
