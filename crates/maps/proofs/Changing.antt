@@ -9,7 +9,10 @@ use borrow.Author.Tests.{eqb-true, eqb-false, ltb-true, ltb-false, le-ltb, lt-lt
 use lib.Dec.{ltb, eqb}
 use lib.ListN.{length, get_or, set, take, replicate, length-append, length-map, length-set}
 use lib.Seq.{get_or-take, set-append_seam, set-append_left}
-use Rattle.mesh.proofs.BlendTables.{table_count, table_blends}
+use mir.Val.{Val}
+use denote.Shadow.{shadow}
+use denote.Struct.Declared.{row}
+use Rattle.mesh.proofs.BlendTables.{lines_full, table_count, table_blends}
 use Rattle.axis.specs.Range.{all}
 use Rattle.axis.proofs.Members.{entry}
 use Rattle.axis.proofs.Tests.{all_of, either, cond_true, cond_false}
@@ -35,6 +38,8 @@ use Rattle.maps.specs.Calls.{changed, drawn_first, set_plain, set_value, split_w
 use Rattle.maps.specs.Opened.{with_table, opened, IsTable, Opens}
 use Rattle.maps.specs.Inner.{with_split, in_array, InTable, Grown, carried_arrays}
 use Rattle.maps.specs.Holds.{Holds}
+use Rattle.maps.specs.contracts.Map.{the_type}
+use Rattle.maps.specs.contracts.opened.Opened as opened
 use Rattle.maps.proofs.Readings.{place_found}
 use Rattle.maps.proofs.Opening.{good_table}
 use Rattle.maps.proofs.GoodRecords.{record_good, GoodFacts, good_facts, set_holds, drawn_holds}
@@ -78,6 +83,15 @@ module _ (P : Plain) where
   unfolding record_of set_plain
   record_set i j v lt lt_marks = rw (padded_set P.values 1024 0 v _ lt, padded_set P.marks 1024 0 1 _ lt_marks)
 
+-- a map that is passed by value has all the places of its arrays
+pub full : (m : Map) (vs : List Val) → shadow ((row the_type).own_val m vs) → Full m
+full m vs p =
+    record {
+      splits = lines_full m.lines p.1.1.0;
+      values = p.1.1.1.0.1.0.1;
+      marks = p.1.1.1.1.0.1.0.1;
+    }
+
 -- a good record, and the table of its live blends
 pub record GoodMap (m : Map) (t : Table) : Type 0 where
   pub is_good : good m ≡ true
@@ -88,6 +102,12 @@ pub opened_map : {m : Map} {t : Table} → IsTable m t → Full m → GoodMap m 
 opened_map {m} {t} o whole =
     let f = good_facts m whole o.is_good in
     record { is_good = o.is_good; facts = f; has_table = rw (o.is_table ∙ good_table m o.is_good) f.has_table }
+
+pub good_map : {m : Map} {t : Table} → IsTable m t → (vs : List Val) → shadow ((row the_type).own_val m vs) → GoodMap m t
+good_map {m} o vs p = opened_map o (full m vs p)
+
+pub open_map : (o : Opened) → Opens o → (vs : List Val) → shadow ((row opened.the_type).own_val o vs) → GoodMap o.map o.table
+open_map o is vs p = good_map is _ p.1.1.1.0
 
 -- What opening a record says of it.
 module _ (m : Map) (o : Opened) (e : o ≡ opened m) where

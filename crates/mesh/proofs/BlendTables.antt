@@ -6,14 +6,26 @@ use mathlib.Core.Bool.{true}
 use mathlib.Core.List.{List, [], ◌∷◌, Memᴰ}
 use lib.ListN.{length, get_or, set, drop, replicate}
 use lib.Seq.{take-append_seam}
-use Rattle.axis.specs.Limits.{largest_side, most_blends}
+use mir.Val.{Val}
+use denote.Shadow.{shadow}
+use denote.Struct.Declared.{row}
+use Rattle.axis.specs.Limits.{largest_side, most_splits, most_blends}
 use Rattle.axis.specs.Range.{all}
 use Rattle.mesh.specs.Sound.{proper, Proper, none, table, blends_of}
 use Rattle.mesh.specs.declared.Blend.{Blend}
 use Rattle.mesh.specs.declared.Table.{Table}
+use Rattle.mesh.specs.declared.Lines.{Lines}
 use Rattle.axis.proofs.Tests.{all_at, all_of}
 use Rattle.axis.proofs.Entries.{none_left, left_turn, left_mem}
+use Rattle.mesh.specs.contracts.Table as tables
+use Rattle.mesh.specs.contracts.Lines as lines
 use Rattle.mesh.proofs.Cuts.{proper_facts, proper_wider, proper_of}
+
+pub table_full : (t : Table) {vs : List Val} → shadow ((row tables.the_type).own_val t vs) → length t.blends ≡ most_blends
+table_full t p = p.1.1.1.0.1.0.1
+
+pub lines_full : (L : Lines) {vs : List Val} → shadow ((row lines.the_type).own_val L vs) → length L.splits ≡ most_splits
+lines_full L p = p.1.1.1.1.1.0.1.0.1
 
 -- a table's own blends and their number
 pub table_blends : (bs : List Blend) → blends_of (table bs) ≡ bs
