@@ -1,4 +1,5 @@
 // Answers as text, gathered in a buffer that goes to standard output when it is full, and when whoever waits is to see it.
+use crate::ROOM;
 use itoa::Buffer;
 use maps::{Shape, Weight, Weights};
 use std::io;
@@ -9,17 +10,15 @@ use std::rt::Stdout;
 #[derive(Drop)]
 pub struct Out {
     to: Stdout,
-    bytes: [u8; Out::ROOM],
+    bytes: [u8; ROOM],
     at: usize,
 }
 
 impl Out {
-    pub const ROOM: usize = 32768;
-
     pub fn new(to: Stdout) -> Out {
         Out {
             to,
-            bytes: [0u8; Out::ROOM],
+            bytes: [0u8; ROOM],
             at: 0,
         }
     }
