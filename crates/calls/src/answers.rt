@@ -1,6 +1,5 @@
 // One call: its line is taken apart, the library is asked, and the answer is shown. A line that is no call is answered with `?`. The map stays
 // opened from call to call, so that no call replays its record.
-ghost use Rattle.std.specs.Prelude.{IfOk};
 ghost use Rattle.maps.specs.Opened.{Opens};
 
 use crate::show::Out;
@@ -10,156 +9,154 @@ use files::LARGEST_FILE;
 use maps::Map;
 use maps::opened::{Opened, fresh};
 use mesh::{Lines, Split};
-use std::io;
 
-fn no_call(out: &mut Out) -> io::Result<()> {
-    show::text(b" = ?", out)
+fn no_call(out: &mut Out) {
+    show::text(b" = ?", out);
 }
 
-fn told(n: usize, out: &mut Out) -> io::Result<()> {
-    show::text(b" =", out)?;
-    show::number(n, out)
+fn told(n: usize, out: &mut Out) {
+    show::text(b" =", out);
+    show::number(n, out);
 }
 
 // A list starts on a fresh map; a side out of range is refused with 1.
-fn history(map: Opened, line: &[u8], out: &mut Out) -> io::Result<Opened>
+fn history(map: Opened, line: &[u8], out: &mut Out) -> Opened
     requires { Opens map }
-    ensures { IfOk result (λ r. Opens r) }
+    ensures { Opens result }
 {
     let n = text::numbers(line, 7, 2);
     if !n.whole {
-        no_call(out)?;
-        return Ok(map);
+        no_call(out);
+        return map;
     }
     let r = fresh(n.d, n.e);
     if r.number != 0 {
-        told(r.number, out)?;
+        told(r.number, out);
     }
-    Ok(r)
+    r
 }
 
-fn set(map: Opened, line: &[u8], out: &mut Out) -> io::Result<Opened>
+fn set(map: Opened, line: &[u8], out: &mut Out) -> Opened
     requires { Opens map }
-    ensures { IfOk result (λ r. Opens r) }
+    ensures { Opens result }
 {
     let n = text::numbers(line, 3, 3);
     let value = n.e;
     if !n.whole {
-        no_call(out)?;
-        return Ok(map);
+        no_call(out);
+        return map;
     }
     if 65535 < value {
-        no_call(out)?;
-        return Ok(map);
+        no_call(out);
+        return map;
     }
     let r = map.set(n.c, n.d, value as u16);
-    told(r.number, out)?;
-    Ok(r)
+    told(r.number, out);
+    r
 }
 
-fn place(map: Opened, line: &[u8], out: &mut Out) -> io::Result<()>
+fn place(map: Opened, line: &[u8], out: &mut Out)
     requires { Opens map }
 {
     let n = text::numbers(line, 5, 1);
     if !n.whole {
-        return no_call(out);
+        no_call(out);
+        return;
     }
     let r = map.place(n.e);
-    told(r.number, out)?;
+    told(r.number, out);
     if r.number == 0 {
-        show::shape(r.blend, out)?;
-        show::number(r.value, out)?;
-        show::number(r.mark, out)?;
+        show::shape(r.blend, out);
+        show::number(r.value, out);
+        show::number(r.mark, out);
     }
-    Ok(())
 }
 
-fn reading(map: Opened, line: &[u8], out: &mut Out) -> io::Result<()>
+fn reading(map: Opened, line: &[u8], out: &mut Out)
     requires { Opens map }
 {
     let n = text::numbers(line, 7, 2);
     if !n.whole {
-        return no_call(out);
+        no_call(out);
+        return;
     }
     let r = map.reading(n.d, n.e);
-    told(r.number, out)?;
+    told(r.number, out);
     if r.number == 0 {
-        show::number(r.litres, out)?;
+        show::number(r.litres, out);
     }
-    Ok(())
 }
 
-fn weights(map: Opened, line: &[u8], out: &mut Out) -> io::Result<()>
+fn weights(map: Opened, line: &[u8], out: &mut Out)
     requires { Opens map }
 {
     let n = text::numbers(line, 7, 2);
     if !n.whole {
-        return no_call(out);
+        no_call(out);
+        return;
     }
     let r = map.weights(n.d, n.e);
-    told(r.number, out)?;
+    told(r.number, out);
     if r.number == 0 {
-        show::four(r, out)?;
+        show::four(r, out);
     }
-    Ok(())
 }
 
 // Along a row, or up a column: the number, then how many pairs and the first. `word` is the length of the call's word.
-fn along(map: Opened, row: bool, line: &[u8], word: usize, out: &mut Out) -> io::Result<()>
+fn along(map: Opened, row: bool, line: &[u8], word: usize, out: &mut Out)
     requires { Opens map }
 {
     let n = text::numbers(line, word, 2);
     if !n.whole {
-        return no_call(out);
+        no_call(out);
+        return;
     }
     let r = if row {
         map.row(n.d, n.e)
     } else {
         map.column(n.d, n.e)
     };
-    told(r.number, out)?;
+    told(r.number, out);
     if r.number == 0 {
-        show::number(r.count, out)?;
-        show::number(r.first, out)?;
+        show::number(r.count, out);
+        show::number(r.first, out);
     }
-    Ok(())
 }
 
 // The ends of the last split, as kept in the record.
-fn ends(lines: Lines, out: &mut Out) -> io::Result<()> {
+fn ends(lines: Lines, out: &mut Out) {
     let count = lines.count;
     if count < 1 {
-        return Ok(());
+        return;
     }
     if Map::MOST_SPLITS < count {
-        return Ok(());
+        return;
     }
     let s = lines.splits[count - 1];
-    show::number(s.from, out)?;
-    show::number(s.to, out)
+    show::number(s.from, out);
+    show::number(s.to, out);
 }
 
 // A split's number, then its ends and the count of live blends.
-fn told_split(r: Opened, out: &mut Out) -> io::Result<()> {
-    told(r.number, out)?;
+fn told_split(r: Opened, out: &mut Out) {
+    told(r.number, out);
     if r.number == 0 {
         let map = r.map;
         let lines = map.lines;
-        ends(lines, out)?;
-        show::number(r.table.count, out)?;
+        ends(lines, out);
+        show::number(r.table.count, out);
     }
-    Ok(())
 }
 
 // A split with its allowance.
-fn split(map: Opened, line: &[u8], out: &mut Out) -> io::Result<Opened>
+fn split(map: Opened, line: &[u8], out: &mut Out) -> Opened
     requires { Opens map }
-    ensures { IfOk result (λ r. Opens r) }
+    ensures { Opens result }
 {
     let n = text::numbers(line, 5, 5);
     if !n.whole {
-        no_call(out)?;
-        return Ok(map);
+        no_call(out);
+        return map;
     }
     let s = Split {
         direction: n.a,
@@ -168,49 +165,50 @@ fn split(map: Opened, line: &[u8], out: &mut Out) -> io::Result<Opened>
         to: n.d,
     };
     let r = map.split(s, n.e);
-    told_split(r, out)?;
-    Ok(r)
+    told_split(r, out);
+    r
 }
 
 // Sameness with another map, given as the hexadecimal bytes of its file; a line whose bytes are no file is no call.
-fn same(map: Opened, line: &[u8], out: &mut Out) -> io::Result<()>
+fn same(map: Opened, line: &[u8], out: &mut Out)
     requires { Opens map }
 {
     let mut bytes = [0u8; LARGEST_FILE];
     let n = text::unhex(line, 5, &mut bytes);
     let other = files::read_opened(&bytes[..n]);
     if other.number != 0 {
-        return no_call(out);
+        no_call(out);
+        return;
     }
     let r = map.same(other);
-    told(r.number, out)?;
+    told(r.number, out);
     if r.yes {
-        return show::text(b" yes", out);
+        show::text(b" yes", out);
+        return;
     }
-    show::text(b" no", out)
+    show::text(b" no", out);
 }
 
 // The bytes of the map's file, in hexadecimal.
-fn file(map: Opened, out: &mut Out) -> io::Result<()>
+fn file(map: Opened, out: &mut Out)
     requires { Opens map }
 {
     let mut bytes = [0u8; LARGEST_FILE];
     let r = files::write_opened(map, &mut bytes);
-    show::text(b" = ", out)?;
+    show::text(b" = ", out);
     let n = r.length;
     let mut i = 0;
     while i < n {
         if LARGEST_FILE <= i {
-            return Ok(());
+            return;
         }
-        show::hex(bytes[i], out)?;
+        show::hex(bytes[i], out);
         i += 1;
     }
-    Ok(())
 }
 
 // A question on the map, or no call.
-fn question(call: Call, map: Opened, line: &[u8], out: &mut Out) -> io::Result<()>
+fn question(call: Call, map: Opened, line: &[u8], out: &mut Out)
     requires { Opens map }
 {
     match call {
@@ -226,23 +224,23 @@ fn question(call: Call, map: Opened, line: &[u8], out: &mut Out) -> io::Result<(
 }
 
 // Answers one line, and hands back the map for the next.
-pub(crate) fn answer(map: Opened, line: &[u8], out: &mut Out) -> io::Result<Opened>
+pub(crate) fn answer(map: Opened, line: &[u8], out: &mut Out) -> Opened
     requires { Opens map }
-    ensures { IfOk result (λ r. Opens r) }
+    ensures { Opens result }
 {
-    show::text(line, out)?;
+    show::text(line, out);
     let call = text::call_of(line);
     match call {
         Call::History => return history(map, line, out),
         Call::Set => return set(map, line, out),
         Call::Split => return split(map, line, out),
-        _ => question(call, map, line, out)?,
+        _ => question(call, map, line, out),
     }
-    Ok(map)
+    map
 }
 
 // Answers the end of a line whose start was too long to keep: no call is that long.
-pub(crate) fn answer_rest(rest: &[u8], out: &mut Out) -> io::Result<()> {
-    show::text(rest, out)?;
-    no_call(out)
+pub(crate) fn answer_rest(rest: &[u8], out: &mut Out) {
+    show::text(rest, out);
+    no_call(out);
 }

@@ -5,7 +5,7 @@ mod answers;
 mod show;
 mod text;
 
-ghost use Rattle.std.specs.Prelude.{◌≤◌, length, IfOk};
+ghost use Rattle.std.specs.Prelude.{◌≤◌, length};
 ghost use Rattle.maps.specs.Opened.{Opens};
 
 use crate::show::Out;
@@ -44,41 +44,41 @@ fn line_end(input: &[u8], from: usize) -> usize
 }
 
 // Answers a line, of which the end alone may be left.
-fn line(map: Opened, bytes: &[u8], long: bool, out: &mut Out) -> io::Result<Opened>
+fn line(map: Opened, bytes: &[u8], long: bool, out: &mut Out) -> Opened
     requires { Opens map }
-    ensures { IfOk result (λ r. Opens r) }
+    ensures { Opens result }
 {
     if long {
-        answers::answer_rest(bytes, out)?;
-        show::text(b"\n", out)?;
-        return Ok(map);
+        answers::answer_rest(bytes, out);
+        show::text(b"\n", out);
+        return map;
     }
-    let next = answers::answer(map, bytes, out)?;
-    show::text(b"\n", out)?;
-    Ok(next)
+    let next = answers::answer(map, bytes, out);
+    show::text(b"\n", out);
+    next
 }
 
 // Answers each whole line; `held` is then where the rest starts.
-fn whole_lines(s: State, input: &[u8], out: &mut Out) -> io::Result<State>
+fn whole_lines(s: State, input: &[u8], out: &mut Out) -> State
     requires { Opens s.map }
-    ensures { IfOk result (λ r. Opens r.map × (r.held ≤ length input.now)) }
+    ensures { Opens result.map × (result.held ≤ length input.now) }
 {
     let mut map = s.map;
     let mut long = s.long;
     let mut from = 0;
     let mut to = line_end(input, from);
     while to < input.len() {
-        map = line(map, &input[from..to], long, out)?;
+        map = line(map, &input[from..to], long, out);
         long = false;
         from = to + 1;
         to = line_end(input, from);
     }
-    Ok(State {
+    State {
         map: map,
         held: from,
         long: long,
         ended: false,
-    })
+    }
 }
 
 // Moves the bytes between two places to the front, and counts them.
@@ -95,68 +95,69 @@ fn to_front(input: &mut [u8], from: usize, to: usize) -> usize
 }
 
 // A line that fills the buffer is no call: its bytes are shown and given up, and it is answered with `?` where it ends.
-fn with_room(s: State, input: &[u8], out: &mut Out) -> io::Result<State>
+fn with_room(s: State, input: &[u8], out: &mut Out) -> State
     requires { Opens s.map }
-    ensures { IfOk result (λ r. Opens r.map × (r.held ≤ length input.now)) }
+    ensures { Opens result.map × (result.held ≤ length input.now) }
 {
     if s.held < input.len() {
-        return Ok(s);
+        return s;
     }
-    show::text(input, out)?;
+    show::text(input, out);
     let mut next = s;
     next.held = 0;
     next.long = true;
-    Ok(next)
+    next
 }
 
-// Reads once behind the held bytes, and tells where they then end.
-fn read_on(from: &mut Stdin, input: &mut [u8], held: usize) -> io::Result<usize>
+// Reads once behind the held bytes, and tells where they then end. A read that fails leaves none of them: their line may be cut short.
+fn read_on(from: &mut Stdin, input: &mut [u8], held: usize) -> usize
     requires { held ≤ length input.old }
-    ensures { IfOk result (λ to. to ≤ length input.new) }
+    ensures { result ≤ length input.new }
 {
-    let got = from.read(&mut input[held..])?;
-    Ok(held + got)
+    match from.read(&mut input[held..]) {
+        Ok(got) => held + got,
+        Err(_) => 0,
+    }
 }
 
-// Reads once and answers the lines that are whole. After a read that fails none of the held bytes are answered: their line may be cut short.
-fn turn(s: State, from: &mut Stdin, input: &mut [u8], out: &mut Out) -> io::Result<State>
+// Reads once and answers the lines that are whole.
+fn turn(s: State, from: &mut Stdin, input: &mut [u8], out: &mut Out) -> State
     requires { Opens s.map }
-    ensures { IfOk result (λ r. Opens r.map) }
+    ensures { Opens result.map }
 {
-    let mut now = with_room(s, input, out)?;
+    let mut now = with_room(s, input, out);
     let held = now.held;
-    let to = read_on(from, input, held)?;
+    let to = read_on(from, input, held);
     if to <= held {
         now.held = to;
         now.ended = true;
-        return Ok(now);
+        return now;
     }
-    let mut next = whole_lines(now, &input[..to], out)?;
+    let mut next = whole_lines(now, &input[..to], out);
     let from = next.held;
     next.held = to_front(input, from, to);
-    Ok(next)
+    next
 }
 
 // Answers the last line, where its line end is missing.
-fn last_line(s: State, input: &[u8], out: &mut Out) -> io::Result<()>
+fn last_line(s: State, input: &[u8], out: &mut Out)
     requires { Opens s.map }
 {
     let held = s.held;
     if held == 0 {
         if !s.long {
-            return Ok(());
+            return;
         }
     }
     if held <= input.len() {
         let map = s.map;
-        line(map, &input[..held], s.long, out)?;
+        line(map, &input[..held], s.long, out);
     }
-    Ok(())
 }
 
 // A proved loop has to end, and nothing says that an input does: the turns count down from a number that no run uses up. What a turn answers is
-// written before the next one reads, for whoever waits for it.
-fn run(from: &mut Stdin, input: &mut [u8], out: &mut Out) -> io::Result<()> {
+// written before the next one reads, for whoever waits for it; where that fails, nobody does.
+fn run(from: &mut Stdin, input: &mut [u8], out: &mut Out) {
     let map = fresh(1, 1);
     let mut s = State {
         map: map,
@@ -169,16 +170,20 @@ fn run(from: &mut Stdin, input: &mut [u8], out: &mut Out) -> io::Result<()> {
         if s.ended {
             break;
         }
-        s = turn(s, from, input, out)?;
-        out.flush()?;
+        if out.has_failed() {
+            break;
+        }
+        s = turn(s, from, input, out);
+        out.flush();
         turns -= 1;
     }
-    last_line(s, input, out)?;
-    out.flush()
+    last_line(s, input, out);
+    out.flush();
 }
 
 fn main(rt: HostRuntime) -> io::Result<()> {
     let mut input = [0u8; ROOM];
     let mut out = Out::new(rt.stdout());
-    run(&mut rt.stdin(), &mut input, &mut out)
+    run(&mut rt.stdin(), &mut input, &mut out);
+    out.end()
 }

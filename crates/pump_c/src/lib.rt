@@ -2,7 +2,7 @@
 
 #![tactic(auto)]
 
-ghost use Rattle.std.specs.Prelude.{◌≡◌, ◌≤◌, length};
+ghost use Rattle.std.specs.Prelude.{◌≡◌};
 ghost use Rattle.maps.specs.Calls.{split_within};
 ghost use Rattle.files.specs.Calls.{payload_number};
 ghost use Rattle.pump.specs.Border.{fresh_number, fresh_bytes, fresh_used, change_number, change_bytes, change_used, set_wide, split_of, place_number, place_after, weights_number, weights_after, reading_number, reading_litres, pairs_number, pairs_count, pairs_first, same_number, same_yes, check_number, payload_from, payload_count};
