@@ -9,7 +9,7 @@ good_self : (c : Start) → GoodMap c.args.self.map c.args.self.table
 good_self c = opened_map c.requires (record { splits = omega arith; values = omega arith; marks = omega arith })
 
 pub returns-then-table-i : goal.returns-then-table-i
-returns-then-table-i c = c.no_place.ensures ∙ place_none (good_self (goal.at.returns-then-table-i c).Start) _ c.if-table-i.true
+returns-then-table-i c = c.no_place.ensures ∙ place_none (good_self (goal.at.returns-then-table-i c).Start) _ (omega arith)
 
 pub offset_bounds-table-i : goal.offset_bounds-table-i
 offset_bounds-table-i c = omega (arith, few (good_self (goal.at.offset_bounds-table-i c).Start))
