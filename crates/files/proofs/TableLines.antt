@@ -2,6 +2,7 @@
 use Prim.Native.Nat.{ℕ, ◌+◌, ◌*◌, ◌-◌, ◌/◌, ◌≤◌, ◌<◌}
 use native.Mathlib.Omega.{arith}
 use mathlib.Core.Path.{◌≡◌, refl, ap, ◌∙◌}
+use mathlib.Core.Bool.{true, false}
 use mathlib.Core.Logic.{⊎_elim}
 use mathlib.Core.List.{List, [], ◌∷◌, ◌++◌, Memᴰ}
 use borrow.Author.Tests.{ltb-true, ltb-false, eqb-true, eqb-false}
@@ -25,8 +26,8 @@ use Rattle.files.proofs.Texts.{next_room, puts_then, one_digit, more_digits, out
 -- a number that is less than ten times another has at most one digit more
 tenth : (k most : ℕ) → ((m : ℕ) → m < most → length (digits m) ≤ k) → (n : ℕ) → n < 10 * most → length (digits n) ≤ k + 1
 tenth k most short n lt =
-    ⊎_elim (λ (t : ltb n 10 ≡ _). rw (one_digit n (ltb-true n 10 t)) (omega arith))
-    (λ (e : ltb n 10 ≡ _).
+    ⊎_elim (λ (t : ltb n 10 ≡ true). rw (one_digit n (ltb-true n 10 t)) (omega arith))
+    (λ (e : ltb n 10 ≡ false).
     let s = short (n / 10) (omega arith) in
     rw (more_digits n (ltb-false n 10 e), length-append) (omega (arith, s)))
     (either (ltb n 10))
@@ -39,8 +40,8 @@ digits_short = tenth 4 10000 (tenth 3 1000 mark_digits)
 
 spaced_short : (k : ℕ) → k ≤ 130 → length (spaced k) ≤ 6
 spaced_short k le =
-    ⊎_elim (λ (t : eqb k 0 ≡ _). rw (outer_coordinate k (eqb-true k 0 t)) (omega arith))
-    (λ (e : eqb k 0 ≡ _).
+    ⊎_elim (λ (t : eqb k 0 ≡ true). rw (outer_coordinate k (eqb-true k 0 t)) (omega arith))
+    (λ (e : eqb k 0 ≡ false).
     let s = digits_short (k - 1) (omega arith) in
     rw (length-append, inner_coordinate k (eqb-false k 0 e)) (omega (arith, s)))
     (either (eqb k 0))

@@ -1,6 +1,7 @@
 // Map files: the third of the three layers.
 
 #![tactic(auto)]
+
 pub mod bytes;
 mod compare;
 pub mod listing;

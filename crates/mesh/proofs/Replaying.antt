@@ -47,6 +47,9 @@ cleared w h n lw lh =
 
 -- What a split comes to: refused with 3 to 7, or found within the allowance.
 module _ (P : Layout) (s : Split) where
+  pub verdict_refused : (a : ℕ) {n : ℕ} → n ≡ given P s → (n ≡ 0 → ⊥) → told_of n s ≡ verdict P s a
+  verdict_refused a e ne = rw (← e, ne_eqb _ 0 ne)
+
   pub verdict_found : (a : ℕ) → given P s ≡ 0 → {v : Verdict} → v ≡ found_by s (steps_of s + a) (nearest_good P s) → v ≡ verdict P s a
   verdict_found a e is = is ∙ sym (cond_true _ _ _ (eq-eqb _ _ e))
 

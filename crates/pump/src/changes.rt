@@ -76,13 +76,7 @@ fn change_lent(buffer: &mut [u8], used: &mut usize, old: Opened, change: Change)
     }
 }
 
-pub fn pump_set(
-    buffer: &mut [u8],
-    used: &mut usize,
-    m: usize,
-    n: usize,
-    value: usize,
-) -> usize
+pub fn pump_set(buffer: &mut [u8], used: &mut usize, m: usize, n: usize, value: usize) -> usize
     ensures { (result ≡ change_number (λ old. set_wide old m n value) buffer.old used.old) ×
         (buffer.new ≡ change_bytes (λ old. set_wide old m n value) buffer.old used.old) ×
         (used.new ≡ change_used (λ old. set_wide old m n value) buffer.old used.old) }

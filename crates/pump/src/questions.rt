@@ -81,13 +81,7 @@ fn tell_pairs(refused: usize, pairs: Pairs, count: &mut usize, at: &mut usize) -
     number
 }
 
-pub fn pump_row(
-    file: &[u8],
-    v: usize,
-    wanted: usize,
-    count: &mut usize,
-    first: &mut usize,
-) -> usize
+pub fn pump_row(file: &[u8], v: usize, wanted: usize, count: &mut usize, first: &mut usize) -> usize
     ensures { (result ≡ pairs_number (λ m. row_pairs m v wanted) file.now) ×
         (count.new ≡ pairs_count (λ m. row_pairs m v wanted) file.now) ×
         (first.new ≡ pairs_first (λ m. row_pairs m v wanted) file.now) }
@@ -138,12 +132,7 @@ pub fn pump_check(file: &[u8]) -> usize
     known.number
 }
 
-pub fn pump_payload(
-    bytes: &[u8],
-    place: usize,
-    from: &mut usize,
-    count: &mut usize,
-) -> usize
+pub fn pump_payload(bytes: &[u8], place: usize, from: &mut usize, count: &mut usize) -> usize
     ensures { (result ≡ payload_number bytes.now place) × (from.new ≡ payload_from bytes.now place) ×
         (count.new ≡ payload_count bytes.now place) }
 {

@@ -15,7 +15,7 @@ returns-then-number-ne0 c =
     let a = c.args in
     let entry = rw c.read_opened-known.ensures at c.place-entry.ensures in
     let e : c.first-number.result ≡ place_number a.file.now a.place a.out.now =
-        c.first-number.ensures ∙ rw (entry, c.short.ensures, c.read_opened-known.ensures) in
+    c.first-number.ensures ∙ rw (entry, c.short.ensures, c.read_opened-known.ensures) in
     (e, stays _ _ e c.if-number-ne0.true)
 
 pub returns : goal.returns
@@ -25,6 +25,6 @@ returns c =
     let known = c.read_opened-known in
     let entry = rw known.ensures at c.place-entry.ensures in
     let e : c.first-number.result ≡ place_number a.file.now a.place a.out.now =
-        c.first-number.ensures ∙ rw (entry, c.short.ensures, known.ensures) in
+    c.first-number.ensures ∙ rw (entry, c.short.ensures, known.ensures) in
     let room = enough known.result.number c.place-entry.result.number _ _ 16 c.short.ensures (sym c.first-number.ensures ∙ c.if-number-ne0.false) in
     (e, rw (c.words_of-words.ensures, entry) at c.put_words.ensures ∙ words_fit _ _ _ room ∙ gives _ _ e c.if-number-ne0.false)

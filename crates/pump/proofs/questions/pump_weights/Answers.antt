@@ -19,7 +19,7 @@ returns-then-number-ne0 c =
     let a = c.args in
     let four = rw c.read_opened-known.ensures at c.weights-four.ensures in
     let e : c.first-number.result ≡ weights_number a.file.now a.u a.v a.out.now =
-        c.first-number.ensures ∙ rw (four, c.short.ensures, c.read_opened-known.ensures) in
+    c.first-number.ensures ∙ rw (four, c.short.ensures, c.read_opened-known.ensures) in
     (e, stays _ _ e c.if-number-ne0.true)
 
 pub returns : goal.returns
@@ -28,5 +28,5 @@ returns c =
     let a = c.args in
     let four = rw c.read_opened-known.ensures at c.weights-four.ensures in
     let e : c.first-number.result ≡ weights_number a.file.now a.u a.v a.out.now =
-        c.first-number.ensures ∙ rw (four, c.short.ensures, c.read_opened-known.ensures) in
+    c.first-number.ensures ∙ rw (four, c.short.ensures, c.read_opened-known.ensures) in
     (e, rw (four, zero-add) at c.put_weights.ensures ∙ gives _ _ e c.if-number-ne0.false)
