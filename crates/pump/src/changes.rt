@@ -15,10 +15,8 @@ use mesh::Split;
 fn read_lent(bytes: &[u8], used: usize) -> Opened
     ensures { result ≡ with_table (read_file (lent bytes.now used)) }
 {
-    if bytes.len() < used {
-        return read_opened(&bytes[..0]);
-    }
-    read_opened(&bytes[..used])
+    let held = if bytes.len() < used { 0 } else { used };
+    read_opened(&bytes[..held])
 }
 
 // Ends a call: what was refused before, the call's own refusal, or the new file in the buffer; refused with 12.
