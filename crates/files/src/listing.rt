@@ -174,7 +174,8 @@ fn fits(
     requires { WellFormed table }
     ensures { result ≡ leb (length (text_from table values marks)) room }
 {
-    if LARGEST_TEXT <= room {
+    let enough = LARGEST_TEXT;
+    if enough <= room {
         return true;
     }
     text_size(table, values, marks) <= room

@@ -190,7 +190,8 @@ pub fn split(lines: Lines, table: Table, s: Split, allowance: usize) -> Step
     requires { HasTable lines table }
     ensures { result ≡ split_step lines table s allowance }
 {
-    if Lines::MOST_ALLOWANCE < allowance {
+    let most = Lines::MOST_ALLOWANCE;
+    if most < allowance {
         return refused(3, s, table);
     }
     let mut columns = [131u8; 131];

@@ -61,7 +61,8 @@ fn change_lent(buffer: &mut [u8], used: &mut usize, old: Opened, change: Change)
         Change::Set(m, n, value) => {
             // No value is above 65,535: a larger number, as -1 is from C, would be set as another
             // one.
-            if 65535 < value {
+            let most = 65535;
+            if most < value {
                 return first(old.number, 3, 0);
             }
             let next = old.set(m, n, value as u16);

@@ -6,8 +6,8 @@ use Rattle.files.proofs.Terms.{InHand}
 use Rattle.files.proofs.TableLines.{text_from_most}
 use Rattle.files.proofs.listing.fits.Goals as goal
 
-pub returns-then-room-ge-LARGEST_TEXT : goal.returns-then-room-ge-LARGEST_TEXT
-returns-then-room-ge-LARGEST_TEXT c =
+pub returns-then-enough-room : goal.returns-then-enough-room
+returns-then-enough-room c =
     let hand : InHand c.args.table c.args.values c.args.marks =
     record { ok = c.requires; places = omega arith; full = omega arith; full_marks = omega arith } in
     let words : (i : ℕ) → Fits w16 (get_or c.args.values i 0) = λ i. search rules in

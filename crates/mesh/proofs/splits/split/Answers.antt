@@ -5,9 +5,9 @@ use Rattle.mesh.proofs.Accepted.{replays_says}
 use Rattle.mesh.proofs.Replaying.{cleared, split_beyond}
 use Rattle.mesh.proofs.splits.split.Goals as goal
 
-pub returns-then-allowance-gt-MOST_ALLOWANCE : goal.returns-then-allowance-gt-MOST_ALLOWANCE
-returns-then-allowance-gt-MOST_ALLOWANCE c =
-    let a = c.args in c.refused.ensures ∙ split_beyond a.lines a.table a.s a.allowance c.if-allowance-gt-MOST_ALLOWANCE.true
+pub returns-then-most-allowance : goal.returns-then-most-allowance
+returns-then-most-allowance c =
+    let a = c.args in c.refused.ensures ∙ split_beyond a.lines a.table a.s a.allowance (omega arith)
 
 pub split_in-requires-2 : goal.split_in-requires-2
 split_in-requires-2 c =
@@ -15,4 +15,4 @@ split_in-requires-2 c =
     let in_range = replays_says L c.requires.accepted? in
     let a = side_says L.w in_range.0 in
     let b = side_says L.h in_range.1 in
-    (c.if-allowance-gt-MOST_ALLOWANCE.false, c.requires, cleared L.w L.h 17161 (omega arith) (omega arith))
+    (omega arith, c.requires, cleared L.w L.h 17161 (omega arith) (omega arith))

@@ -11,8 +11,8 @@ use Rattle.pump.proofs.Refusals.{none_refuses}
 use Rattle.pump.proofs.Changing.{ends_refused, changes}
 use Rattle.pump.proofs.changes.change_lent.Goals as goal
 
-pub returns-then-value-gt65535 : goal.returns-then-value-gt65535
-returns-then-value-gt65535 c =
+pub returns-then-most-value : goal.returns-then-most-value
+returns-then-most-value c =
     let a = c.args in
     let wide = lt-leb c.in-Set.value 65535 (omega arith) in
     rw (c.in-Set.is, wide)
