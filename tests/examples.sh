@@ -1,5 +1,5 @@
 #!/usr/bin/env bash
-# Builds the archive for C and does what README.md shows, C and Python examples among it; what the C example prints is held to
+# Does what README.md shows, C and Python examples among it; what the C example prints is held to
 # c/first.out, and the header to the source. Then measures the stack that the calls need. Needs `tools/build.sh`.
 set -eu
 cd "$(dirname "$0")/.."

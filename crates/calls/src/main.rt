@@ -177,6 +177,10 @@ fn run(from: &mut Stdin, input: &mut [u8], out: &mut Out) {
         out.flush();
         turns -= 1;
     }
+    // The line that is held may go on behind what was read.
+    if out.has_failed() {
+        return;
+    }
     last_line(s, input, out);
     out.flush();
 }
