@@ -8,7 +8,8 @@ use mathlib.Core.Bool.{true, false}
 use borrow.Author.Tests.{ltb-true, ltb-false, leb-true, leb-false}
 use lib.Dec.{ltb, leb}
 use Rattle.axis.specs.Fraction.{Fraction}
-use Rattle.axis.specs.Triple.{triple, ascent, descent, hat, lower, upper, half, low, high, spans, between, Rise}
+use Rattle.axis.specs.Triple.{triple, ascent, descent, hat, half, low, high, spans, between, Rise}
+use Rattle.axis.specs.declared.Side.TheVariants.{Lower as lower, Upper as upper}
 use Rattle.axis.specs.declared.Triple.{Triple}
 use Rattle.axis.proofs.Tests.{either, within_of, within_at, cond_true, cond_false}
 use Rattle.axis.proofs.Triples.{Inside, not_between, rise_of, is_low, is_high, first_rises, half_below, half_above}

@@ -7,7 +7,9 @@ use mathlib.Core.Logic.{⊎_elim}
 use mathlib.Core.Bool.{Bool, true, false}
 use lib.Dec.{leb, ltb, eqb}
 use borrow.Author.Tests.{leb-true, leb-false, ltb-true, ltb-false, eqb-true, eqb-false, le-leb, lt-leb, lt-ltb}
-use Rattle.axis.specs.Triple.{Side, lower, upper, half, low, high, spans, RisesIn, Rise, OnSide}
+use Rattle.axis.specs.Triple.{half, low, high, spans, RisesIn, Rise, OnSide}
+use Rattle.axis.specs.declared.Side.{Side}
+use Rattle.axis.specs.declared.Side.TheVariants.{Lower as lower, Upper as upper}
 use Rattle.axis.specs.declared.Triple.{Triple}
 use Rattle.axis.proofs.Tests.{either, within, within_of, within_at}
 use Rattle.axis.proofs.Counts.{ones}

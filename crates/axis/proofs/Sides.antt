@@ -7,7 +7,9 @@ use mathlib.Core.Logic.{inl, inr, ⊎_elim}
 use mathlib.Core.Bool.{true, ◌||◌}
 use lib.Dec.{ltb, eqb}
 use borrow.Author.Tests.{eqb-true, eq-eqb, ltb-true, lt-ltb}
-use Rattle.axis.specs.Triple.{triple, Side, lower, upper, half, is_knot, knot_in, RisesIn, Rise, Knots, KnotOf, OnSide}
+use Rattle.axis.specs.Triple.{triple, half, is_knot, knot_in, RisesIn, Rise, Knots, KnotOf, OnSide}
+use Rattle.axis.specs.declared.Side.{Side}
+use Rattle.axis.specs.declared.Side.TheVariants.{Lower as lower, Upper as upper}
 use Rattle.axis.specs.declared.Triple.{Triple}
 use Rattle.axis.proofs.Tests.{and_both, and_of, or_either, or_left, or_right, within_of, within_at}
 use Rattle.axis.proofs.Triples.{Inside, keeps_middle, half_below, half_above}

@@ -7,7 +7,9 @@ use mathlib.Core.Logic.{◌⊎◌, inl, inr, ⊎_elim}
 use mathlib.Core.Bool.{true, false, ◌&&◌, not}
 use borrow.Author.Tests.{ltb-true, ltb-false, leb-true, eqb-true, eqb-false, not-true, lt-ltb, le-leb, eq-eqb, ne_eqb}
 use lib.Dec.{leb, ltb, eqb}
-use Rattle.axis.specs.Triple.{triple, Side, lower, upper, half, inside, between, spans, rising, low, high, same_triple, RisesIn, Rise, Knots}
+use Rattle.axis.specs.Triple.{triple, half, inside, between, spans, rising, low, high, same_triple, RisesIn, Rise, Knots}
+use Rattle.axis.specs.declared.Side.{Side}
+use Rattle.axis.specs.declared.Side.TheVariants.{Lower as lower, Upper as upper}
 use Rattle.axis.specs.declared.Triple.{Triple}
 use Rattle.axis.proofs.Runs.{if_at_most}
 use Rattle.axis.proofs.Tests.{and_both, and_of, and_fails, within_of}

@@ -2,6 +2,8 @@
 use Rattle.std.specs.Prelude.{ℕ, ◌+◌, ◌-◌, ◌*◌, ◌≤◌, ◌<◌, min, max, ◌≡◌, ◌⊎◌, Bool, ◌&&◌, ◌||◌, not, cond, ltb, leb, eqb}
 use Rattle.axis.specs.Fraction.{Fraction}
 use Rattle.axis.specs.declared.Triple.{Triple}
+use Rattle.axis.specs.declared.Side.{Side}
+use Rattle.axis.specs.declared.Side.TheVariants.{Lower as lower, Upper as upper}
 
 abbrev pub triple : ℕ → ℕ → ℕ → Triple
 triple l m r = record { l = l; m = m; r = r }
@@ -9,9 +11,6 @@ triple l m r = record { l = l; m = m; r = r }
 -- a line at z can cut: "l < z < r, z is not m"
 abbrev pub inside : ℕ → Triple → Bool
 inside z t = ltb t.l z && ltb z t.r && not (eqb z t.m)
-
-pub data Side : Type 0 where
-  lower upper : Side
 
 -- "The halves have the triples (l, z, m) and (z, m, r) if z < m, else (l, m, z) and (m, z, r)."
 unfoldable pub half : Side → ℕ → Triple → Triple

@@ -8,8 +8,15 @@ pub mod knots;
 pub mod shares;
 pub mod supports;
 
+// An end of a triple, or of a line: the one where the knots begin, and the one where they stop.
+#[derive(Clone, Copy, Debug, PartialEq, Eq)]
+pub enum Side {
+    Lower,
+    Upper,
+}
+
 // One axis of a blend: its three knots, rising.
-#[derive(Clone, Copy)]
+#[derive(Clone, Copy, Debug, PartialEq, Eq)]
 pub struct Triple {
     pub l: u8,
     pub m: u8,

@@ -1,6 +1,7 @@
 // Triples: their halves, and where knots and steps lie in them.
 ghost use Rattle.std.specs.Prelude.{◌≡◌, ◌&&◌, ltb};
-ghost use Rattle.axis.specs.Triple.{half, lower, upper, same_triple, spans, knot_in};
+ghost use Rattle.axis.specs.Triple.{half, same_triple, spans, knot_in};
+ghost use Rattle.axis.specs.declared.Side.TheVariants.{Lower as lower, Upper as upper};
 
 use crate::Triple;
 use crate::knots::wide;

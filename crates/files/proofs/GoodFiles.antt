@@ -11,7 +11,9 @@ use lib.Dec.{leb, eqb}
 use lib.ListN.{length, take, replicate}
 use Rattle.mesh.specs.declared.Split.{Split}
 use Rattle.mesh.specs.declared.Blend.{Blend}
-use Rattle.mesh.specs.Lines.{Direction, upright, level, number, side, other, allowed_side, in_range, layout_of}
+use Rattle.mesh.specs.Lines.{number, side, other, allowed_side, in_range, layout_of}
+use Rattle.mesh.specs.declared.Direction.{Direction}
+use Rattle.mesh.specs.declared.Direction.TheVariants.{Upright as upright, Level as level}
 use Rattle.mesh.specs.Sound.{sound}
 use Rattle.axis.specs.Range.{all, joined}
 use Rattle.axis.proofs.Tests.{either, true_not_false, and_both, all_at, all_of, all_append}

@@ -20,7 +20,8 @@ use Rattle.axis.proofs.Extremes.{at_most_greatest, at_least_smallest}
 use Rattle.axis.proofs.Gaps.{corner_end, corner_in, share_gap, gap_side}
 use Rattle.axis.proofs.Members.{map_mem}
 use Rattle.mesh.specs.declared.Blend.{Blend}
-use Rattle.mesh.specs.Lines.{upright, level, mesh_of}
+use Rattle.mesh.specs.Lines.{mesh_of}
+use Rattle.mesh.specs.declared.Direction.TheVariants.{Upright as upright, Level as level}
 use Rattle.mesh.specs.Sound.{none, proper, over_square, sound, ProperIn}
 use Rattle.mesh.specs.Weight.{weight}
 use Rattle.mesh.proofs.Cuts.{proper_facts}

@@ -11,7 +11,9 @@ use lib.ListN.{length, length-append, length-map}
 use borrow.Author.Tests.{eqb-true, ne_eqb, leb-true, leb-false}
 use Rattle.axis.specs.Limits.{largest_side, most_splits, most_blends}
 use Rattle.axis.specs.Range.{any, only, joined, Distinct}
-use Rattle.mesh.specs.Lines.{Direction, upright, level, mesh, fresh_mesh, draws, start, end, number, other, side, HasLine}
+use Rattle.mesh.specs.Lines.{mesh, fresh_mesh, draws, start, end, number, other, side, HasLine}
+use Rattle.mesh.specs.declared.Direction.{Direction}
+use Rattle.mesh.specs.declared.Direction.TheVariants.{Upright as upright, Level as level}
 use Rattle.mesh.specs.Blends.{crossed, live, at, place}
 use Rattle.mesh.specs.Sound.{sound}
 use Rattle.mesh.specs.declared.Split.{Split}

@@ -11,7 +11,8 @@ use lib.ListN.{length}
 use Rattle.mesh.specs.declared.Split.{Split}
 use Rattle.mesh.specs.declared.Blend.{Blend}
 use Rattle.axis.specs.Range.{any}
-use Rattle.mesh.specs.Lines.{Layout, Mesh, Direction, direction, in_range, mesh_of}
+use Rattle.mesh.specs.Lines.{Layout, Mesh, direction, in_range, mesh_of}
+use Rattle.mesh.specs.declared.Direction.{Direction}
 use Rattle.mesh.specs.Blends.{is_cut, RiseB}
 use Rattle.mesh.specs.Order.{Coarser}
 use Rattle.axis.proofs.Tests.{and_of, any_at, any_of}

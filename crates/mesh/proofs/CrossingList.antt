@@ -10,7 +10,9 @@ use lib.Dec.{ltb, eqb}
 use lib.ListN.{length}
 use borrow.Author.Tests.{eq-eqb, ltb-true}
 use Rattle.axis.specs.Range.{any, only}
-use Rattle.axis.specs.Triple.{Side, lower, upper, Knots, KnotOf, OnSide}
+use Rattle.axis.specs.Triple.{Knots, KnotOf, OnSide}
+use Rattle.axis.specs.declared.Side.{Side}
+use Rattle.axis.specs.declared.Side.TheVariants.{Lower as lower, Upper as upper}
 use Rattle.axis.specs.declared.Triple.{Triple}
 use Rattle.axis.proofs.Tests.{true_not_false, and_both, and_of, or_either, or_left, or_right, same_test, all_at, any_at, any_of, only_mem, mem_only, each_same}
 use Rattle.axis.proofs.Runs.{if_at_most, if_equal}
@@ -18,7 +20,9 @@ use Rattle.axis.proofs.Members.{map_each}
 use Rattle.axis.proofs.Counts.{one_at_most}
 use Rattle.axis.proofs.Triples.{AtFresh}
 use Rattle.axis.proofs.Sides.{StepIn, column}
-use Rattle.mesh.specs.Lines.{Direction, upright, level, other, side, direction, mesh, fresh_mesh, draws, in_range, Layout, mesh_of, Ranges}
+use Rattle.mesh.specs.Lines.{other, side, direction, mesh, fresh_mesh, draws, in_range, Layout, mesh_of, Ranges}
+use Rattle.mesh.specs.declared.Direction.{Direction}
+use Rattle.mesh.specs.declared.Direction.TheVariants.{Upright as upright, Level as level}
 use Rattle.mesh.specs.Blends.{anchored, once, leaves_of, in_table_order, refine, live, first_four, crossed}
 use Rattle.mesh.specs.Order.{Coarser}
 use Rattle.mesh.specs.Sound.{sound}

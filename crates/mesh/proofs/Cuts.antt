@@ -7,8 +7,11 @@ use mathlib.Core.Logic.{◌⊎◌, inl, inr, ⊎_elim}
 use mathlib.Core.Bool.{true, false, ◌&&◌, not}
 use borrow.Author.Tests.{not-true, ne_eqb, eqb-false}
 use lib.Dec.{eqb}
-use Rattle.axis.specs.Triple.{Side, half, inside, between, rising, same_triple, Rise, Knots}
-use Rattle.mesh.specs.Lines.{Direction, upright, level, other, Mesh}
+use Rattle.axis.specs.Triple.{half, inside, between, rising, same_triple, Rise, Knots}
+use Rattle.axis.specs.declared.Side.{Side}
+use Rattle.mesh.specs.Lines.{other, Mesh}
+use Rattle.mesh.specs.declared.Direction.{Direction}
+use Rattle.mesh.specs.declared.Direction.TheVariants.{Upright as upright, Level as level}
 use Rattle.mesh.specs.Blends.{blend, crossed, along, covers_blend, cuts, halve, cutter, is_cut, size, same, RiseB}
 use Rattle.mesh.specs.Sound.{proper, nested, ProperIn}
 use Rattle.axis.specs.declared.Triple.{Triple}

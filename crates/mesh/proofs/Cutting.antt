@@ -6,8 +6,12 @@ use mathlib.Core.Path.{◌≡◌, refl, sym, ap, ◌∙◌}
 use mathlib.Core.Bool.{Bool, true, false, cond}
 use mathlib.Core.List.{List, [], ◌∷◌, ◌++◌}
 use Rattle.axis.specs.Range.{every}
-use Rattle.axis.specs.Triple.{Side, lower, upper, half}
-use Rattle.mesh.specs.Lines.{Direction, upright, level, other, Mesh}
+use Rattle.axis.specs.Triple.{half}
+use Rattle.axis.specs.declared.Side.{Side}
+use Rattle.axis.specs.declared.Side.TheVariants.{Lower as lower, Upper as upper}
+use Rattle.mesh.specs.Lines.{other, Mesh}
+use Rattle.mesh.specs.declared.Direction.{Direction}
+use Rattle.mesh.specs.declared.Direction.TheVariants.{Upright as upright, Level as level}
 use Rattle.mesh.specs.Bytes.{step_on, keep, keep_all}
 use Rattle.mesh.specs.Sound.{Proper, none}
 use Rattle.mesh.specs.Blends.{crossed, cutter, halve, leaves, leaves_of, size}

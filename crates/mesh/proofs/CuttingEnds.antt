@@ -7,7 +7,7 @@ use mathlib.Core.Path.{◌≡◌, refl, subst, sym}
 use mathlib.Core.Logic.{◌⊎◌, inl, inr, ⊎_elim}
 use mathlib.Core.List.Memᴰ
 use mathlib.Core.List.{List, [], ◌∷◌, ◌++◌, Memᴰ}
-use Rattle.axis.specs.Triple.{lower, upper}
+use Rattle.axis.specs.declared.Side.TheVariants.{Lower as lower, Upper as upper}
 use Rattle.mesh.specs.Lines.{Mesh}
 use Rattle.mesh.specs.Blends.{halve, size, Rising}
 use Rattle.mesh.specs.Order.{Uncut, Step, replace, drop, Steps, done, step, Cutting, taken, most_steps, CuttingEnds}

@@ -9,7 +9,8 @@ use borrow.Author.Tests.{ltb-true, leb-true, eqb-true, eqb-false, lt-ltb, le-ltb
 use lib.Dec.{eqb, ltb, leb, leb-zero}
 use lib.ListN.{length, get_or, set, length-set}
 use lib.Seq.{get_or-set_same, get_or-set_other}
-use Rattle.mesh.specs.Lines.{Direction, number, other, side, start, end, draws}
+use Rattle.mesh.specs.Lines.{number, other, side, start, end, draws}
+use Rattle.mesh.specs.declared.Direction.{Direction}
 use Rattle.mesh.specs.Bytes.{Rows, Zeros, step_on, Drawn}
 use Rattle.mesh.specs.Blends.{at}
 use Rattle.mesh.specs.declared.Split.{Split}

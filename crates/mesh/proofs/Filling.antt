@@ -4,7 +4,9 @@ use native.Mathlib.Omega.{arith}
 use mathlib.Core.Path.{◌≡◌, sym, ap, subst, ◌∙◌}
 use mathlib.Core.Logic.{◌⊎◌, inl, inr, ⊎_elim}
 use mathlib.Core.Bool.{Bool, true, false}
-use Rattle.axis.specs.Triple.{triple, Side, lower, upper, RisesIn, OnSide}
+use Rattle.axis.specs.Triple.{triple, RisesIn, OnSide}
+use Rattle.axis.specs.declared.Side.{Side}
+use Rattle.axis.specs.declared.Side.TheVariants.{Lower as lower, Upper as upper}
 use Rattle.axis.proofs.Tests.{true_not_false}
 use Rattle.axis.proofs.Runs.{if_at_most, if_below, if_equal}
 use Rattle.axis.proofs.Triples.{rise_of}

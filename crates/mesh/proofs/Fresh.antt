@@ -10,7 +10,9 @@ use lib.Dec.{ltb, eqb}
 use lib.ListN.{length}
 use borrow.Author.Tests.{eqb-true, eq-eqb, lt-ltb}
 use Rattle.axis.specs.Triple.{low, high}
-use Rattle.mesh.specs.Lines.{Direction, upright, level, mesh, fresh_mesh, side, other}
+use Rattle.mesh.specs.Lines.{mesh, fresh_mesh, side, other}
+use Rattle.mesh.specs.declared.Direction.{Direction}
+use Rattle.mesh.specs.declared.Direction.TheVariants.{Upright as upright, Level as level}
 use Rattle.mesh.specs.Blends.{blend, same, once, leaves_of, refine, live, first_four, crossed, along, place, Rising}
 use Rattle.mesh.specs.Order.{Uncut}
 use Rattle.mesh.specs.Sound.{over_square, four_everywhere, none_nested, nested, sound, AllProperIn}

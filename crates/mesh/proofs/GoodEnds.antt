@@ -8,11 +8,14 @@ use mathlib.Core.List.{Memᴰ}
 use lib.Dec.{eqb}
 use borrow.Author.Tests.{eqb-true, eq-eqb}
 use Rattle.axis.specs.Range.{any}
-use Rattle.axis.specs.Triple.{Side, lower, upper, knot_in}
+use Rattle.axis.specs.Triple.{knot_in}
+use Rattle.axis.specs.declared.Side.{Side}
+use Rattle.axis.specs.declared.Side.TheVariants.{Lower as lower, Upper as upper}
 use Rattle.axis.proofs.Tests.{either, true_not_false, false_of, and_both, and_of, or_either, or_left, or_right, any_at, any_of}
 use Rattle.axis.proofs.Runs.{if_equal}
 use Rattle.axis.proofs.Sides.{KnotIn, part_says, part_test, Clear, half_clear, still_clear}
-use Rattle.mesh.specs.Lines.{Direction, other, side, Mesh, Layout, mesh_of, on_line}
+use Rattle.mesh.specs.Lines.{other, side, Mesh, Layout, mesh_of, on_line}
+use Rattle.mesh.specs.declared.Direction.{Direction}
 use Rattle.mesh.specs.Blends.{crossed, along, cuts, halve, is_cut, RiseB}
 use Rattle.mesh.specs.Order.{Comes, here, cut}
 use Rattle.mesh.specs.Sound.{sound}

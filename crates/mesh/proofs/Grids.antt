@@ -3,10 +3,12 @@ use Prim.Native.Nat.{ℕ, ◌≤◌}
 use mathlib.Core.Path.{◌≡◌}
 use mathlib.Core.Bool.{true}
 use mathlib.Core.List.{Memᴰ}
-use Rattle.axis.specs.Triple.{Side}
+use Rattle.axis.specs.declared.Side.{Side}
 use Rattle.axis.proofs.Tests.{and_both, and_of, within_of, within_at}
 use Rattle.axis.proofs.Sides.{knot_says, knot_of, half_knot, half_step}
-use Rattle.mesh.specs.Lines.{Direction, upright, level, Mesh}
+use Rattle.mesh.specs.Lines.{Mesh}
+use Rattle.mesh.specs.declared.Direction.{Direction}
+use Rattle.mesh.specs.declared.Direction.TheVariants.{Upright as upright, Level as level}
 use Rattle.mesh.specs.Blends.{crossed, halve, live, RiseB}
 use Rattle.mesh.specs.Order.{Left, Coarser}
 use Rattle.mesh.specs.Crossings.{on_grid, OnGrid}

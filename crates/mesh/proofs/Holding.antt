@@ -10,7 +10,9 @@ use borrow.Author.Tests.{eq-eqb, ne_eqb}
 use lib.ListN.{length, get_or, length-set}
 use lib.Seq.{get_or-set_same, get_or-set_other}
 use Rattle.axis.specs.Range.{only, Distinct}
-use Rattle.mesh.specs.Lines.{Direction, upright, level, side, Mesh, mesh}
+use Rattle.mesh.specs.Lines.{side, Mesh, mesh}
+use Rattle.mesh.specs.declared.Direction.{Direction}
+use Rattle.mesh.specs.declared.Direction.TheVariants.{Upright as upright, Level as level}
 use Rattle.mesh.specs.Blends.{crossed, once, anchored, in_table_order, at, place, leaves_of, first_four, refine, live, Rising}
 use Rattle.mesh.specs.Order.{Uncut, Left, Coarser, SameMembers}
 use Rattle.mesh.specs.Sound.{sound, ProperIn}

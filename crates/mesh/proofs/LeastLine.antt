@@ -8,7 +8,8 @@ use mathlib.Core.List.{[], ◌∷◌, Memᴰ}
 use borrow.Author.Tests.{le-leb, lt-leb}
 use lib.ListN.{length, length-map}
 use Rattle.axis.specs.Range.{only}
-use Rattle.axis.specs.Triple.{Side, lower, upper}
+use Rattle.axis.specs.declared.Side.{Side}
+use Rattle.axis.specs.declared.Side.TheVariants.{Lower as lower, Upper as upper}
 use Rattle.axis.proofs.Tests.{cond_true, cond_false}
 use Rattle.axis.proofs.Runs.{if_at_most, if_equal}
 use Rattle.mesh.specs.Lines.{direction, Layout}

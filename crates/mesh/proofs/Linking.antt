@@ -8,7 +8,8 @@ use mathlib.Core.List.{List}
 use borrow.Author.Tests.{ne_eqb, lt-ltb, ltb-true}
 use lib.Dec.{ltb, eqb}
 use lib.ListN.{get_or, replicate, length-replicate}
-use Rattle.mesh.specs.Lines.{Direction, number, side, Mesh, draws, fresh_mesh}
+use Rattle.mesh.specs.Lines.{number, side, Mesh, draws, fresh_mesh}
+use Rattle.mesh.specs.declared.Direction.{Direction}
 use Rattle.mesh.specs.Carried.{Leads, Linked, Bare, unlinked}
 use Rattle.mesh.specs.declared.Split.{Split}
 use Rattle.axis.proofs.Tests.{either, true_not_false, and_both, and_of, cond_true, cond_false}

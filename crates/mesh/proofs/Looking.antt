@@ -8,10 +8,12 @@ use mathlib.Core.List.{List}
 use borrow.Author.Tests.{le-leb, lt-leb}
 use lib.ListN.{length, get_or}
 use Rattle.axis.specs.Range.{any}
-use Rattle.axis.specs.Triple.{Side, lower, upper}
+use Rattle.axis.specs.declared.Side.{Side}
+use Rattle.axis.specs.declared.Side.TheVariants.{Lower as lower, Upper as upper}
 use Rattle.axis.proofs.Tests.{true_not_false, and_both, and_of, cond_true, cond_false}
 use Rattle.axis.proofs.Runs.{if_at_most, if_equal}
-use Rattle.mesh.specs.Lines.{Direction, direction, other, side, mesh, Layout, layout}
+use Rattle.mesh.specs.Lines.{direction, other, side, mesh, Layout, layout}
+use Rattle.mesh.specs.declared.Direction.{Direction}
 use Rattle.mesh.specs.Blends.{live}
 use Rattle.mesh.specs.Lengthening.{spanning, steps_of}
 use Rattle.mesh.specs.Ends.{gap_ends, abreast, good_end, good_ends, nearest_good}

@@ -6,14 +6,17 @@ use mathlib.Core.Logic.{inl, inr}
 use mathlib.Core.Bool.{true}
 use mathlib.Core.List.{List, Memᴰ}
 use borrow.Author.Tests.{eqb-true}
-use Rattle.axis.specs.Triple.{Side, Knots}
+use Rattle.axis.specs.Triple.{Knots}
+use Rattle.axis.specs.declared.Side.{Side}
 use Rattle.axis.specs.declared.Triple.{Triple}
 use Rattle.axis.proofs.Tests.{true_not_false, and_both, and_of, every_at}
 use Rattle.axis.proofs.Runs.{if_equal}
 use Rattle.axis.proofs.Triples.{half_knots, First, is_low, is_high}
 use Rattle.axis.proofs.Parts.{first, first_lies}
 use Rattle.axis.proofs.Sides.{lies_of, lies_at}
-use Rattle.mesh.specs.Lines.{Direction, upright, level, other, side, Mesh, mesh}
+use Rattle.mesh.specs.Lines.{other, side, Mesh, mesh}
+use Rattle.mesh.specs.declared.Direction.{Direction}
+use Rattle.mesh.specs.declared.Direction.TheVariants.{Upright as upright, Level as level}
 use Rattle.mesh.specs.Blends.{blend, crossed, along, cuts, halve, live, first_four, RiseB}
 use Rattle.mesh.specs.Order.{Comes, here, cut}
 use Rattle.mesh.specs.Sound.{four_everywhere}

@@ -7,10 +7,13 @@ use mathlib.Core.Bool.{true, false, not}
 use mathlib.Core.List.{List}
 use lib.ListN.{length}
 use Rattle.axis.specs.Range.{only}
-use Rattle.axis.specs.Triple.{Side, lower, upper}
+use Rattle.axis.specs.declared.Side.{Side}
+use Rattle.axis.specs.declared.Side.TheVariants.{Lower as lower, Upper as upper}
 use Rattle.axis.proofs.Tests.{true_not_false, false_of, any_at}
 use Rattle.axis.proofs.Counts.{some_pass}
-use Rattle.mesh.specs.Lines.{Direction, upright, level, other, side, mesh, Layout, layout, mesh_of}
+use Rattle.mesh.specs.Lines.{other, side, mesh, Layout, layout, mesh_of}
+use Rattle.mesh.specs.declared.Direction.{Direction}
+use Rattle.mesh.specs.declared.Direction.TheVariants.{Upright as upright, Level as level}
 use Rattle.mesh.specs.Blends.{crossed, along, anchored, live}
 use Rattle.mesh.specs.Order.{Coarser}
 use Rattle.mesh.specs.Splits.{live_of, with_line}

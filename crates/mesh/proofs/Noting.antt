@@ -11,13 +11,17 @@ use lib.ListN.{length, get_or, set, length-set, length-replicate, get_or-eq_defa
 use lib.Seq.{get_or-set_same, get_or-set_other}
 use borrow.Author.Tests.{eqb-true, eqb-false, leb-true, le-leb, eq-eqb, ne_eqb, not-true, lt-ltb}
 use Rattle.axis.specs.Range.{some, any}
-use Rattle.axis.specs.Triple.{Side, lower, upper, knot_in, inside, between, RisesIn, Rise}
+use Rattle.axis.specs.Triple.{knot_in, inside, between, RisesIn, Rise}
+use Rattle.axis.specs.declared.Side.{Side}
+use Rattle.axis.specs.declared.Side.TheVariants.{Lower as lower, Upper as upper}
 use Rattle.axis.specs.declared.Triple.{Triple}
 use Rattle.axis.proofs.Tests.{either, true_not_false, false_of, and_both, and_of, or_either, or_left, or_right, same_test, some_fails, fails_some, any_at, any_of, each_mem, mem_each}
 use Rattle.axis.proofs.Triples.{inside_fact, inside_test, rise_of}
 use Rattle.axis.proofs.Runs.{if_at_most, if_below, if_equal}
 use Rattle.axis.proofs.Sides.{KnotIn, part_says, part_test, part_of, inside_of}
-use Rattle.mesh.specs.Lines.{Direction, upright, level, other, side, Mesh}
+use Rattle.mesh.specs.Lines.{other, side, Mesh}
+use Rattle.mesh.specs.declared.Direction.{Direction}
+use Rattle.mesh.specs.declared.Direction.TheVariants.{Upright as upright, Level as level}
 use Rattle.mesh.specs.Blends.{crossed, along, same, live}
 use Rattle.mesh.specs.Sound.{nested, none_nested, sound, four_everywhere, ProperIn}
 use Rattle.mesh.specs.Ends.{abreast}

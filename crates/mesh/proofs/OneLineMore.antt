@@ -8,10 +8,13 @@ use mathlib.Core.List.{List, [], ◌∷◌, ◌++◌}
 use lib.Dec.{ltb, eqb}
 use borrow.Author.Tests.{eqb-true, eq-eqb, leb-true, le-leb, ltb-true, lt-ltb}
 use Rattle.axis.specs.Range.{any}
-use Rattle.axis.specs.Triple.{Side, lower, upper}
+use Rattle.axis.specs.declared.Side.{Side}
+use Rattle.axis.specs.declared.Side.TheVariants.{Lower as lower, Upper as upper}
 use Rattle.axis.proofs.Tests.{either, and_both, and_of, or_either, or_left, or_right, any_append}
 use Rattle.axis.proofs.Runs.{if_equal}
-use Rattle.mesh.specs.Lines.{Direction, upright, level, number, other, side, direction, Mesh, mesh, fresh_mesh, draws, start, end, in_range, Layout, layout, mesh_of}
+use Rattle.mesh.specs.Lines.{number, other, side, direction, Mesh, mesh, fresh_mesh, draws, start, end, in_range, Layout, layout, mesh_of}
+use Rattle.mesh.specs.declared.Direction.{Direction}
+use Rattle.mesh.specs.declared.Direction.TheVariants.{Upright as upright, Level as level}
 use Rattle.mesh.specs.Splits.{with_line}
 use Rattle.mesh.specs.Order.{Coarser}
 use Rattle.mesh.specs.Bytes.{bytes_mesh}

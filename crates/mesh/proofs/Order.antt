@@ -8,8 +8,12 @@ use mathlib.Core.List.Memᴰ
 use mathlib.Core.List.{List, [], ◌∷◌, ◌++◌, Memᴰ}
 use borrow.Author.Tests.{eqb-true, eqb-false}
 use lib.Dec.{eqb}
-use Rattle.axis.specs.Triple.{Side, lower, upper, Knots}
-use Rattle.mesh.specs.Lines.{Direction, upright, level, other, Mesh, HasLine}
+use Rattle.axis.specs.Triple.{Knots}
+use Rattle.axis.specs.declared.Side.{Side}
+use Rattle.axis.specs.declared.Side.TheVariants.{Lower as lower, Upper as upper}
+use Rattle.mesh.specs.Lines.{other, Mesh, HasLine}
+use Rattle.mesh.specs.declared.Direction.{Direction}
+use Rattle.mesh.specs.declared.Direction.TheVariants.{Upright as upright, Level as level}
 use Rattle.mesh.specs.Blends.{crossed, along, cuts, halve, cutter, leaves, leaves_of, size, live, RiseB, Rising}
 use Rattle.mesh.specs.Order.{Uncut, Comes, here, cut, Left, Step, replace, drop, Steps, done, step, Cutting, Coarser, LeftOf, SameMembers}
 use Rattle.mesh.specs.declared.Blend.{Blend}

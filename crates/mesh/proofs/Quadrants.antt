@@ -9,8 +9,12 @@ use mathlib.Core.List.{List, [], ◌∷◌, Memᴰ}
 use lib.ListN.{length}
 use borrow.Author.Tests.{eqb-true}
 use Rattle.axis.specs.Range.{only}
-use Rattle.axis.specs.Triple.{Side, lower, upper, spans, RisesIn, OnSide}
-use Rattle.mesh.specs.Lines.{Direction, upright, level, other, side, Mesh, mesh}
+use Rattle.axis.specs.Triple.{spans, RisesIn, OnSide}
+use Rattle.axis.specs.declared.Side.{Side}
+use Rattle.axis.specs.declared.Side.TheVariants.{Lower as lower, Upper as upper}
+use Rattle.mesh.specs.Lines.{other, side, Mesh, mesh}
+use Rattle.mesh.specs.declared.Direction.{Direction}
+use Rattle.mesh.specs.declared.Direction.TheVariants.{Upright as upright, Level as level}
 use Rattle.mesh.specs.Blends.{blend, same, cuts, halve, live, first_four, crossed, RiseB, Rising}
 use Rattle.mesh.specs.Order.{Left}
 use Rattle.mesh.specs.Sound.{over_square, four_everywhere, none_nested, sound, nested, ProperIn}

@@ -7,7 +7,9 @@ use mathlib.Core.Bool.{true, ◌&&◌}
 use mathlib.Core.List.{List}
 use borrow.Author.Tests.{ltb-true, leb-true, eqb-true}
 use lib.Dec.{ltb, leb, eqb}
-use Rattle.mesh.specs.Lines.{Direction, upright, level, number, other, side, allowed_side, fits, in_range}
+use Rattle.mesh.specs.Lines.{number, other, side, allowed_side, fits, in_range}
+use Rattle.mesh.specs.declared.Direction.{Direction}
+use Rattle.mesh.specs.declared.Direction.TheVariants.{Upright as upright, Level as level}
 use Rattle.mesh.specs.Bytes.{Rows, Tall}
 use Rattle.mesh.specs.declared.Split.{Split}
 use Rattle.axis.proofs.Tests.{either, and_both}

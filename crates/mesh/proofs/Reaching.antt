@@ -9,7 +9,9 @@ use lib.Dec.{leb, eqb}
 use borrow.Author.Tests.{eqb-true, eq-eqb, leb-true, le-leb, le-ltb, lt-leb}
 use Rattle.axis.specs.Range.{any}
 use Rattle.axis.specs.Triple.{inside}
-use Rattle.mesh.specs.Lines.{Direction, upright, level, number, direction, other, side, Mesh, mesh, draws, start, end, in_range, layout}
+use Rattle.mesh.specs.Lines.{number, direction, other, side, Mesh, mesh, draws, start, end, in_range, layout}
+use Rattle.mesh.specs.declared.Direction.{Direction}
+use Rattle.mesh.specs.declared.Direction.TheVariants.{Upright as upright, Level as level}
 use Rattle.mesh.specs.Blends.{crossed, along, cuts, is_cut, live}
 use Rattle.mesh.specs.Order.{Uncut}
 use Rattle.mesh.specs.Carried.{runs_from, runs_to}

@@ -6,7 +6,9 @@ use mathlib.Core.Logic.{◌⊎◌, inl, inr, ⊎_elim}
 use mathlib.Core.Bool.{true, false}
 use mathlib.Core.List.{Memᴰ}
 use borrow.Author.Tests.{eq-eqb}
-use Rattle.axis.specs.Triple.{triple, Side, lower, upper, half, Rise, Knots, OnSide}
+use Rattle.axis.specs.Triple.{triple, half, Rise, Knots, OnSide}
+use Rattle.axis.specs.declared.Side.{Side}
+use Rattle.axis.specs.declared.Side.TheVariants.{Lower as lower, Upper as upper}
 use Rattle.axis.specs.declared.Triple.{Triple}
 use Rattle.axis.proofs.Tests.{either, true_not_false, false_of, and_both, every_of}
 use Rattle.axis.proofs.Triples.{Inside, half_rises, half_within, half_knots, triple_eq}
@@ -14,7 +16,9 @@ use Rattle.axis.proofs.Parts.{lies, beside}
 use Rattle.axis.proofs.Counts.{one_at_most}
 use Rattle.axis.proofs.Runs.{if_equal, neither}
 use Rattle.axis.proofs.Sides.{KnotIn, opposite, from, to, knot_step, lies_at, step_beside, part_within, knot_between, halves_of, kept, kept_is, kept_in, kept_inside, kept_rises, kept_away, one_part, part_of, inside_of, StepIn}
-use Rattle.mesh.specs.Lines.{Direction, number, upright, level, other, side, Mesh, Layout, mesh_of}
+use Rattle.mesh.specs.Lines.{number, other, side, Mesh, Layout, mesh_of}
+use Rattle.mesh.specs.declared.Direction.{Direction}
+use Rattle.mesh.specs.declared.Direction.TheVariants.{Upright as upright, Level as level}
 use Rattle.mesh.specs.Blends.{crossed, along, cuts, halve, live}
 use Rattle.mesh.specs.Order.{Uncut, Comes, here, cut, Left}
 use Rattle.mesh.specs.Sound.{four_everywhere}

@@ -8,7 +8,8 @@ use mathlib.Core.List.{List, map, Memᴰ}
 use lib.ListN.{length}
 use borrow.Author.Tests.{eqb-true}
 use Rattle.axis.specs.Range.{only, Distinct}
-use Rattle.mesh.specs.Lines.{Mesh, Direction}
+use Rattle.mesh.specs.Lines.{Mesh}
+use Rattle.mesh.specs.declared.Direction.{Direction}
 use Rattle.mesh.specs.Blends.{live, leaves_of, first_four, cuts}
 use Rattle.mesh.specs.Order.{Comes, Uncut, Cutting, done, CuttingEnds, LeftOf, SameMembers, CoveredBy}
 use Rattle.mesh.specs.Sound.{proper, over_square, four_everywhere, none_nested, sound, AllProperIn}

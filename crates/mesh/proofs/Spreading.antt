@@ -4,7 +4,9 @@ use native.Mathlib.Omega.{arith}
 use mathlib.Core.Path.{◌≡◌, sym, ap, subst}
 use mathlib.Core.Logic.{◌⊎◌, inl, inr}
 use mathlib.Core.Bool.{true, false}
-use Rattle.axis.specs.Triple.{Side, lower, upper, OnSide}
+use Rattle.axis.specs.Triple.{OnSide}
+use Rattle.axis.specs.declared.Side.{Side}
+use Rattle.axis.specs.declared.Side.TheVariants.{Lower as lower, Upper as upper}
 use Rattle.axis.proofs.Tests.{true_not_false}
 use Rattle.axis.proofs.Runs.{if_at_most, if_below, if_equal, Downward, throughout, until, downward}
 use Rattle.axis.proofs.Sides.{column, StepIn, KnotIn, opposite, mirror, in_mirror, inside_of, step_beside, own_column, past_column, on_column}

@@ -9,8 +9,11 @@ use borrow.Author.Tests.{leb-true}
 use lib.Dec.{leb}
 use lib.ListN.{length, get_or}
 use Rattle.axis.specs.Range.{any, some}
-use Rattle.axis.specs.Triple.{lower, upper, inside}
-use Rattle.mesh.specs.Lines.{Direction, upright, level, direction, other, side, Mesh, start, end, draws, in_range, mesh, layout}
+use Rattle.axis.specs.Triple.{inside}
+use Rattle.axis.specs.declared.Side.TheVariants.{Lower as lower, Upper as upper}
+use Rattle.mesh.specs.Lines.{direction, other, side, Mesh, start, end, draws, in_range, mesh, layout}
+use Rattle.mesh.specs.declared.Direction.{Direction}
+use Rattle.mesh.specs.declared.Direction.TheVariants.{Upright as upright, Level as level}
 use Rattle.mesh.specs.Blends.{along, crossed, is_cut, live, leaves_of}
 use Rattle.mesh.specs.Order.{Uncut}
 use Rattle.mesh.specs.Sound.{sound, AllProper}

@@ -10,7 +10,8 @@ use mathlib.Core.List.{List, map, Memᴰ}
 use Rattle.axis.specs.Fraction.{Fraction, times, whole, total, Equal, SameNumber}
 use Rattle.axis.specs.Range.{Distinct}
 use Rattle.mesh.specs.declared.Blend.{Blend}
-use Rattle.mesh.specs.Lines.{Direction, Mesh}
+use Rattle.mesh.specs.Lines.{Mesh}
+use Rattle.mesh.specs.declared.Direction.{Direction}
 use Rattle.mesh.specs.Blends.{cuts, first_four}
 use Rattle.mesh.specs.Order.{Uncut, CoveredBy}
 use Rattle.mesh.specs.Sound.{proper, none_nested}

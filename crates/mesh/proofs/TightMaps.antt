@@ -6,13 +6,17 @@ use mathlib.Core.Logic.{◌⊎◌, inl, inr, ⊎_elim}
 use mathlib.Core.Bool.{true, false, ◌&&◌}
 use mathlib.Core.List.{List, [], Memᴰ}
 use lib.Dec.{ltb}
-use Rattle.axis.specs.Triple.{Side, lower, upper, half, KnotOf, OnSide}
+use Rattle.axis.specs.Triple.{half, KnotOf, OnSide}
+use Rattle.axis.specs.declared.Side.{Side}
+use Rattle.axis.specs.declared.Side.TheVariants.{Lower as lower, Upper as upper}
 use Rattle.axis.specs.declared.Triple.{Triple}
 use Rattle.axis.proofs.Tests.{true_not_false, false_of, and_both, or_either}
 use Rattle.axis.proofs.Runs.{if_below, if_equal, throughout, until, downward, Downward}
 use Rattle.axis.proofs.Triples.{rise_of}
 use Rattle.axis.proofs.Sides.{step_within}
-use Rattle.mesh.specs.Lines.{Direction, upright, level, other, side, on_line, Layout, layout, mesh_of}
+use Rattle.mesh.specs.Lines.{other, side, on_line, Layout, layout, mesh_of}
+use Rattle.mesh.specs.declared.Direction.{Direction}
+use Rattle.mesh.specs.declared.Direction.TheVariants.{Upright as upright, Level as level}
 use Rattle.mesh.specs.Blends.{along, cuts, is_cut, halve, RiseB}
 use Rattle.mesh.specs.Order.{Uncut}
 use Rattle.mesh.specs.Sound.{four_everywhere, sound}

@@ -6,11 +6,13 @@ use mathlib.Core.Logic.{⊎_elim}
 use mathlib.Core.Bool.{Bool, true, false, cond, ◌&&◌, not}
 use borrow.Author.Tests.{eq-eqb}
 use Rattle.axis.specs.Range.{any}
-use Rattle.axis.specs.Triple.{Side, lower, upper}
+use Rattle.axis.specs.declared.Side.{Side}
+use Rattle.axis.specs.declared.Side.TheVariants.{Lower as lower, Upper as upper}
 use Rattle.axis.proofs.Tests.{true_not_false, false_of, and_both, and_of, same_test, some_fails, fails_some}
 use Rattle.axis.proofs.Runs.{if_at_most}
 use Rattle.axis.proofs.Nearest.{below_last, above_first}
-use Rattle.mesh.specs.Lines.{Direction, other, direction, Layout, mesh_of, in_range, shares, ended, on_line}
+use Rattle.mesh.specs.Lines.{other, direction, Layout, mesh_of, in_range, shares, ended, on_line}
+use Rattle.mesh.specs.declared.Direction.{Direction}
 use Rattle.mesh.specs.Blends.{is_cut}
 use Rattle.mesh.specs.Splits.{live_of, with_line, sound_with, given, exact_number}
 use Rattle.mesh.specs.Lengthening.{run, Contains, candidate, Candidate}

@@ -5,7 +5,9 @@ use native.Mathlib.Omega.{arith}
 use mathlib.Core.Path.{◌≡◌, subst}
 use mathlib.Core.Bool.{Bool, true}
 use mathlib.Core.List.{List, Memᴰ}
-use Rattle.axis.specs.Triple.{Side, lower, upper, RisesIn, Knots, OnSide}
+use Rattle.axis.specs.Triple.{RisesIn, Knots, OnSide}
+use Rattle.axis.specs.declared.Side.{Side}
+use Rattle.axis.specs.declared.Side.TheVariants.{Lower as lower, Upper as upper}
 use Rattle.axis.specs.declared.Triple.{Triple}
 use Rattle.axis.proofs.Triples.{Inside}
 use Rattle.axis.proofs.Sides.{StepIn, mirror, in_mirror, mirror_in, opposite}

@@ -8,8 +8,12 @@ use mathlib.Core.Bool.{true, false, ◌&&◌, not}
 use mathlib.Core.List.{List, [], ◌∷◌, Memᴰ}
 use borrow.Author.Tests.{not-false}
 use Rattle.axis.specs.Fraction.{times, whole, Equal, SameNumber}
-use Rattle.axis.specs.Triple.{hat, Side, lower, upper, spans, between}
-use Rattle.mesh.specs.Lines.{Direction, upright, level, Mesh}
+use Rattle.axis.specs.Triple.{hat, spans, between}
+use Rattle.axis.specs.declared.Side.{Side}
+use Rattle.axis.specs.declared.Side.TheVariants.{Lower as lower, Upper as upper}
+use Rattle.mesh.specs.Lines.{Mesh}
+use Rattle.mesh.specs.declared.Direction.{Direction}
+use Rattle.mesh.specs.declared.Direction.TheVariants.{Upright as upright, Level as level}
 use Rattle.mesh.specs.Blends.{crossed, cuts, halve, size, same}
 use Rattle.mesh.specs.Order.{Uncut, CoveredBy}
 use Rattle.mesh.specs.Sound.{proper, over_square, none_nested}

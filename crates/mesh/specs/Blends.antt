@@ -2,9 +2,13 @@
 use Rattle.std.specs.Prelude.{ℕ, zero, suc, ◌+◌, ◌-◌, ◌*◌, ◌≡◌, Bool, cond, ◌&&◌, ◌||◌, not, eqb}
 use mathlib.Core.List.{List, [], ◌∷◌, ◌++◌, Memᴰ}
 use Rattle.axis.specs.Range.{each, any, only, joined}
-use Rattle.axis.specs.Triple.{Side, lower, upper, half, inside, low, high, same_triple, Rise}
+use Rattle.axis.specs.Triple.{half, inside, low, high, same_triple, Rise}
+use Rattle.axis.specs.declared.Side.{Side}
+use Rattle.axis.specs.declared.Side.TheVariants.{Lower as lower, Upper as upper}
 use Rattle.axis.specs.Nearest.{nearest}
-use Rattle.mesh.specs.Lines.{Direction, upright, level, other, Mesh, covers}
+use Rattle.mesh.specs.Lines.{other, Mesh, covers}
+use Rattle.mesh.specs.declared.Direction.{Direction}
+use Rattle.mesh.specs.declared.Direction.TheVariants.{Upright as upright, Level as level}
 use Rattle.axis.specs.declared.Triple.{Triple}
 use Rattle.mesh.specs.declared.Blend.{Blend}
 

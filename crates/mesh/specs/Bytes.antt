@@ -2,7 +2,8 @@
 use Rattle.std.specs.Prelude.{ℕ, ◌+◌, ◌*◌, ◌/◌, ◌%◌, ◌≤◌, ◌≡◌, Bool, cond, ◌&&◌, ◌||◌, not, List, [], ◌∷◌, ltb, leb, eqb, length, get_or, set, replicate}
 use Rattle.axis.specs.Range.{each}
 use Rattle.axis.specs.Triple.{triple}
-use Rattle.mesh.specs.Lines.{upright, level, Mesh}
+use Rattle.mesh.specs.Lines.{Mesh}
+use Rattle.mesh.specs.declared.Direction.TheVariants.{Upright as upright, Level as level}
 use Rattle.mesh.specs.Blends.{blend, at, place}
 use Rattle.mesh.specs.declared.Blend.{Blend}
 

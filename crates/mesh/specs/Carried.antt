@@ -3,8 +3,12 @@
 use Rattle.std.specs.Prelude.{ℕ, zero, suc, ◌+◌, ◌-◌, ◌*◌, ◌/◌, ◌%◌, ◌<◌, ◌≤◌, ◌≡◌, Bool, false, cond, ◌&&◌, ◌||◌, not, List, [], ◌∷◌, ◌++◌, ltb, leb, eqb, length, get_or, set, replicate}
 use Rattle.axis.specs.Limits.{largest_side}
 use Rattle.axis.specs.Range.{each, only}
-use Rattle.axis.specs.Triple.{Side, lower, upper, knot_in}
-use Rattle.mesh.specs.Lines.{Direction, upright, level, direction, other, side, Mesh, mesh, Layout, layout}
+use Rattle.axis.specs.Triple.{knot_in}
+use Rattle.axis.specs.declared.Side.{Side}
+use Rattle.axis.specs.declared.Side.TheVariants.{Lower as lower, Upper as upper}
+use Rattle.mesh.specs.Lines.{direction, other, side, Mesh, mesh, Layout, layout}
+use Rattle.mesh.specs.declared.Direction.{Direction}
+use Rattle.mesh.specs.declared.Direction.TheVariants.{Upright as upright, Level as level}
 use Rattle.mesh.specs.Blends.{crossed, along, anchored, live}
 use Rattle.mesh.specs.Splits.{given}
 use Rattle.mesh.specs.Lengthening.{steps_of}

@@ -5,7 +5,9 @@ use Rattle.std.specs.Prelude.{ℕ, ◌+◌, ◌-◌, ◌≤◌, ◌<◌, ◌≡�
 use mathlib.Core.List.{List, [], ◌∷◌, map, Memᴰ}
 use Rattle.axis.specs.Range.{each, any}
 use Rattle.axis.specs.Triple.{spans, is_knot, KnotOf, OnSide}
-use Rattle.mesh.specs.Lines.{Direction, upright, level, other, side, Mesh, Layout, mesh_of}
+use Rattle.mesh.specs.Lines.{other, side, Mesh, Layout, mesh_of}
+use Rattle.mesh.specs.declared.Direction.{Direction}
+use Rattle.mesh.specs.declared.Direction.TheVariants.{Upright as upright, Level as level}
 use Rattle.mesh.specs.Blends.{crossed, along}
 use Rattle.mesh.specs.Sound.{four_everywhere}
 use Rattle.mesh.specs.Splits.{live_of}

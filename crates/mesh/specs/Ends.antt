@@ -2,10 +2,13 @@
 use Rattle.std.specs.Prelude.{ℕ, ◌+◌, ◌-◌, ◌≤◌, ◌<◌, ◌≡◌, ◌↔◌, ◌⊎◌, Bool, true, cond, ◌&&◌, ◌||◌, [], ◌∷◌, eqb, length}
 use Rattle.axis.specs.Limits.{most_allowance}
 use Rattle.axis.specs.Range.{any, only}
-use Rattle.axis.specs.Triple.{Side, lower, upper, knot_in}
+use Rattle.axis.specs.Triple.{knot_in}
+use Rattle.axis.specs.declared.Side.{Side}
+use Rattle.axis.specs.declared.Side.TheVariants.{Lower as lower, Upper as upper}
 use Rattle.axis.specs.Nearest.{below, above}
 use Rattle.axis.specs.declared.Triple.{Triple}
-use Rattle.mesh.specs.Lines.{Direction, direction, other, side, Layout, mesh_of}
+use Rattle.mesh.specs.Lines.{direction, other, side, Layout, mesh_of}
+use Rattle.mesh.specs.declared.Direction.{Direction}
 use Rattle.mesh.specs.Blends.{crossed, along}
 use Rattle.mesh.specs.Splits.{live_of, with_line, sound_with, exact_number}
 use Rattle.mesh.specs.Lengthening.{run, spanning, Contains, candidate, adds, new_anchors, steps_of, containing, least_of, within, chosen, Candidate}

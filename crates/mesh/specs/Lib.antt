@@ -7,6 +7,7 @@ pub mod Splits
 pub mod Crossings
 pub mod Lengthening
 pub mod Ends
+pub mod Refusals
 pub mod Replay
 pub mod Bytes
 pub mod Carried

@@ -4,11 +4,10 @@ use Rattle.axis.specs.Limits.{largest_side}
 use Rattle.axis.specs.Range.{every, some, all, any}
 use Rattle.mesh.specs.declared.Split.{Split}
 use Rattle.mesh.specs.declared.Lines.{Lines}
+use Rattle.mesh.specs.declared.Direction.{Direction}
+use Rattle.mesh.specs.declared.Direction.TheVariants.{Upright as upright, Level as level}
 
 -- "direction (0 upright, 1 level)"
-pub data Direction : Type 0 where
-  upright level : Direction
-
 abbrev pub number : Direction → ℕ
 number upright = 0
 number level = 1

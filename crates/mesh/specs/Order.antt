@@ -1,8 +1,10 @@
 -- Cutting in any order (document 01, "Blends"; 001, section 3), as relations: no function's order is in them.
 use Rattle.std.specs.Prelude.{◌≡◌, ℕ, ◌+◌, ◌^◌, ◌≤◌, true, false}
 use mathlib.Core.List.{List, [], ◌∷◌, ◌++◌, Memᴰ}
-use Rattle.axis.specs.Triple.{Side, lower, upper}
-use Rattle.mesh.specs.Lines.{Direction, Mesh}
+use Rattle.axis.specs.declared.Side.{Side}
+use Rattle.axis.specs.declared.Side.TheVariants.{Lower as lower, Upper as upper}
+use Rattle.mesh.specs.Lines.{Mesh}
+use Rattle.mesh.specs.declared.Direction.{Direction}
 use Rattle.mesh.specs.Blends.{cuts, halve, size}
 use Rattle.mesh.specs.declared.Blend.{Blend}
 

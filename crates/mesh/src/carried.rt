@@ -3,7 +3,9 @@ ghost use Rattle.std.specs.Prelude.{◌≡◌, true, ◌||◌, ℕ, ◌+◌, ◌
 ghost use mathlib.Core.List.{[], Memᴰ};
 ghost use Rattle.axis.specs.Limits.{largest_side, most_blends};
 ghost use Rattle.axis.specs.Range.{all};
-ghost use Rattle.mesh.specs.Lines.{Direction, Mesh, upright, level, in_range, draws, mesh, splits_of, allowed_side};
+ghost use Rattle.mesh.specs.Lines.{Mesh, in_range, draws, mesh, splits_of, allowed_side};
+ghost use Rattle.mesh.specs.declared.Direction.{Direction};
+ghost use Rattle.mesh.specs.declared.Direction.TheVariants.{Upright as upright, Level as level};
 ghost use Rattle.mesh.specs.Blends.{first_four};
 ghost use Rattle.mesh.specs.Sound.{proper, blends_of};
 ghost use Rattle.mesh.specs.Replay.{HasTable};

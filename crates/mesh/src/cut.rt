@@ -2,7 +2,7 @@
 ghost use Rattle.std.specs.Prelude.{◌≡◌, true, cond, ℕ, ◌+◌, ◌-◌, ◌≤◌};
 ghost use Rattle.axis.specs.Range.{every};
 ghost use Rattle.axis.specs.Triple.{Rises};
-ghost use Rattle.mesh.specs.Lines.{upright, level};
+ghost use Rattle.mesh.specs.declared.Direction.TheVariants.{Upright as upright, Level as level};
 ghost use Rattle.axis.specs.Nearest.{below, above, nearest};
 ghost use Rattle.mesh.specs.Blends.{cutter, leaves, size};
 ghost use Rattle.mesh.specs.Sound.{Proper};

@@ -2,7 +2,7 @@
 ghost use Rattle.std.specs.Prelude.{◌≡◌, true, List, [], ◌∷◌, ◌++◌, ℕ, ◌+◌, ◌-◌, ◌≤◌, ◌<◌, length};
 ghost use Rattle.axis.specs.Limits.{largest_side};
 ghost use Rattle.axis.specs.Range.{some};
-ghost use Rattle.axis.specs.Triple.{lower, upper};
+ghost use Rattle.axis.specs.declared.Side.TheVariants.{Lower as lower, Upper as upper};
 ghost use Rattle.mesh.specs.Lines.{direction, other, side, start, end, layout, shares, ended};
 ghost use Rattle.mesh.specs.Splits.{given, exact_number};
 ghost use Rattle.mesh.specs.Bytes.{Rows, bytes_mesh};

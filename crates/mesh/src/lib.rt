@@ -9,22 +9,31 @@ pub mod knots;
 mod links;
 mod notes;
 mod read;
+mod refusal;
 pub mod replay;
 pub mod splits;
 mod steps;
 pub mod tables;
 
 use axis::Triple;
+pub use refusal::Refusal;
 
 // A blend: its triples across and up. Its anchor is the two middles, its support the two outer pairs.
-#[derive(Clone, Copy)]
+#[derive(Clone, Copy, Debug, PartialEq, Eq)]
 pub struct Blend {
     pub across: Triple,
     pub up: Triple,
 }
 
+// The direction of a line.
+#[derive(Clone, Copy, Debug, PartialEq, Eq)]
+pub enum Direction {
+    Upright,
+    Level,
+}
+
 // A split as drawn, in document 01's own coordinates: direction 0 upright, 1 level; before run-out.
-#[derive(Clone, Copy)]
+#[derive(Clone, Copy, Debug, Default, PartialEq, Eq)]
 pub struct Split {
     pub direction: usize,
     pub position: usize,

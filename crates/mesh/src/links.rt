@@ -1,7 +1,8 @@
 // Links over the knots of one axis: from each to a later one, past knots at which no line stands.
 ghost use Rattle.std.specs.Prelude.{◌≡◌, ℕ, ◌≤◌, ◌<◌, length};
 ghost use Rattle.axis.specs.Limits.{largest_side};
-ghost use Rattle.mesh.specs.Lines.{Direction, side, fresh_mesh};
+ghost use Rattle.mesh.specs.Lines.{side, fresh_mesh};
+ghost use Rattle.mesh.specs.declared.Direction.{Direction};
 ghost use Rattle.mesh.specs.Carried.{Leads, Linked, Bare, unlinked};
 
 use axis::knots::wide;

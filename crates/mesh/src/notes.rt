@@ -3,7 +3,7 @@
 ghost use Rattle.std.specs.Prelude.{◌≡◌, true, cond, ◌||◌, ℕ, ◌-◌, ◌≤◌, ◌<◌, length, get_or};
 ghost use mathlib.Core.List.{[], ◌∷◌, Memᴰ};
 ghost use Rattle.axis.specs.Range.{some};
-ghost use Rattle.axis.specs.Triple.{lower, upper};
+ghost use Rattle.axis.specs.declared.Side.TheVariants.{Lower as lower, Upper as upper};
 ghost use Rattle.mesh.specs.Lines.{direction};
 ghost use Rattle.mesh.specs.Blends.{crossed, along, leaves_of};
 ghost use Rattle.mesh.specs.Sound.{AllProper};

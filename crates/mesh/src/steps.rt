@@ -2,7 +2,8 @@
 ghost use Rattle.std.specs.Prelude.{◌≡◌, true, ◌||◌, ℕ, ◌+◌, ◌≤◌, ◌<◌, length};
 ghost use Rattle.axis.specs.Limits.{largest_side};
 ghost use Rattle.axis.specs.Range.{every};
-ghost use Rattle.mesh.specs.Lines.{Direction, number, other, side, start, end, draws, allowed_side, fits, in_range, fresh_mesh};
+ghost use Rattle.mesh.specs.Lines.{number, other, side, start, end, draws, allowed_side, fits, in_range, fresh_mesh};
+ghost use Rattle.mesh.specs.declared.Direction.{Direction};
 ghost use Rattle.mesh.specs.Bytes.{Rows, Zeros, step_on, Drawn};
 
 use crate::{Lines, Split};

@@ -2,7 +2,9 @@
 use Rattle.std.proofs.Common.{ℕ, ◌+◌, ◌≤◌, ◌<◌, ◌≡◌, refl, List, arith}
 use mathlib.Core.Bool.{true, ◌||◌}
 use Rattle.axis.specs.Limits.{largest_side}
-use Rattle.mesh.specs.Lines.{Direction, upright, level, in_range, draws}
+use Rattle.mesh.specs.Lines.{in_range, draws}
+use Rattle.mesh.specs.declared.Direction.{Direction}
+use Rattle.mesh.specs.declared.Direction.TheVariants.{Upright as upright, Level as level}
 use Rattle.mesh.specs.Bytes.{step_on, bytes_mesh}
 use Rattle.mesh.specs.declared.Split.{Split}
 use Rattle.mesh.proofs.Ranges.{in_range_small, in_range_says, in_range_rows}

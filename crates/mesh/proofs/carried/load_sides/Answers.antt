@@ -2,7 +2,9 @@
 use Rattle.std.proofs.Common.{ℕ, ◌≡◌, refl, sym, List, []}
 use mathlib.Core.Path.{subst, fun_ext}
 use mathlib.Core.Bool.{or-false}
-use Rattle.mesh.specs.Lines.{Direction, upright, level, Mesh, fresh_mesh, mesh}
+use Rattle.mesh.specs.Lines.{Mesh, fresh_mesh, mesh}
+use Rattle.mesh.specs.declared.Direction.{Direction}
+use Rattle.mesh.specs.declared.Direction.TheVariants.{Upright as upright, Level as level}
 use Rattle.mesh.specs.Bytes.{step_on, bytes_mesh}
 use Rattle.mesh.specs.Carried.{Leads, Bare, InBytes}
 use Rattle.mesh.proofs.carried.load_sides.Goals as goal

@@ -2,8 +2,8 @@
 -- as it is where it does not cut it, or keeps it where `tried` tells that the other does not either. The measure is `ahead`.
 use Rattle.std.proofs.Common.{ℕ, ◌-◌, ◌≡◌, sym, ◌∙◌, List, arith}
 use Rattle.axis.specs.Nearest.{nearest}
-use Rattle.axis.specs.Triple.{lower, upper}
-use Rattle.mesh.specs.Lines.{upright, level}
+use Rattle.axis.specs.declared.Side.TheVariants.{Lower as lower, Upper as upper}
+use Rattle.mesh.specs.declared.Direction.TheVariants.{Upright as upright, Level as level}
 use Rattle.mesh.specs.Bytes.{bytes_mesh}
 use Rattle.mesh.specs.Sound.{Proper}
 use Rattle.mesh.specs.declared.Blend.{Blend}

@@ -2,7 +2,8 @@
 use Rattle.std.proofs.Common.{ℕ, zero, suc, ◌+◌, ◌-◌, ◌<◌, ◌≡◌, refl, sym, ◌∙◌, Bool, true, false, ◌||◌, arith}
 use borrow.Author.Tests.{lt-ltb}
 use Rattle.axis.specs.Range.{some}
-use Rattle.mesh.specs.Lines.{Direction, direction, other, Mesh, on_line, ended}
+use Rattle.mesh.specs.Lines.{direction, other, Mesh, on_line, ended}
+use Rattle.mesh.specs.declared.Direction.{Direction}
 use Rattle.mesh.proofs.exact.ends_on_lines.Goals as goal
 
 -- the direction of the lines that cross a split, by its number

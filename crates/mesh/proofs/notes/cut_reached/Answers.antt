@@ -5,7 +5,9 @@ use mathlib.Core.Bool.{true, false}
 use mathlib.Core.List.Memᴰ
 use mathlib.Core.List.{Memᴰ}
 use Rattle.axis.proofs.Tests.{each_turn, each_none, mem_each, true_not_false}
-use Rattle.mesh.specs.Lines.{Direction, upright, direction, Mesh}
+use Rattle.mesh.specs.Lines.{direction, Mesh}
+use Rattle.mesh.specs.declared.Direction.{Direction}
+use Rattle.mesh.specs.declared.Direction.TheVariants.{Upright as upright}
 use Rattle.mesh.specs.Blends.{leaves_of}
 use Rattle.mesh.specs.Bytes.{bytes_mesh, keep_all}
 use Rattle.mesh.specs.Carried.{unnoted, reached, if_reached, all_reached}

@@ -1,7 +1,8 @@
 -- What is kept, with what is left of the blends still to be cut, is the whole answer.
 use Rattle.std.proofs.Common.{ℕ, ◌-◌, ◌≤◌, ◌≡◌, List, ◌++◌, get_or}
 use Rattle.axis.specs.Range.{each}
-use Rattle.mesh.specs.Lines.{Direction, direction, Mesh}
+use Rattle.mesh.specs.Lines.{direction, Mesh}
+use Rattle.mesh.specs.declared.Direction.{Direction}
 use Rattle.mesh.specs.Blends.{leaves_of}
 use Rattle.mesh.specs.Bytes.{bytes_mesh, keep_all}
 use Rattle.mesh.specs.Carried.{if_reached, all_reached}

@@ -4,10 +4,13 @@ use borrow.Author.Tests.{ltb-true}
 use mathlib.Core.Bool.{true, false, and-false}
 use lib.Dec.{ltb}
 use lib.ListN.{set}
-use Rattle.axis.specs.Triple.{Side, lower, upper, knot_in}
+use Rattle.axis.specs.Triple.{knot_in}
+use Rattle.axis.specs.declared.Side.{Side}
+use Rattle.axis.specs.declared.Side.TheVariants.{Lower as lower, Upper as upper}
 use Rattle.axis.specs.declared.Triple.{Triple}
 use Rattle.axis.proofs.Tests.{and_both}
-use Rattle.mesh.specs.Lines.{Direction, direction}
+use Rattle.mesh.specs.Lines.{direction}
+use Rattle.mesh.specs.declared.Direction.{Direction}
 use Rattle.mesh.specs.Blends.{crossed, along}
 use Rattle.mesh.specs.Carried.{noted, note_all}
 use Rattle.mesh.specs.declared.Blend.{Blend}

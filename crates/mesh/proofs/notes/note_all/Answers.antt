@@ -1,8 +1,8 @@
 -- `mesh::notes::note_all` meets its contract.
 use Rattle.std.proofs.Common.{ℕ, ◌≡◌, refl, ◌∙◌, List, [], ◌∷◌, arith}
 use mathlib.Core.Path.{subst}
-use Rattle.axis.specs.Triple.{lower, upper}
-use Rattle.mesh.specs.Lines.{Direction}
+use Rattle.axis.specs.declared.Side.TheVariants.{Lower as lower, Upper as upper}
+use Rattle.mesh.specs.declared.Direction.{Direction}
 use Rattle.mesh.specs.Bytes.{unpacked}
 use Rattle.mesh.specs.Carried.{note_all}
 use Rattle.mesh.specs.declared.Blend.{Blend}

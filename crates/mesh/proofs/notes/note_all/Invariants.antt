@@ -1,7 +1,8 @@
 -- What is noted, with the places that are left, is the whole answer.
 use Rattle.std.proofs.Common.{ℕ, ◌+◌, ◌-◌, ◌≤◌, ◌≡◌, List}
-use Rattle.axis.specs.Triple.{lower, upper}
-use Rattle.mesh.specs.Lines.{Direction, direction}
+use Rattle.axis.specs.declared.Side.TheVariants.{Lower as lower, Upper as upper}
+use Rattle.mesh.specs.Lines.{direction}
+use Rattle.mesh.specs.declared.Direction.{Direction}
 use Rattle.mesh.specs.Bytes.{walk}
 use Rattle.mesh.specs.Carried.{note_all}
 use Rattle.mesh.specs.declared.Blend.{Blend}
