@@ -1,4 +1,4 @@
--- `mesh::tables::fresh_table` meets its contract: an empty table, or the first four blends.
+-- `mesh::Table::fresh` meets its contract: an empty table, or the first four blends.
 use Rattle.std.proofs.Common.{◌≡◌, ap, ◌∙◌, sym, ℕ, List, [], ◌∷◌}
 use lib.ListN.{get_or}
 use Rattle.mesh.specs.declared.Found.{Found}
@@ -6,7 +6,7 @@ use Rattle.mesh.specs.declared.Blend.{Blend}
 use Rattle.mesh.specs.Blends.{first_four}
 use Rattle.mesh.specs.Sound.{none, table, fresh_table}
 use Rattle.mesh.proofs.BlendTables.{four_set}
-use Rattle.mesh.proofs.tables.fresh_table.Goals as goal
+use Rattle.mesh.proofs.Table.fresh.Goals as goal
 
 pub returns-then-not-allowed_side : goal.returns-then-not-allowed_side
 unfolding fresh_table
