@@ -36,6 +36,15 @@ impl Lines {
     }
 }
 
+impl Direction {
+    // Its number in a split.
+    fn number(self) -> usize
+        ensures { result ≡ number self }
+    {
+        self as usize
+    }
+}
+
 impl Split {
     // Whether it keeps to the side that it crosses and the side that it runs along.
     fn fits(self, crossed: usize, run: usize) -> bool
@@ -87,7 +96,7 @@ pub(crate) fn draw_split(s: Split, d: Direction, run: usize, steps: &mut [u8])
         ((w h : ℕ) → side (other d) w h ≡ run → (z k : ℕ) →
         step_on steps.new z k ≡ (step_on steps.old z k || draws w h d z k s)) }
 {
-    if s.direction == d as usize {
+    if s.direction == d.number() {
         draw(steps, s.position + 1, s.start(), s.end(run));
     }
 }
