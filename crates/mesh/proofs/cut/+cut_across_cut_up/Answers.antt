@@ -25,14 +25,14 @@ pub cut_across-cut_up-requires : goal.cut_across-cut_up-requires
 cut_across-cut_up-requires t c =
     let a = c.args in
     let f = across_found a.uprights.now a.levels.now a.x c.requires.1 c.first_line-z.ensures c.if-z-ne0.true in
-    let h = half_asks f a.tried t c.decreases lower _ c.lower_half.ensures in
+    let h = half_asks f a.tried t c.decreases lower _ c.half.ensures in
     (h.0, ((omega arith, omega arith, omega arith), h.1, h.2))
 
 pub cut_across-cut_up-requires-then-z-ne0 : goal.cut_across-cut_up-requires-then-z-ne0
 cut_across-cut_up-requires-then-z-ne0 t c =
     let a = c.args in
     let f = across_found a.uprights.now a.levels.now a.x c.requires.1 c.first_line-z.ensures c.if-z-ne0.true in
-    let h = half_asks f a.tried t c.decreases upper _ c.upper_half.ensures in
+    let h = half_asks f a.tried t c.decreases upper _ c.half-then-z-ne0.ensures in
     (h.0, ((omega arith, omega arith, omega arith), h.1, h.2))
 
 pub cut_across-returns-then-z-ne0 : goal.cut_across-returns-then-z-ne0
@@ -40,7 +40,7 @@ cut_across-returns-then-z-ne0 t c =
     let a = c.args in
     let f = across_found a.uprights.now a.levels.now a.x c.requires.1 c.first_line-z.ensures c.if-z-ne0.true in
     cut_halves f a.tried _ _ a.places.now c.cut_up.new.places c.cut_up-then-z-ne0.new.places
-    c.requires.2 c.lower_half.ensures c.upper_half.ensures c.cut_up.ensures c.cut_up-then-z-ne0.ensures
+    c.requires.2 c.half.ensures c.half-then-z-ne0.ensures c.cut_up.ensures c.cut_up-then-z-ne0.ensures
 
 pub cut_across-returns-then-tried : goal.cut_across-returns-then-tried
 unfolding bytes_mesh
@@ -60,14 +60,14 @@ pub cut_up-cut_across-requires : goal.cut_up-cut_across-requires
 cut_up-cut_across-requires t c =
     let a = c.args in
     let f = up_found a.uprights.now a.levels.now a.x c.requires.1 c.first_line-z.ensures c.if-z-ne0.true in
-    let h = half_asks f a.tried t c.decreases lower _ c.lower_half.ensures in
+    let h = half_asks f a.tried t c.decreases lower _ c.half.ensures in
     (h.0, ((omega arith, omega arith, omega arith), h.1, h.2))
 
 pub cut_up-cut_across-requires-then-z-ne0 : goal.cut_up-cut_across-requires-then-z-ne0
 cut_up-cut_across-requires-then-z-ne0 t c =
     let a = c.args in
     let f = up_found a.uprights.now a.levels.now a.x c.requires.1 c.first_line-z.ensures c.if-z-ne0.true in
-    let h = half_asks f a.tried t c.decreases upper _ c.upper_half.ensures in
+    let h = half_asks f a.tried t c.decreases upper _ c.half-then-z-ne0.ensures in
     (h.0, ((omega arith, omega arith, omega arith), h.1, h.2))
 
 pub cut_up-returns-then-z-ne0 : goal.cut_up-returns-then-z-ne0
@@ -75,7 +75,7 @@ cut_up-returns-then-z-ne0 t c =
     let a = c.args in
     let f = up_found a.uprights.now a.levels.now a.x c.requires.1 c.first_line-z.ensures c.if-z-ne0.true in
     cut_halves f a.tried _ _ a.places.now c.cut_across.new.places c.cut_across-then-z-ne0.new.places
-    c.requires.2 c.lower_half.ensures c.upper_half.ensures c.cut_across.ensures c.cut_across-then-z-ne0.ensures
+    c.requires.2 c.half.ensures c.half-then-z-ne0.ensures c.cut_across.ensures c.cut_across-then-z-ne0.ensures
 
 pub cut_up-returns-then-tried : goal.cut_up-returns-then-tried
 unfolding bytes_mesh

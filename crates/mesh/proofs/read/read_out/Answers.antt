@@ -11,7 +11,7 @@ loop-m-init c =
     let a = c.args in
     record {
       begun = omega arith;
-      reading = rw (c.nothing-blends.ensures, ← walk_columns a.w a.h a.places.now) (read_none (walk a.w a.h a.places.now));
+      reading = rw (← walk_columns a.w a.h a.places.now) (read_none (walk a.w a.h a.places.now));
     }
 
 pub bounds-blends-count : goal.bounds-blends-count
