@@ -8,6 +8,7 @@ use mathlib.Core.Bool.{Bool, true, false, cond}
 use borrow.Author.Tests.{eqb-true, eqb-false, eq-eqb, ne_eqb, ltb-true, ltb-false}
 use lib.Dec.{eqb, ltb}
 use Rattle.std.specs.Prelude.{Option, Some, None}
+use Rattle.std.proofs.lemmas.Option.{none-some, cond_some}
 use Rattle.axis.specs.Nearest.{below, above, nearest, any_line}
 use Rattle.axis.specs.declared.Triple.{Triple}
 use Rattle.axis.specs.Triple.{Rise}
@@ -135,6 +136,14 @@ some_line (suc v) z e pos = ap Some (sym e)
 
 pub no_line : (v : ℕ) → v ≡ 0 → None ≡ any_line v
 no_line v e = rw e
+
+pub line_is : (v z : ℕ) → any_line v ≡ Some z → (z ≡ v) × (z ≡ 0 → ⊥)
+line_is zero z e = absurd (none-some z e)
+line_is (suc v) z e = let same = (cond_some true (suc v) z e).1 in (sym same, λ q. omega arith)
+
+pub line_none : (v : ℕ) → any_line v ≡ None → v ≡ 0
+line_none zero e = refl
+line_none (suc v) e = absurd (none-some (suc v) (sym e))
 
 -- The searches as such: the last number at or below n that passes a test, where 0 does,
 pub below_last : (test : ℕ → Bool) (n : ℕ) → test 0 ≡ true →

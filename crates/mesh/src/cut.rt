@@ -50,22 +50,19 @@ pub(crate) fn cut_across(uprights: &[u8], levels: &[u8], x: Blend, tried: bool, 
 {
     let a = x.across;
     let u = x.up;
-    let line = first_line(uprights, a, u.l, u.r - u.l);
-    if let Some(z) = line {
-        for side in [Side::Lower, Side::Upper] {
-            let half = Blend {
-                across: a.half(side, z),
-                up: u,
-            };
-            cut_up(uprights, levels, half, false, places);
+    match first_line(uprights, a, u.l, u.r - u.l) {
+        Some(z) => {
+            for side in [Side::Lower, Side::Upper] {
+                let half = Blend {
+                    across: a.half(side, z),
+                    up: u,
+                };
+                cut_up(uprights, levels, half, false, places);
+            }
         }
-        return;
+        None if tried => keep_blend(places, x),
+        None => cut_up(uprights, levels, x, true, places),
     }
-    if tried {
-        keep_blend(places, x);
-        return;
-    }
-    cut_up(uprights, levels, x, true, places);
 }
 
 // Cuts a blend by levels and hands the halves back to the upright cuts. `tried` tells that no upright cuts the blend.
@@ -78,20 +75,17 @@ fn cut_up(uprights: &[u8], levels: &[u8], x: Blend, tried: bool, places: &mut [u
 {
     let a = x.across;
     let u = x.up;
-    let line = first_line(levels, u, a.l, a.r - a.l);
-    if let Some(z) = line {
-        for side in [Side::Lower, Side::Upper] {
-            let half = Blend {
-                across: a,
-                up: u.half(side, z),
-            };
-            cut_across(uprights, levels, half, false, places);
+    match first_line(levels, u, a.l, a.r - a.l) {
+        Some(z) => {
+            for side in [Side::Lower, Side::Upper] {
+                let half = Blend {
+                    across: a,
+                    up: u.half(side, z),
+                };
+                cut_across(uprights, levels, half, false, places);
+            }
         }
-        return;
+        None if tried => keep_blend(places, x),
+        None => cut_across(uprights, levels, x, true, places),
     }
-    if tried {
-        keep_blend(places, x);
-        return;
-    }
-    cut_across(uprights, levels, x, true, places);
 }

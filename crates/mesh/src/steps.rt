@@ -14,7 +14,9 @@ pub(crate) fn covers(steps: &[u8], z: u8, b: u8, n: u8) -> bool
     ensures { result ≡ every b n (step_on steps.now z) }
 {
     let from = usize::from(z) * 131 + usize::from(b);
-    steps[from..from + usize::from(n)].iter().all(|&step| step != 0)
+    steps[from..from + usize::from(n)]
+        .iter()
+        .all(|&step| step != 0)
 }
 
 // Switches on the steps from knot `from` to knot `to` of the line at knot z.
@@ -69,7 +71,11 @@ impl Split {
     pub(crate) fn way(self) -> Direction
         ensures { result ≡ direction self.direction }
     {
-        if self.direction == 0 { Direction::Upright } else { Direction::Level }
+        if self.direction == 0 {
+            Direction::Upright
+        } else {
+            Direction::Level
+        }
     }
 
     // Its first and its last knot: a drawn end at a side runs out.

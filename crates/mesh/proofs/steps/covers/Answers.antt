@@ -2,7 +2,6 @@
 use Rattle.std.proofs.Common.{rules, tests, ◌≡◌, ◌∙◌, eqb, arith}
 use mathlib.Core.Bool.{not}
 use lib.ListN.{take, drop}
-use Rattle.std.specs.List.{list_all}
 use Rattle.std.proofs.lemmas.Iterator.{YieldsList-from_slice}
 use Rattle.std.proofs.lemmas.Iterator.Search.{all_from_yields_List}
 use Rattle.mesh.specs.Blends.{at}

@@ -1,6 +1,5 @@
 -- `mesh::steps::draw_fresh` meets its contract: four lines over no steps are a fresh map's.
-use Rattle.std.proofs.Common.{◌+◌, ◌≡◌, arith, length, ◌∙◌, sym, ap, subst, List, ℕ, [], ◌∷◌}
-use lib.ListN.{take}
+use Rattle.std.proofs.Common.{◌+◌, ◌≡◌, arith, length, sym, subst, List, ℕ, [], ◌∷◌}
 use Rattle.std.proofs.lemmas.List.{take_more}
 use Rattle.mesh.proofs.Drawing.{AllDrawn, all_none, all_more, all_fresh}
 use Rattle.mesh.proofs.steps.draw_fresh.Goals as goal
