@@ -13,10 +13,13 @@ pub(crate) fn covers(steps: &[u8], z: u8, b: u8, n: u8) -> bool
     requires { Rows (z + 1) steps.now × (z < 131) × (b + n ≤ 131) }
     ensures { result ≡ every b n (step_on steps.now z) }
 {
-    let from = usize::from(z) * 131 + usize::from(b);
-    steps[from..from + usize::from(n)]
-        .iter()
-        .all(|&step| step != 0)
+    let row = usize::from(z) * 131;
+    for k in b..b + n {
+        if steps[row + usize::from(k)] == 0 {
+            return false;
+        }
+    }
+    true
 }
 
 // Switches on the steps from knot `from` to knot `to` of the line at knot z.
