@@ -1,5 +1,5 @@
 -- `mesh::links::link` meets its contract.
-use Rattle.std.proofs.Common.{ℕ, ◌+◌, ◌≤◌, ◌<◌, ◌≡◌, refl, sym, ◌∙◌, List, length, get_or, arith, le-ltb, eqb-true, get_or-set_same, get_or-set_other}
+use Rattle.std.proofs.Common.{ℕ, ◌+◌, ◌<◌, ◌≡◌, refl, sym, ◌∙◌, List, length, get_or, arith, le-ltb, eqb-true, get_or-set_same, get_or-set_other}
 use borrow.Author.Tests.{lt-ltb, ltb-true, ltb-false, eqb-false}
 use Prim.Native.Nat.{min}
 use mathlib.Core.Path.{subst}

@@ -1,5 +1,5 @@
 -- What is left to test decides the whole answer.
-use Rattle.std.proofs.Common.{◌+◌, ◌-◌, ◌≡◌}
+use Rattle.std.proofs.Common.{◌-◌, ◌≡◌}
 use Rattle.axis.specs.Range.{every}
 use Rattle.mesh.specs.Bytes.{step_on}
 use Rattle.mesh.proofs.steps.covers.Given as goal
