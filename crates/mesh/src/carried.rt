@@ -16,7 +16,7 @@ use crate::cut::keep_blend;
 use crate::links::{link, link_fresh};
 use crate::steps::{draw_fresh, draw_split};
 use crate::tables::first_four;
-use crate::{Blend, Lines, Split, Table};
+use crate::{Blend, Direction, Lines, Split, Table};
 
 // Draws a split's line and links its knot.
 pub(crate) fn add_line(
@@ -37,8 +37,8 @@ pub(crate) fn add_line(
         Leads (Bare M upright) columns.old → Leads (Bare M level) rows.old →
         Leads (Bare N upright) columns.new × Leads (Bare N level) rows.new) }
 {
-    draw_split(s, 0, h, uprights);
-    draw_split(s, 1, w, levels);
+    draw_split(s, Direction::Upright, h, uprights);
+    draw_split(s, Direction::Level, w, levels);
     if s.direction == 0 {
         link(columns, s.position + 1);
         return;

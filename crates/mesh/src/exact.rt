@@ -10,7 +10,6 @@ ghost use Rattle.mesh.specs.Carried.{Carried, Carries, Noted, blank, runs_from, 
 
 use crate::carried::add_line;
 use crate::notes::{alike_at, cut_reached, note_all, some_reached};
-use crate::steps::{first_knot, in_range, last_knot};
 use crate::{Lines, Split};
 
 // Whether the unit step from knot k, of a line of the direction at knot z, is on.
@@ -75,7 +74,7 @@ fn runs_from(uprights: &[u8], levels: &[u8], s: Split) -> usize
     requires { Rows (s.position + 2) uprights.now × Rows (s.position + 2) levels.now × (s.position < largest_side) × (s.from < largest_side) }
     ensures { result ≡ runs_from (bytes_mesh uprights.now levels.now (direction s.direction) (s.position + 1)) (start s) }
 {
-    let mut k = first_knot(s);
+    let mut k = s.start();
     while 0 < k {
         if !on(uprights, levels, s.direction, s.position + 1, k - 1) {
             return k;
@@ -91,7 +90,7 @@ fn runs_to(uprights: &[u8], levels: &[u8], run: usize, s: Split) -> usize
     ensures { (result ≡ runs_to (bytes_mesh uprights.now levels.now (direction s.direction) (s.position + 1)) (end run s)
         (131 - end run s)) × (result ≤ 131) }
 {
-    let mut k = last_knot(run, s);
+    let mut k = s.end(run);
     while k < 131 {
         if !on(uprights, levels, s.direction, s.position + 1, k) {
             return k;
@@ -130,7 +129,7 @@ pub(crate) fn look(
         Carried w h ss uprights.now levels.now columns.now rows.now places.now →
         (result ≡ given (layout w h ss) s) × (result ≡ 0 → Noted w h ss s lows.new highs.new) }
 {
-    if !in_range(w, h, s) {
+    if !s.in_range(w, h) {
         return 3;
     }
     if Lines::MOST_SPLITS <= count {

@@ -12,10 +12,7 @@ ghost use Rattle.mesh.specs.Carried.{Walks, RowsOf, note_all, alike, reached, al
 
 use crate::Blend;
 use crate::cut::cut_across;
-use crate::knots::{from_note, to_note, unpack};
-use axis::Triple;
-use axis::knots::wide;
-use axis::supports::{in_lower, in_upper};
+use axis::{Side, Triple};
 
 // The triple of a blend that lines of the direction cut, and the one that they must cover.
 fn crossed_by(number: usize, x: Blend) -> Triple
@@ -43,13 +40,13 @@ fn note(x: Blend, number: usize, z: usize, lows: &mut [usize], highs: &mut [usiz
         (highs.new ≡ note_all lower (direction number) z highs.old (x ∷ [])) }
 {
     let t = crossed_by(number, x);
-    let k = wide(along_of(number, x).m);
-    if in_upper(t, z) {
-        lows[k] = to_note(x);
+    let k = usize::from(along_of(number, x).m);
+    if t.has_inside(Side::Upper, z) {
+        lows[k] = x.to_note();
         return;
     }
-    if in_lower(t, z) {
-        highs[k] = to_note(x);
+    if t.has_inside(Side::Lower, z) {
+        highs[k] = x.to_note();
     }
 }
 
@@ -75,11 +72,11 @@ pub(crate) fn note_all(
         while n <= h + 1 {
             let c = places[m * 131 + n] as usize;
             if c != 0 {
-                note(unpack(m, n, c), number, z, lows, highs);
+                note(Blend::unpack(m, n, c), number, z, lows, highs);
             }
-            n = wide(rows[n]);
+            n = usize::from(rows[n]);
         }
-        m = wide(columns[m]);
+        m = usize::from(columns[m]);
     }
 }
 
@@ -90,11 +87,11 @@ fn is_reached(number: usize, from: usize, to: usize, c: usize) -> bool
     if c == 0 {
         return false;
     }
-    let t = along_of(number, from_note(c));
-    if wide(t.l) < from {
+    let t = along_of(number, Blend::from_note(c));
+    if usize::from(t.l) < from {
         return false;
     }
-    wide(t.r) <= to
+    usize::from(t.r) <= to
 }
 
 // Whether one does: its anchor's level lies between.
@@ -143,11 +140,11 @@ pub(crate) fn cut_reached(
     while k < to {
         let a = lows[k];
         if is_reached(number, from, to, a) {
-            cut_across(uprights, levels, from_note(a), false, places);
+            cut_across(uprights, levels, Blend::from_note(a), false, places);
         }
         let b = highs[k];
         if is_reached(number, from, to, b) {
-            cut_across(uprights, levels, from_note(b), false, places);
+            cut_across(uprights, levels, Blend::from_note(b), false, places);
         }
         k += 1;
     }
@@ -173,8 +170,8 @@ pub(crate) fn alike_at(
     if high == 0 {
         return false;
     }
-    let s = along_of(number, from_note(low));
-    let t = along_of(number, from_note(high));
+    let s = along_of(number, Blend::from_note(low));
+    let t = along_of(number, Blend::from_note(high));
     if start {
         return s.r == t.r;
     }

@@ -5,17 +5,14 @@ ghost use Rattle.mesh.specs.Sound.{table};
 ghost use Rattle.mesh.specs.Bytes.{walk};
 ghost use Rattle.mesh.specs.Carried.{Walks};
 
-use crate::Table;
-use crate::knots::unpack;
-use crate::tables::nothing;
-use axis::knots::wide;
+use crate::{Blend, Table};
 
 // The table of the kept blends.
 pub(crate) fn read_out(places: &[u32], columns: &[u8], rows: &[u8], w: usize, h: usize) -> Table
     requires { Walks w h columns.now rows.now places.now × (length (walk w h places.now) ≤ most_blends) }
     ensures { result ≡ table (walk w h places.now) }
 {
-    let mut blends = [nothing(); Table::MOST_BLENDS];
+    let mut blends = [Blend::NONE; Table::MOST_BLENDS];
     let mut count = 0;
     let mut m = 1;
     while m <= w + 1 {
@@ -23,12 +20,12 @@ pub(crate) fn read_out(places: &[u32], columns: &[u8], rows: &[u8], w: usize, h:
         while n <= h + 1 {
             let c = places[m * 131 + n] as usize;
             if c != 0 {
-                blends[count] = unpack(m, n, c);
+                blends[count] = Blend::unpack(m, n, c);
                 count += 1;
             }
-            n = wide(rows[n]);
+            n = usize::from(rows[n]);
         }
-        m = wide(columns[m]);
+        m = usize::from(columns[m]);
     }
     Table {
         count: count,

@@ -8,7 +8,6 @@ ghost use Rattle.mesh.specs.Carried.{Cleared};
 use crate::carried::load_fresh;
 use crate::read::read_out;
 use crate::splits::step;
-use crate::steps::allowed_side;
 use crate::tables::refusal;
 use crate::{Found, Lines};
 
@@ -50,10 +49,10 @@ pub fn replay(lines: Lines) -> Found
 {
     let w = lines.w;
     let h = lines.h;
-    if !allowed_side(w) {
+    if !Lines::allows_side(w) {
         return refusal();
     }
-    if !allowed_side(h) {
+    if !Lines::allows_side(h) {
         return refusal();
     }
     if Lines::MOST_SPLITS < lines.count {

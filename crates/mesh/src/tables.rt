@@ -1,21 +1,19 @@
 // Tables of blends: the empty one, and the first four.
-ghost use Rattle.std.specs.Prelude.{◌≡◌, ◌≤◌};
-ghost use Rattle.axis.specs.Limits.{largest_side};
-ghost use Rattle.axis.specs.Triple as triples;
+ghost use Rattle.std.specs.Prelude.{◌≡◌, ◌≤◌, [], length};
+ghost use Rattle.axis.specs.Limits.{largest_side, most_blends};
 ghost use Rattle.mesh.specs.Blends.{first_four};
-ghost use Rattle.mesh.specs.Sound.{none, table, fresh_table};
+ghost use Rattle.mesh.specs.Sound.{table, fresh_table, blends_of};
 ghost use Rattle.mesh.specs.Replay.{not_replayed};
 
-use crate::knots::unpack;
-use crate::steps::allowed_side;
-use crate::{Blend, Found, Table};
-use axis::Triple;
+use crate::{Blend, Found, Lines, Table};
+use axis::{Side, Triple};
 
-// An unused place of a table.
-pub(crate) fn nothing() -> Blend
-    ensures { result ≡ none }
-{
-    unpack(0, 0, 0)
+impl Blend {
+    // An unused place of a table.
+    pub(crate) const NONE: Blend = Blend {
+        across: Triple { l: 0, m: 0, r: 0 },
+        up: Triple { l: 0, m: 0, r: 0 },
+    };
 }
 
 // The answer where lines are not replayed.
@@ -24,33 +22,7 @@ pub(crate) fn refusal() -> Found
 {
     Found {
         ok: false,
-        table: Table {
-            count: 0,
-            blends: [nothing(); Table::MOST_BLENDS],
-        },
-    }
-}
-
-// The two triples of the first blends, on one axis.
-fn low(side: usize) -> Triple
-    requires { side ≤ largest_side }
-    ensures { result ≡ triples.low side }
-{
-    Triple {
-        l: 0,
-        m: 1,
-        r: (side + 1) as u8,
-    }
-}
-
-fn high(side: usize) -> Triple
-    requires { side ≤ largest_side }
-    ensures { result ≡ triples.high side }
-{
-    Triple {
-        l: 1,
-        m: (side + 1) as u8,
-        r: (side + 2) as u8,
+        table: Table::empty(),
     }
 }
 
@@ -59,10 +31,10 @@ pub(crate) fn first_four(w: usize, h: usize) -> [Blend; 4]
     requires { (w ≤ largest_side) × (h ≤ largest_side) }
     ensures { result ≡ first_four w h }
 {
-    let left = low(w);
-    let right = high(w);
-    let bottom = low(h);
-    let top = high(h);
+    let left = Triple::first(Side::Lower, w);
+    let right = Triple::first(Side::Upper, w);
+    let bottom = Triple::first(Side::Lower, h);
+    let top = Triple::first(Side::Upper, h);
     [
         Blend {
             across: left,
@@ -83,22 +55,43 @@ pub(crate) fn first_four(w: usize, h: usize) -> [Blend; 4]
     ]
 }
 
-// The table of a fresh map; an empty one where a side is out of range.
-pub fn fresh_table(w: usize, h: usize) -> Table
-    ensures { result ≡ fresh_table w h }
-{
-    if !allowed_side(w) {
-        return refusal().table;
+impl Table {
+    // The table that lists some blends.
+    fn of(blends: &[Blend]) -> Table
+        requires { length blends.now ≤ most_blends }
+        ensures { result ≡ table blends.now }
+    {
+        let mut places = [Blend::NONE; Table::MOST_BLENDS];
+        places[..blends.len()].copy_from_slice(blends);
+        Table {
+            count: blends.len(),
+            blends: places,
+        }
     }
-    if !allowed_side(h) {
-        return refusal().table;
+
+    pub(crate) fn empty() -> Table
+        ensures { result ≡ table [] }
+    {
+        Table::of(&[])
     }
-    let four = first_four(w, h);
-    let mut t = refusal().table;
-    t.blends[0] = four[0];
-    t.blends[1] = four[1];
-    t.blends[2] = four[2];
-    t.blends[3] = four[3];
-    t.count = 4;
-    t
+
+    // The table of a fresh map; an empty one where a side is out of range.
+    #[tactic(auto, unfolding(crate::specs::Sound::fresh_table))]
+    pub fn fresh(w: usize, h: usize) -> Table
+        ensures { result ≡ fresh_table w h }
+    {
+        if Lines::allows_side(w) && Lines::allows_side(h) {
+            Table::of(&first_four(w, h))
+        } else {
+            Table::empty()
+        }
+    }
+
+    // The blends that are listed.
+    pub fn blends(&self) -> &[Blend]
+        requires { self.now.count ≤ most_blends }
+        ensures { result.now ≡ blends_of self.now }
+    {
+        &self.blends[..self.count]
+    }
 }

@@ -51,7 +51,7 @@ returns-then-s-eq0 c =
     let lvs = c.draw_split-2.ensures in (
       ups.0,
       lvs.0,
-      both_drawn _ _ _ _ _ _ _ (ups.1 upright _ _ refl refl) (lvs.1 level _ _ refl refl),
+      both_drawn _ _ _ _ _ _ _ (ups.1 _ _ refl) (lvs.1 _ _ refl),
       λ M N more over_columns over_rows. (
         leads_over (λ y pos free. own_bare a.w a.h a.s M N more upright y free.0 free.1) (linked_leads over_columns c.link.ensures),
         leads_over (λ y pos free. other_bare a.w a.h a.s M N more level y (λ e. omega (arith, e, c.if-s-eq0.true)) free) over_rows,
@@ -71,7 +71,7 @@ returns c =
     let lvs = c.draw_split-2.ensures in (
       ups.0,
       lvs.0,
-      both_drawn _ _ _ _ _ _ _ (ups.1 upright _ _ refl refl) (lvs.1 level _ _ refl refl),
+      both_drawn _ _ _ _ _ _ _ (ups.1 _ _ refl) (lvs.1 _ _ refl),
       λ M N more over_columns over_rows. (
         leads_over (λ y pos free. other_bare a.w a.h a.s M N more upright y c.if-s-eq0.false free) over_columns,
         leads_over (λ y pos free. own_bare a.w a.h a.s M N more level y free.0 free.1) (linked_leads over_rows c.link-2.ensures),

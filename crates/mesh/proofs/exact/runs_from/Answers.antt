@@ -11,7 +11,7 @@ first_most : (from : ℕ) → from < 128 → cond (eqb from 0) 0 (from + 1) ≤ 
 first_most from lt = ⊎_elim (λ e. rw e (omega arith)) (λ e. rw e (omega arith)) (either (eqb from 0))
 
 pub loop-k-init : goal.loop-k-init
-loop-k-init c = let e = c.first_knot-k.ensures in record { within = rw e (first_most c.args.s.from c.requires.3); same = rw e }
+loop-k-init c = let e = c.start-k.ensures in record { within = rw e (first_most c.args.s.from c.requires.3); same = rw e }
 
 -- one turn back
 turn : (line : ℕ → Bool) (k : ℕ) → 0 < k → line (k - 1) ≡ true → runs_from line (k - 1) ≡ runs_from line k

@@ -4,7 +4,7 @@ use Rattle.mesh.specs.Carried.{runs_to}
 use Rattle.mesh.proofs.exact.runs_to.Goals as goal
 
 pub loop-k-init : goal.loop-k-init
-loop-k-init c = let e = c.last_knot-k.ensures in record { within = omega (arith, e.1); same = rw e.0 }
+loop-k-init c = let e = c.end-k.ensures in record { within = omega (arith, e.1); same = rw e.0 }
 
 -- one turn on
 turn : (line : ℕ → Bool) (k n m : ℕ) → n ≡ suc m → line k ≡ true → runs_to line (k + 1) m ≡ runs_to line k n

@@ -49,8 +49,8 @@ loop-n-preserved c =
     let m = c.loop-m.m in
     let l = c.loop-n in
     let on = row_leads a.w a.h a.places.now walks l.n (omega arith) in (
-      omega (arith, c.wide-n.ensures),
-      rw c.wide-n.ensures
+      omega (arith, c.from-n.ensures),
+      rw c.from-n.ensures
           (elim c.if-c-ne0.branch [
             | then-c-ne0 w ↦
                 let here = turned (place_holds a.w a.h a.places.now walks m l.n (omega arith) (omega arith) w.if-c-ne0.true) l.invariant.1 in
@@ -68,8 +68,8 @@ loop-m-preserved c =
     let m = c.loop-m.m in
     let l = c.loop-n in
     let on = column_leads a.w a.h a.places.now walks m (omega arith) in (
-      omega (arith, c.wide-m.ensures),
-      rw c.wide-m.ensures
+      omega (arith, c.from-m.ensures),
+      rw c.from-m.ensures
           (turned (column_ends a.w a.h a.places.now walks m l.n (omega arith) (omega arith)) (joined c.loop-m.invariant.1 l.invariant.1)),
     )
 

@@ -11,7 +11,7 @@ loop-m-init c =
     let a = c.args in
     record {
       begun = omega arith;
-      reading = rw (c.nothing-blends.ensures, ← walk_columns a.w a.h a.places.now) (read_none (walk a.w a.h a.places.now));
+      reading = rw (← walk_columns a.w a.h a.places.now) (read_none (walk a.w a.h a.places.now));
     }
 
 pub bounds-blends-count : goal.bounds-blends-count
@@ -29,7 +29,7 @@ loop-n-preserved c =
     let on = row_leads a.w a.h a.places.now c.requires.0 l.n (omega arith) in
     record {
       begun = omega arith;
-      reading = rw c.wide-n.ensures (elim c.if-c-ne0.branch [
+      reading = rw c.from-n.ensures (elim c.if-c-ne0.branch [
         | then-c-ne0 w ↦
             let here = rw (place_holds a.w a.h a.places.now c.requires.0 m l.n (omega arith) (omega arith) w.if-c-ne0.true) at l.invariant.reading in
             rw (w.blends-is, w.count-is, w.unpack.ensures) (read_more (read_room c.requires.1 here) here)
@@ -47,7 +47,7 @@ loop-m-preserved c =
     let on = column_leads a.w a.h a.places.now c.requires.0 m (omega arith) in
     record {
       begun = omega arith;
-      reading = rw c.wide-m.ensures (rw (column_ends a.w a.h a.places.now c.requires.0 m l.n (omega arith) (omega arith)) at l.invariant.reading);
+      reading = rw c.from-m.ensures (rw (column_ends a.w a.h a.places.now c.requires.0 m l.n (omega arith) (omega arith)) at l.invariant.reading);
     }
 
 pub returns : goal.returns

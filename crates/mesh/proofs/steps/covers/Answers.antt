@@ -1,30 +1,36 @@
 -- `mesh::steps::covers` meets its contract.
-use Rattle.std.proofs.Common.{arith, refl, sym, ◌∙◌}
+use Rattle.std.proofs.Common.{◌≡◌, ◌+◌, ◌-◌, arith, sym, ap, ◌∙◌}
+use Rattle.axis.specs.Range.{every}
 use Rattle.mesh.specs.Bytes.{step_on}
 use Rattle.axis.proofs.Tests.{every_turn, every_none}
 use Rattle.mesh.proofs.Bytes.{step_off, step_on_lem}
 use Rattle.mesh.proofs.steps.covers.Goals as goal
 
-pub loop-left-init : goal.loop-left-init
-loop-left-init c = rw (c.wide-k.ensures, c.wide-left.ensures) (refl, refl)
+pub loop-k-init : goal.loop-k-init
+loop-k-init c =
+    let a = c.args in
+    let whole : a.b + a.n - a.b ≡ a.n = omega arith in
+    ap (λ n. every a.b n (step_on a.steps.now a.z)) whole
 
 pub returns-then-steps-row-eq0 : goal.returns-then-steps-row-eq0
 returns-then-steps-row-eq0 c =
-    let l = c.loop-left in
+    let k = c.loop-k.k in
     let a = c.args in
-    let off = step_off a.steps.now a.z l.k (omega arith) (omega arith) (rw c.wide-row.ensures at c.if-steps-row-eq0.true) in
-    let turn = every_turn l.k l.left (step_on a.steps.now a.z) (omega arith) in
-    sym (sym l.invariant.1 ∙ turn ∙ rw off)
+    let off = step_off a.steps.now a.z k (omega arith) (omega arith) (rw (c.from-row.ensures, c.from.ensures) at c.if-steps-row-eq0.true) in
+    let turn = every_turn k (a.b + a.n - k) (step_on a.steps.now a.z) (omega arith) in
+    sym (sym c.loop-k.invariant ∙ turn ∙ rw off)
 
-pub loop-left-preserved : goal.loop-left-preserved
-loop-left-preserved c =
-    let l = c.loop-left in
+pub loop-k-preserved : goal.loop-k-preserved
+loop-k-preserved c =
+    let k = c.loop-k.k in
     let a = c.args in
-    let on = step_on_lem a.steps.now a.z l.k (omega arith) (omega arith) (rw c.wide-row.ensures at c.if-steps-row-eq0.false) in
-    let turn = every_turn l.k l.left (step_on a.steps.now a.z) (omega arith) in
-    (omega arith, sym (turn ∙ rw on) ∙ l.invariant.1)
+    let on = step_on_lem a.steps.now a.z k (omega arith) (omega arith) (rw (c.from-row.ensures, c.from.ensures) at c.if-steps-row-eq0.false) in
+    let turn = every_turn k (a.b + a.n - k) (step_on a.steps.now a.z) (omega arith) in
+    let next : a.b + a.n - (k + 1) ≡ a.b + a.n - k - 1 = omega arith in
+    rw next (sym (turn ∙ rw on) ∙ c.loop-k.invariant)
 
 pub returns : goal.returns
 returns c =
-    let l = c.loop-left in
-    sym (every_none l.k l.left (step_on c.args.steps.now c.args.z) (omega arith)) ∙ l.invariant.1
+    let k = c.loop-k.k in
+    let a = c.args in
+    sym (every_none k (a.b + a.n - k) (step_on a.steps.now a.z) (omega arith)) ∙ c.loop-k.invariant
