@@ -18,14 +18,14 @@ use Rattle.mesh.specs.Sound.{table}
 use Rattle.mesh.specs.Splits.{given, asked, exact_number, accepted}
 use Rattle.mesh.specs.Lengthening.{steps_of}
 use Rattle.mesh.specs.Ends.{nearest_good}
-use Rattle.mesh.specs.Replay.{replays, Replays, replayed, not_replayed, refused_step, split_step}
+use Rattle.mesh.specs.Replay.{replays, Replays, replayed, Step, refused_step, split_step}
 use Rattle.mesh.specs.Bytes.{Tall, Zeros, walk}
 use Rattle.mesh.specs.Carried.{Carried, Cleared, unlinked, Noted, Searches, told_of, found_by, verdict}
 use Rattle.mesh.specs.declared.Split.{Split}
 use Rattle.mesh.specs.declared.Lines.{Lines}
 use Rattle.mesh.specs.declared.Table.{Table}
-use Rattle.mesh.specs.declared.Step.{Step}
-use Rattle.mesh.specs.declared.splits.Verdict.{Verdict}
+use Rattle.std.specs.Prelude.{Some, None}
+use Rattle.mesh.specs.Carried.{Verdict}
 use Rattle.mesh.proofs.Drawing.{blank}
 use Rattle.mesh.proofs.Passing.{asked_given, exact_refused}
 use Rattle.mesh.proofs.LeastLine.{least_sound_line}
@@ -94,17 +94,17 @@ pub record Replaying (L : Lines) (i : ℕ) (ups lvs cols rows places : List ℕ)
   pub decides : accepted (layout L.w L.h []) (splits_of L) ≡ accepted (layout L.w L.h (take i L.splits)) (drop i (splits_of L))
 
 module _ (L : Lines) where
-  fails : (allowed_side L.w && allowed_side L.h && leb L.count 60 && accepted (layout L.w L.h []) (splits_of L)) ≡ false → not_replayed ≡ replayed L
+  fails : (allowed_side L.w && allowed_side L.h && leb L.count 60 && accepted (layout L.w L.h []) (splits_of L)) ≡ false → None ≡ replayed L
   unfolding replayed replays
   fails e = sym (cond_false _ _ _ e)
 
-  pub out_across : allowed_side L.w ≡ false → not_replayed ≡ replayed L
+  pub out_across : allowed_side L.w ≡ false → None ≡ replayed L
   out_across e = fails (and_first _ _ (and_first _ _ (and_first _ _ e)))
 
-  pub out_up : allowed_side L.h ≡ false → not_replayed ≡ replayed L
+  pub out_up : allowed_side L.h ≡ false → None ≡ replayed L
   out_up e = fails (and_first _ _ (and_first _ _ (and_last (allowed_side L.w) _ e)))
 
-  pub out_count : 60 < L.count → not_replayed ≡ replayed L
+  pub out_count : 60 < L.count → None ≡ replayed L
   out_count lt = fails (and_first _ _ (and_last (allowed_side L.w && allowed_side L.h) _ (lt-leb L.count 60 lt)))
 
   pub replay_none : {ups lvs cols rows places : List ℕ} → L.count ≤ 60 → length L.splits ≡ 60 →
@@ -135,7 +135,7 @@ module _ {L : Lines} {i : ℕ} {ups lvs cols rows places : List ℕ} (r : Replay
       by_number : v.number ≡ exact_number (layout L.w L.h (take i L.splits)) this
       by_number = ap (λ (u : Verdict). u.number) is ∙ verdict_exact _ this r.carried.taken
 
-      pub replay_stop : (v.number ≡ 0 → ⊥) → not_replayed ≡ replayed L
+      pub replay_stop : (v.number ≡ 0 → ⊥) → None ≡ replayed L
       replay_stop ne =
           fails L (and_last (allowed_side L.w && allowed_side L.h && leb L.count 60) _ (turn ∙ and_first _ _ (ne_eqb _ 0 (λ z. ne (by_number ∙ z)))))
 
@@ -150,7 +150,7 @@ module _ {L : Lines} {i : ℕ} {ups lvs cols rows places : List ℕ} (r : Replay
             decides = turn ∙ rw (eq-eqb _ 0 (sym by_number ∙ z), longer);
           }
 
-  pub replay_done : L.count ≤ i → record { ok = true; table = table (walk L.w L.h places) } ≡ replayed L
+  pub replay_done : L.count ≤ i → Some (table (walk L.w L.h places)) ≡ replayed L
   unfolding replayed replays accepted
   replay_done done =
       let n = r.room in

@@ -17,7 +17,6 @@ use Rattle.mesh.specs.Ends.{back, nearest_good}
 use Rattle.mesh.specs.Bytes.{Rows, Tall, Zeros, bytes_mesh, packed, unpacked, kept}
 use Rattle.mesh.specs.declared.Split.{Split}
 use Rattle.mesh.specs.declared.Blend.{Blend}
-use Rattle.mesh.specs.declared.splits.Verdict.{Verdict}
 
 -- Links over knots: from each to a later one, past knots that are free.
 pub record Leads (free : ℕ → Type 0) (links : List ℕ) : Type 0 where
@@ -154,6 +153,10 @@ pub record Searches (uprights levels lows highs : List ℕ) (run : ℕ) (s : Spl
   pub along : run ≡ side (other (direction s.direction)) w h
 
 -- A verdict on a split: a number, and the line that is drawn; on a refusal the split as it came.
+pub record Verdict : Type 0 where
+  pub number : ℕ
+  pub line : Split
+
 abbrev pub told_of : ℕ → Split → Verdict
 told_of n line = record { number = n; line = line }
 
