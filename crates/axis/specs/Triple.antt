@@ -24,6 +24,10 @@ low side = triple 0 1 (side + 1)
 abbrev pub high : ℕ → Triple
 high side = triple 1 (side + 1) (side + 2)
 
+abbrev pub first : Side → ℕ → Triple
+first lower side = low side
+first upper side = high side
+
 -- "both rising", of one triple
 pub record Rise (t : Triple) : Type 0 where
   pub low : t.l < t.m

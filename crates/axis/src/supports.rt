@@ -1,89 +1,66 @@
-// Triples: their halves, and where knots and steps lie in them.
-ghost use Rattle.std.specs.Prelude.{◌≡◌, ◌&&◌, ltb};
-ghost use Rattle.axis.specs.Triple.{half, same_triple, spans, knot_in};
-ghost use Rattle.axis.specs.declared.Side.TheVariants.{Lower as lower, Upper as upper};
+// Triples: the first two of a side, their halves, and where knots and steps lie in them.
+ghost use Rattle.std.specs.Prelude.{◌≡◌, ◌≤◌};
+ghost use Rattle.axis.specs.Limits.{largest_side};
+ghost use Rattle.axis.specs.Triple.{first, half, spans, knot_in};
 
-use crate::Triple;
-use crate::knots::wide;
+use crate::{Side, Triple};
 
-pub fn lower_half(z: u8, x: Triple) -> Triple
-    ensures { result ≡ half lower z x }
-{
-    if z < x.m {
-        Triple {
-            l: x.l,
-            m: z,
-            r: x.m,
-        }
-    } else {
-        Triple {
-            l: x.l,
-            m: x.m,
-            r: z,
-        }
-    }
-}
-
-pub fn upper_half(z: u8, x: Triple) -> Triple
-    ensures { result ≡ half upper z x }
-{
-    if z < x.m {
-        Triple {
-            l: z,
-            m: x.m,
-            r: x.r,
-        }
-    } else {
-        Triple {
-            l: x.m,
-            m: z,
-            r: x.r,
+impl Triple {
+    // One of the two triples of the first blends, on a side of this length: the one at the lower end, or at the upper.
+    pub fn first(side: Side, length: usize) -> Triple
+        requires { length ≤ largest_side }
+        ensures { result ≡ first side length }
+    {
+        match side {
+            Side::Lower => Triple {
+                l: 0,
+                m: 1,
+                r: (length + 1) as u8,
+            },
+            Side::Upper => Triple {
+                l: 1,
+                m: (length + 1) as u8,
+                r: (length + 2) as u8,
+            },
         }
     }
-}
 
-// Whether two triples are the same.
-pub fn same_triple(s: Triple, t: Triple) -> bool
-    ensures { result ≡ same_triple s t }
-{
-    if s.l != t.l {
-        return false;
+    // One of the two halves of a cut at knot z.
+    #[tactic(auto, unfolding(crate::specs::Triple::half))]
+    pub fn half(self, side: Side, z: u8) -> Triple
+        ensures { result ≡ half side z self }
+    {
+        let low = z.min(self.m);
+        let high = z.max(self.m);
+        match side {
+            Side::Lower => Triple {
+                l: self.l,
+                m: low,
+                r: high,
+            },
+            Side::Upper => Triple {
+                l: low,
+                m: high,
+                r: self.r,
+            },
+        }
     }
-    if s.m != t.m {
-        return false;
+
+    // Whether the unit step from knot x lies in the support.
+    pub fn spans(self, x: usize) -> bool
+        ensures { result ≡ spans x self }
+    {
+        usize::from(self.l) <= x && x < usize::from(self.r)
     }
-    s.r == t.r
-}
 
-// Whether the unit step from knot x lies in a triple's support.
-pub fn spans_at(t: Triple, x: usize) -> bool
-    ensures { result ≡ spans x t }
-{
-    if x < wide(t.l) {
-        return false;
+    // Whether knot z lies strictly inside one part: the lower, from the start to the middle, or the upper, from there to the end.
+    pub fn has_inside(self, side: Side, z: usize) -> bool
+        ensures { result ≡ knot_in side z self }
+    {
+        let (low, high) = match side {
+            Side::Lower => (self.l, self.m),
+            Side::Upper => (self.m, self.r),
+        };
+        usize::from(low) < z && z < usize::from(high)
     }
-    x < wide(t.r)
-}
-
-// Whether knot z lies strictly between two others.
-fn between(low: u8, high: u8, z: usize) -> bool
-    ensures { result ≡ (ltb low z && ltb z high) }
-{
-    if z <= wide(low) {
-        return false;
-    }
-    z < wide(high)
-}
-
-// Whether knot z lies strictly inside the lower part of a triple, between its start and its middle; or inside the upper.
-pub fn in_lower(t: Triple, z: usize) -> bool
-    ensures { result ≡ knot_in lower z t }
-{
-    between(t.l, t.m, z)
-}
-
-pub fn in_upper(t: Triple, z: usize) -> bool
-    ensures { result ≡ knot_in upper z t }
-{
-    between(t.m, t.r, z)
 }
