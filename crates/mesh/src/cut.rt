@@ -10,10 +10,8 @@ ghost use Rattle.mesh.specs.Bytes.{Rows, step_on, bytes_mesh, keep, keep_all};
 ghost use Rattle.mesh.specs.Carried.{RowsOf};
 
 use crate::Blend;
-use crate::knots::{pack, place};
 use crate::steps::covers;
-use axis::Triple;
-use axis::supports::{lower_half, upper_half};
+use axis::{Side, Triple};
 
 // The nearest line below the middle that covers the n steps from knot b on; 0 if there is none.
 fn nearest_below(steps: &[u8], x: Triple, b: u8, n: u8) -> u8
@@ -64,8 +62,8 @@ pub(crate) fn keep_blend(places: &mut [u32], x: Blend)
     requires { Rows (x.across.m + 1) places.old × Proper x }
     ensures { places.new ≡ keep places.old x }
 {
-    let at = place(x);
-    places[at] = pack(x);
+    let at = x.place();
+    places[at] = x.pack();
 }
 
 // Cuts a blend by uprights and hands the halves to the level cuts. `tried` tells that no level cuts the blend.
@@ -84,7 +82,7 @@ pub(crate) fn cut_across(uprights: &[u8], levels: &[u8], x: Blend, tried: bool, 
             uprights,
             levels,
             Blend {
-                across: lower_half(z, a),
+                across: a.half(Side::Lower, z),
                 up: u,
             },
             false,
@@ -94,7 +92,7 @@ pub(crate) fn cut_across(uprights: &[u8], levels: &[u8], x: Blend, tried: bool, 
             uprights,
             levels,
             Blend {
-                across: upper_half(z, a),
+                across: a.half(Side::Upper, z),
                 up: u,
             },
             false,
@@ -126,7 +124,7 @@ fn cut_up(uprights: &[u8], levels: &[u8], x: Blend, tried: bool, places: &mut [u
             levels,
             Blend {
                 across: a,
-                up: lower_half(z, u),
+                up: u.half(Side::Lower, z),
             },
             false,
             places,
@@ -136,7 +134,7 @@ fn cut_up(uprights: &[u8], levels: &[u8], x: Blend, tried: bool, places: &mut [u
             levels,
             Blend {
                 across: a,
-                up: upper_half(z, u),
+                up: u.half(Side::Upper, z),
             },
             false,
             places,

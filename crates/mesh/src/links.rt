@@ -5,19 +5,15 @@ ghost use Rattle.mesh.specs.Lines.{side, fresh_mesh};
 ghost use Rattle.mesh.specs.declared.Direction.{Direction};
 ghost use Rattle.mesh.specs.Carried.{Leads, Linked, Bare, unlinked};
 
-use axis::knots::wide;
-
 // Links knot z: no link leads past it any more.
 pub(crate) fn link(links: &mut [u8], z: usize)
     requires { (length links.old ≡ 131) × (z < 131) }
     ensures { Linked links.old links.new z }
 {
-    let mut k = 0;
-    while k < z {
-        if z < wide(links[k]) {
+    for k in 0..z {
+        if z < usize::from(links[k]) {
             links[k] = z as u8;
         }
-        k += 1;
     }
 }
 

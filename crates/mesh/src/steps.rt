@@ -2,27 +2,22 @@
 ghost use Rattle.std.specs.Prelude.{◌≡◌, true, ◌||◌, ℕ, ◌+◌, ◌≤◌, ◌<◌, length};
 ghost use Rattle.axis.specs.Limits.{largest_side};
 ghost use Rattle.axis.specs.Range.{every};
-ghost use Rattle.mesh.specs.Lines.{number, other, side, start, end, draws, allowed_side, fits, in_range, fresh_mesh};
+ghost use Rattle.mesh.specs.Lines.{number, other, side, direction, start, end, draws, allowed_side, fits, in_range, fresh_mesh};
 ghost use Rattle.mesh.specs.declared.Direction.{Direction};
 ghost use Rattle.mesh.specs.Bytes.{Rows, Zeros, step_on, Drawn};
 
-use crate::{Lines, Split};
-use axis::knots::wide;
+use crate::{Direction, Lines, Split};
 
 // Whether the line at knot z is on at each of the n steps from knot b on.
 pub(crate) fn covers(steps: &[u8], z: u8, b: u8, n: u8) -> bool
     requires { Rows (z + 1) steps.now × (z < 131) × (b + n ≤ 131) }
     ensures { result ≡ every b n (step_on steps.now z) }
 {
-    let row = wide(z) * 131;
-    let mut k = wide(b);
-    let mut left = wide(n);
-    while 0 < left {
-        if steps[row + k] == 0 {
+    let row = usize::from(z) * 131;
+    for k in b..b + n {
+        if steps[row + usize::from(k)] == 0 {
             return false;
         }
-        k += 1;
-        left -= 1;
     }
     true
 }
@@ -32,86 +27,73 @@ pub(crate) fn draw(steps: &mut [u8], z: usize, from: usize, to: usize)
     requires { Rows (z + 1) steps.old × (z < 131) × (to ≤ 131) }
     ensures { Drawn steps.old steps.new z from to }
 {
-    let mut k = from;
-    while k < to {
+    for k in from..to {
         steps[z * 131 + k] = 1;
-        k += 1;
     }
 }
 
-// Whether a split keeps to the side that it crosses and the side that it runs along.
-fn split_fits(crossed: usize, run: usize, s: Split) -> bool
-    ensures { result ≡ fits crossed run s }
-{
-    if s.position < 1 {
-        return false;
+impl Lines {
+    // Whether a side keeps to its range.
+    pub fn allows_side(side: usize) -> bool
+        ensures { result ≡ allowed_side side }
+    {
+        1 <= side && side <= Lines::LARGEST_SIDE
     }
-    if crossed <= s.position {
-        return false;
-    }
-    if s.to <= s.from {
-        return false;
-    }
-    s.to <= run
 }
 
-// Whether a split has a direction, and keeps to the ranges of the sides.
-pub(crate) fn in_range(w: usize, h: usize, s: Split) -> bool
-    ensures { result ≡ in_range w h s }
-{
-    if s.direction == 0 {
-        return split_fits(w, h, s);
+impl Split {
+    // Whether it keeps to the side that it crosses and the side that it runs along.
+    fn fits(self, crossed: usize, run: usize) -> bool
+        ensures { result ≡ fits crossed run self }
+    {
+        0 < self.position && self.position < crossed && self.from < self.to && self.to <= run
     }
-    if s.direction == 1 {
-        return split_fits(h, w, s);
-    }
-    false
-}
 
-// Whether a side keeps to its range.
-pub(crate) fn allowed_side(side: usize) -> bool
-    ensures { result ≡ allowed_side side }
-{
-    if side < 1 {
-        return false;
+    // Whether it has a direction, and keeps to the ranges of the sides.
+    #[tactic(auto, unfolding(crate::specs::Lines::in_range))]
+    pub(crate) fn in_range(self, w: usize, h: usize) -> bool
+        ensures { result ≡ in_range w h self }
+    {
+        match self.direction {
+            0 => self.fits(w, h),
+            1 => self.fits(h, w),
+            _ => false,
+        }
     }
-    side <= Lines::LARGEST_SIDE
-}
 
-// The first and the last knot of a split: a drawn end at a side runs out.
-pub(crate) fn first_knot(s: Split) -> usize
-    requires { s.from < largest_side }
-    ensures { result ≡ start s }
-{
-    if s.from == 0 {
-        return 0;
+    // Its direction, where it has one.
+    pub(crate) fn way(self) -> Direction
+        ensures { result ≡ direction self.direction }
+    {
+        if self.direction == 0 { Direction::Upright } else { Direction::Level }
     }
-    s.from + 1
-}
 
-pub(crate) fn last_knot(run: usize, s: Split) -> usize
-    requires { (s.to ≤ run) × (run ≤ largest_side) }
-    ensures { (result ≡ end run s) × (result ≤ 130) }
-{
-    if s.to == run {
-        return run + 2;
+    // Its first and its last knot: a drawn end at a side runs out.
+    pub(crate) fn start(self) -> usize
+        requires { self.from < largest_side }
+        ensures { result ≡ start self }
+    {
+        if self.from == 0 { 0 } else { self.from + 1 }
     }
-    s.to + 1
+
+    pub(crate) fn end(self, run: usize) -> usize
+        requires { (self.to ≤ run) × (run ≤ largest_side) }
+        ensures { (result ≡ end run self) × (result ≤ 130) }
+    {
+        if self.to == run { run + 2 } else { self.to + 1 }
+    }
 }
 
 // Draws a split, with its run-out, if it has the direction.
-pub(crate) fn draw_split(s: Split, direction: usize, run: usize, steps: &mut [u8])
+pub(crate) fn draw_split(s: Split, d: Direction, run: usize, steps: &mut [u8])
     requires { Rows (s.position + 2) steps.old × (run ≤ largest_side) ×
-        (s.direction ≡ direction → (s.position < largest_side) × (s.from < s.to) × (s.to ≤ run)) }
+        (s.direction ≡ number d → (s.position < largest_side) × (s.from < s.to) × (s.to ≤ run)) }
     ensures { (length steps.new ≡ length steps.old) ×
-        ((d : Direction) (w h : ℕ) → number d ≡ direction → side (other d) w h ≡ run → (z k : ℕ) →
+        ((w h : ℕ) → side (other d) w h ≡ run → (z k : ℕ) →
         step_on steps.new z k ≡ (step_on steps.old z k || draws w h d z k s)) }
 {
-    if s.direction == direction {
-        let at = s.position + 1;
-        let from = first_knot(s);
-        let to = last_knot(run, s);
-        draw(steps, at, from, to);
+    if s.direction == d as usize {
+        draw(steps, s.position + 1, s.start(), s.end(run));
     }
 }
 
@@ -122,11 +104,7 @@ pub(crate) fn draw_fresh(crossed: usize, run: usize, steps: &mut [u8])
         ((d : Direction) (w h : ℕ) → side d w h ≡ crossed → side (other d) w h ≡ run → (z k : ℕ) →
         step_on steps.new z k ≡ fresh_mesh w h d z k) }
 {
-    let to = run + 2;
-    let far = crossed + 1;
-    let beyond = crossed + 2;
-    draw(steps, 0, 0, to);
-    draw(steps, 1, 0, to);
-    draw(steps, far, 0, to);
-    draw(steps, beyond, 0, to);
+    for z in [0, 1, crossed + 1, crossed + 2] {
+        draw(steps, z, 0, run + 2);
+    }
 }

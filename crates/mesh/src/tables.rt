@@ -1,57 +1,18 @@
 // Tables of blends: the empty one, and the first four.
-ghost use Rattle.std.specs.Prelude.{◌≡◌, ◌≤◌};
-ghost use Rattle.axis.specs.Limits.{largest_side};
-ghost use Rattle.axis.specs.Triple as triples;
+ghost use Rattle.std.specs.Prelude.{◌≡◌, [], ◌≤◌};
+ghost use Rattle.axis.specs.Limits.{largest_side, most_blends};
 ghost use Rattle.mesh.specs.Blends.{first_four};
-ghost use Rattle.mesh.specs.Sound.{none, table, fresh_table};
-ghost use Rattle.mesh.specs.Replay.{not_replayed};
+ghost use Rattle.mesh.specs.Sound.{table, fresh_table, blends_of};
 
-use crate::knots::unpack;
-use crate::steps::allowed_side;
-use crate::{Blend, Found, Table};
-use axis::Triple;
+use crate::{Blend, Lines, Table};
+use axis::{Side, Triple};
 
-// An unused place of a table.
-pub(crate) fn nothing() -> Blend
-    ensures { result ≡ none }
-{
-    unpack(0, 0, 0)
-}
-
-// The answer where lines are not replayed.
-pub(crate) fn refusal() -> Found
-    ensures { result ≡ not_replayed }
-{
-    Found {
-        ok: false,
-        table: Table {
-            count: 0,
-            blends: [nothing(); Table::MOST_BLENDS],
-        },
-    }
-}
-
-// The two triples of the first blends, on one axis.
-fn low(side: usize) -> Triple
-    requires { side ≤ largest_side }
-    ensures { result ≡ triples.low side }
-{
-    Triple {
-        l: 0,
-        m: 1,
-        r: (side + 1) as u8,
-    }
-}
-
-fn high(side: usize) -> Triple
-    requires { side ≤ largest_side }
-    ensures { result ≡ triples.high side }
-{
-    Triple {
-        l: 1,
-        m: (side + 1) as u8,
-        r: (side + 2) as u8,
-    }
+impl Blend {
+    // An unused place of a table.
+    pub(crate) const NONE: Blend = Blend {
+        across: Triple { l: 0, m: 0, r: 0 },
+        up: Triple { l: 0, m: 0, r: 0 },
+    };
 }
 
 // The first four blends.
@@ -59,10 +20,10 @@ pub(crate) fn first_four(w: usize, h: usize) -> [Blend; 4]
     requires { (w ≤ largest_side) × (h ≤ largest_side) }
     ensures { result ≡ first_four w h }
 {
-    let left = low(w);
-    let right = high(w);
-    let bottom = low(h);
-    let top = high(h);
+    let left = Triple::first(Side::Lower, w);
+    let right = Triple::first(Side::Upper, w);
+    let bottom = Triple::first(Side::Lower, h);
+    let top = Triple::first(Side::Upper, h);
     [
         Blend {
             across: left,
@@ -83,22 +44,35 @@ pub(crate) fn first_four(w: usize, h: usize) -> [Blend; 4]
     ]
 }
 
-// The table of a fresh map; an empty one where a side is out of range.
-pub fn fresh_table(w: usize, h: usize) -> Table
-    ensures { result ≡ fresh_table w h }
-{
-    if !allowed_side(w) {
-        return refusal().table;
+impl Table {
+    #[tactic(auto, unfolding(crate::specs::Sound::table))]
+    pub(crate) fn empty() -> Table
+        ensures { result ≡ table [] }
+    {
+        Table {
+            count: 0,
+            blends: [Blend::NONE; Table::MOST_BLENDS],
+        }
     }
-    if !allowed_side(h) {
-        return refusal().table;
+
+    // The table of a fresh map; an empty one where a side is out of range.
+    pub fn fresh(w: usize, h: usize) -> Table
+        ensures { result ≡ fresh_table w h }
+    {
+        let mut t = Table::empty();
+        if Lines::allows_side(w) && Lines::allows_side(h) {
+            let four = first_four(w, h);
+            t.blends[..4].copy_from_slice(&four);
+            t.count = 4;
+        }
+        t
     }
-    let four = first_four(w, h);
-    let mut t = refusal().table;
-    t.blends[0] = four[0];
-    t.blends[1] = four[1];
-    t.blends[2] = four[2];
-    t.blends[3] = four[3];
-    t.count = 4;
-    t
+
+    // The blends that are listed.
+    pub fn blends(&self) -> &[Blend]
+        requires { self.now.count ≤ most_blends }
+        ensures { result.now ≡ blends_of self.now }
+    {
+        &self.blends[..self.count]
+    }
 }

@@ -1,0 +1,30 @@
+-- What is noted, with the places that are left, is the whole answer.
+use Rattle.std.proofs.Common.{ℕ, ◌+◌, ◌-◌, ◌≤◌, ◌≡◌, List}
+use Rattle.axis.specs.declared.Side.TheVariants.{Lower as lower, Upper as upper}
+use Rattle.mesh.specs.Lines.{direction}
+use Rattle.mesh.specs.declared.Direction.{Direction}
+use Rattle.mesh.specs.Bytes.{walk}
+use Rattle.mesh.specs.Carried.{note_all}
+use Rattle.mesh.specs.declared.Blend.{Blend}
+use Rattle.mesh.proofs.Reading.{columns_left, places_left}
+use Rattle.mesh.proofs.carried.Drawing.notes.Given as goal
+
+-- some blends are still to be noted, of those that were at first
+pub record Noting (d : Direction) (z : ℕ) (lows₀ highs₀ : List ℕ) (all : List Blend) (lows highs : List ℕ) (left : List Blend) : Type 0 where
+  pub low : note_all upper d z lows left ≡ note_all upper d z lows₀ all
+  pub high : note_all lower d z highs left ≡ note_all lower d z highs₀ all
+
+abbrev pub invariant-loop-m : goal.invariant-loop-m
+invariant-loop-m l = (1 ≤ l.m) ×
+    Noting (direction l.number) l.z l.initial.lows l.initial.highs (walk l.w l.h l.places) l.lows l.highs (columns_left l.w l.h l.places l.m)
+
+abbrev pub decreases-loop-m : goal.decreases-loop-m
+decreases-loop-m l = l.w + 2 - l.m
+
+abbrev pub invariant-loop-n : goal.invariant-loop-n
+invariant-loop-n l = (1 ≤ l.n) ×
+    Noting (direction l.number) l.z l.initial.lows l.initial.highs (columns_left l.w l.h l.places l.m) l.lows l.highs
+    (places_left l.w l.h l.places l.m l.n)
+
+abbrev pub decreases-loop-n : goal.decreases-loop-n
+decreases-loop-n l = l.h + 2 - l.n

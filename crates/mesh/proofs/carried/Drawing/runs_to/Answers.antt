@@ -1,0 +1,36 @@
+-- `mesh::carried::Drawing::runs_to` meets its contract: one step on at a time, while steps are on.
+use Rattle.std.proofs.Common.{ℕ, zero, suc, ◌+◌, ◌-◌, ◌<◌, ◌≡◌, sym, ◌∙◌, Bool, true, false, arith}
+use Rattle.mesh.specs.Carried.{runs_to}
+use Rattle.mesh.proofs.carried.Drawing.runs_to.Goals as goal
+
+pub loop-k-init : goal.loop-k-init
+loop-k-init c = let e = c.last_knot-k.ensures in record { within = omega (arith, e.1); same = rw e.0 }
+
+-- one turn on
+turn : (line : ℕ → Bool) (k n m : ℕ) → n ≡ suc m → line k ≡ true → runs_to line (k + 1) m ≡ runs_to line k n
+unfolding runs_to
+turn line k n m same e = rw (same, e)
+
+stop : (line : ℕ → Bool) (k n : ℕ) → 0 < n → line k ≡ false → k ≡ runs_to line k n
+unfolding runs_to
+stop line k zero lt e = absurd (omega arith)
+stop line k (suc n) lt e = rw e
+
+pub returns-then-not-on : goal.returns-then-not-on
+returns-then-not-on c =
+    let l = c.loop-k in (stop _ l.k (131 - l.k) (omega arith) (sym c.if-not-on.ensures) ∙ l.invariant.same, omega arith)
+
+pub loop-k-preserved : goal.loop-k-preserved
+loop-k-preserved c =
+    let l = c.loop-k in
+    record {
+      within = omega arith;
+      same = turn _ l.k (131 - l.k) (131 - (l.k + 1)) (omega arith) (sym c.if-not-on.ensures) ∙ l.invariant.same;
+    }
+
+pub returns : goal.returns
+unfolding runs_to
+returns c =
+    let l = c.loop-k in
+    let last : l.k ≡ 131 = omega (arith, c.loop-k-test.false) in
+    (sym (rw last) ∙ l.invariant.same, omega arith)
