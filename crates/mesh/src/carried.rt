@@ -19,12 +19,12 @@ use crate::{Blend, Direction, Lines, Split, Table};
 pub(crate) struct Drawing<const N: usize> {
     pub w: usize,
     pub h: usize,
-    pub count: usize,
     pub uprights: [u8; N],
     pub levels: [u8; N],
+    pub places: [u32; N],
     pub columns: [u8; 131],
     pub rows: [u8; 131],
-    pub places: [u32; N],
+    pub count: usize,
 }
 
 // Keeps blends at the places of their anchors.
@@ -47,12 +47,12 @@ impl<const N: usize> Drawing<N> {
         Drawing {
             w,
             h,
-            count: 0,
             uprights: [0; N],
             levels: [0; N],
+            places: [0; N],
             columns: [131; 131],
             rows: [131; 131],
-            places: [0; N],
+            count: 0,
         }
     }
 

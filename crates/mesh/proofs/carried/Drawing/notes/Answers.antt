@@ -30,52 +30,52 @@ joined : {d : Direction} {z : ℕ} {lows₀ highs₀ lows₁ highs₁ lows highs
 joined a b = record { low = b.low ∙ a.low; high = b.high ∙ a.high }
 
 pub loop-m-init : goal.loop-m-init
-loop-m-init c = (omega arith, turned (walk_columns c.args.w c.args.h c.args.places.now) (begun _))
+loop-m-init g c = (omega arith, turned (walk_columns c.args.self.now.w c.args.self.now.h c.args.self.now.places) (begun _))
 
 pub loop-n-init : goal.loop-n-init
-loop-n-init c = (omega arith, turned (column_begins c.args.w c.args.h c.args.places.now c.loop-m.m (omega arith)) (begun _))
+loop-n-init g c = (omega arith, turned (column_begins c.args.self.now.w c.args.self.now.h c.args.self.now.places c.loop-m.m (omega arith)) (begun _))
 
 pub note-requires : goal.note-requires
 unfolding unpacked
-note-requires c =
-    let x = c.requires.0.wide in
-    let y = c.requires.0.high in
-    (omega arith, omega arith, rw c.unpack.ensures (omega arith), rw c.unpack.ensures (omega arith))
+note-requires g c =
+    let x = c.requires.wide in
+    let y = c.requires.high in
+    (rw c.unpack.ensures (omega arith), rw c.unpack.ensures (omega arith))
 
 pub loop-n-preserved : goal.loop-n-preserved
-loop-n-preserved c =
+loop-n-preserved g c =
     let a = c.args in
-    let walks = c.requires.0 in
+    let walks = c.requires in
     let m = c.loop-m.m in
     let l = c.loop-n in
-    let on = row_leads a.w a.h a.places.now walks l.n (omega arith) in (
-      omega (arith, c.wide-n.ensures),
-      rw c.wide-n.ensures
+    let on = row_leads a.self.now.w a.self.now.h a.self.now.places walks l.n (omega arith) in (
+      omega (arith, c.from-n.ensures),
+      rw c.from-n.ensures
           (elim c.if-c-ne0.branch [
             | then-c-ne0 w ↦
-                let here = turned (place_holds a.w a.h a.places.now walks m l.n (omega arith) (omega arith) w.if-c-ne0.true) l.invariant.1 in
+                let here = turned (place_holds a.self.now.w a.self.now.h a.self.now.places walks m l.n (omega arith) (omega arith) w.if-c-ne0.true) l.invariant.1 in
                 let e = rw w.unpack.ensures at w.note.ensures in
-                rw (w.lows-is, w.highs-is) (one_more _ here e.0 e.1)
-            | else-c-ne0 w ↦ rw (w.lows-is, w.highs-is)
-                (turned (place_empty a.w a.h a.places.now walks m l.n (omega arith) (omega arith) w.if-c-ne0.false) l.invariant.1)
+                rw w.notes-is (one_more _ here e.0 e.1)
+            | else-c-ne0 w ↦ rw w.notes-is
+                (turned (place_empty a.self.now.w a.self.now.h a.self.now.places walks m l.n (omega arith) (omega arith) w.if-c-ne0.false) l.invariant.1)
           ]),
     )
 
 pub loop-m-preserved : goal.loop-m-preserved
-loop-m-preserved c =
+loop-m-preserved g c =
     let a = c.args in
-    let walks = c.requires.0 in
+    let walks = c.requires in
     let m = c.loop-m.m in
     let l = c.loop-n in
-    let on = column_leads a.w a.h a.places.now walks m (omega arith) in (
-      omega (arith, c.wide-m.ensures),
-      rw c.wide-m.ensures
-          (turned (column_ends a.w a.h a.places.now walks m l.n (omega arith) (omega arith)) (joined c.loop-m.invariant.1 l.invariant.1)),
+    let on = column_leads a.self.now.w a.self.now.h a.self.now.places walks m (omega arith) in (
+      omega (arith, c.from-m.ensures),
+      rw c.from-m.ensures
+          (turned (column_ends a.self.now.w a.self.now.h a.self.now.places walks m l.n (omega arith) (omega arith)) (joined c.loop-m.invariant.1 l.invariant.1)),
     )
 
 pub returns : goal.returns
 unfolding note_all
-returns c =
+returns g c =
     let a = c.args in
-    let all = turned (columns_end a.w a.h a.places.now c.loop-m.m (omega arith)) c.loop-m.invariant.1 in
+    let all = turned (columns_end a.self.now.w a.self.now.h a.self.now.places c.loop-m.m (omega arith)) c.loop-m.invariant.1 in
     (all.low, all.high)

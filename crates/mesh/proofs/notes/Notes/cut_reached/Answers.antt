@@ -5,7 +5,7 @@ use mathlib.Core.Bool.{true, false}
 use mathlib.Core.List.Memᴰ
 use mathlib.Core.List.{Memᴰ}
 use Rattle.axis.proofs.Tests.{each_turn, each_none, mem_each, true_not_false}
-use Rattle.mesh.specs.Lines.{direction, Mesh}
+use Rattle.mesh.specs.Lines.{Mesh}
 use Rattle.mesh.specs.declared.Direction.{Direction}
 use Rattle.mesh.specs.declared.Direction.TheVariants.{Upright as upright}
 use Rattle.mesh.specs.Blends.{leaves_of}
@@ -53,16 +53,16 @@ pass_note : {M : Mesh} {places₀ places : List ℕ} {all left : List Blend} (d 
 pass_note d from to n k e = rw e at k
 
 pub loop-k-init : goal.loop-k-init
-loop-k-init c = (omega arith, turned (all_rest _ _ _ _ _) (record { same = refl }))
+loop-k-init c = turned (all_rest _ _ _ _ _) (record { same = refl })
 
 pub cut_across-requires : goal.cut_across-requires
 cut_across-requires c =
     let a = c.args in
     let l = c.loop-k in
     let on = sym c.is_reached.ensures ∙ c.if-is_reached.true in
-    let there = low_there (direction a.number) a.from a.to a.lows.now a.highs.now l.k l.invariant.0 c.loop-k-test.true on in (
-      rw (c.from_note.ensures, l.auto.places) (c.requires.4 _ there),
-      rw c.from_note.ensures (c.requires.3 _ there),
+    let there = low_there a.d a.from a.to a.self.now.lows a.self.now.highs l.k (omega arith) (omega arith) on in (
+      rw (c.from_note.ensures, l.auto.places) (c.requires.2 _ there),
+      rw c.from_note.ensures (c.requires.1 _ there),
       λ e. absurd (true_not_false _ e refl),
     )
 
@@ -71,42 +71,40 @@ cut_across-requires-then-is_reached-2 c =
     let a = c.args in
     let l = c.loop-k in
     let on = sym c.is_reached-in-loop-k.ensures ∙ c.if-is_reached-2.true in
-    let there = high_there (direction a.number) a.from a.to a.lows.now a.highs.now l.k l.invariant.0 c.loop-k-test.true on in (
-      rw (c.from_note-then-is_reached-2.ensures, c.if-is_reached.auto.places, l.auto.places) (c.requires.4 _ there),
-      rw c.from_note-then-is_reached-2.ensures (c.requires.3 _ there),
+    let there = high_there a.d a.from a.to a.self.now.lows a.self.now.highs l.k (omega arith) (omega arith) on in (
+      rw (c.from_note-then-is_reached-2.ensures, c.if-is_reached.auto.places, l.auto.places) (c.requires.2 _ there),
+      rw c.from_note-then-is_reached-2.ensures (c.requires.1 _ there),
       λ e. absurd (true_not_false _ e refl),
     )
 
 pub loop-k-preserved : goal.loop-k-preserved
 loop-k-preserved c =
     let a = c.args in
-    let d = direction a.number in
+    let d = a.d in
     let l = c.loop-k in
-    let low = get_or a.lows.now l.k 0 in
-    let high = get_or a.highs.now l.k 0 in
-    let here = turned (rest_turn d a.from a.to a.lows.now a.highs.now l.k (omega arith)) l.invariant.1 in
+    let low = get_or a.self.now.lows l.k 0 in
+    let high = get_or a.self.now.highs l.k 0 in
+    let here = turned (rest_turn d a.from a.to a.self.now.lows a.self.now.highs l.k (omega arith)) l.invariant in
     -- after the first of the two
-    let half : Keeping (bytes_mesh a.uprights.now a.levels.now) a.places.now (all_reached d a.from a.to a.lows.now a.highs.now) c.if-is_reached.places
-    (if_reached d a.from a.to high ++ rest d a.from a.to a.lows.now a.highs.now (l.k + 1)) =
+    let half : Keeping (bytes_mesh a.uprights.now a.levels.now) a.places.now (all_reached d a.from a.to a.self.now.lows a.self.now.highs) c.if-is_reached.places
+    (if_reached d a.from a.to high ++ rest d a.from a.to a.self.now.lows a.self.now.highs (l.k + 1)) =
     elim c.if-is_reached.branch [
       | then-is_reached w ↦
           rw w.places-is (cut_note d a.from a.to low here (sym c.is_reached.ensures ∙ w.if-is_reached.true) _ w.from_note.ensures w.cut_across.ensures)
       | else-is_reached w ↦ rw w.places-is (pass_note d a.from a.to low here (sym c.is_reached.ensures ∙ w.if-is_reached.false))
-    ] in (
-      omega arith,
-      elim c.if-is_reached-2.branch [
-        | then-is_reached-2 w ↦ rw w.places-is
-            (cut_note d a.from a.to high half (sym c.is_reached-in-loop-k.ensures ∙ w.if-is_reached-2.true) _
-            w.from_note-then-is_reached-2.ensures w.cut_across-then-is_reached-2.ensures)
-        | else-is_reached-2 w ↦ rw w.places-is
-            (pass_note d a.from a.to high half (sym c.is_reached-in-loop-k.ensures ∙ w.if-is_reached-2.false))
-      ],
-    )
+    ] in
+    elim c.if-is_reached-2.branch [
+      | then-is_reached-2 w ↦ rw w.places-is
+          (cut_note d a.from a.to high half (sym c.is_reached-in-loop-k.ensures ∙ w.if-is_reached-2.true) _
+          w.from_note-then-is_reached-2.ensures w.cut_across-then-is_reached-2.ensures)
+      | else-is_reached-2 w ↦ rw w.places-is
+          (pass_note d a.from a.to high half (sym c.is_reached-in-loop-k.ensures ∙ w.if-is_reached-2.false))
+    ]
 
 pub returns : goal.returns
 unfolding keep_all leaves_of
 returns c =
     let a = c.args in
     let l = c.loop-k in
-    let none = each_none l.k (a.to - l.k) (both (direction a.number) a.from a.to a.lows.now a.highs.now) (omega (arith, c.loop-k-test.false)) in
-    (turned none l.invariant.1).same
+    let none = each_none l.k (a.to - l.k) (both a.d a.from a.to a.self.now.lows a.self.now.highs) (omega arith) in
+    (turned none l.invariant).same

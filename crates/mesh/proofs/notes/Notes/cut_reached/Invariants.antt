@@ -1,7 +1,7 @@
 -- What is kept, with what is left of the blends still to be cut, is the whole answer.
 use Rattle.std.proofs.Common.{ℕ, ◌-◌, ◌≤◌, ◌≡◌, List, ◌++◌, get_or}
 use Rattle.axis.specs.Range.{each}
-use Rattle.mesh.specs.Lines.{direction, Mesh}
+use Rattle.mesh.specs.Lines.{Mesh}
 use Rattle.mesh.specs.declared.Direction.{Direction}
 use Rattle.mesh.specs.Blends.{leaves_of}
 use Rattle.mesh.specs.Bytes.{bytes_mesh, keep_all}
@@ -21,9 +21,6 @@ pub record Keeping (M : Mesh) (places₀ : List ℕ) (all : List Blend) (places 
   pub same : keep_all places (leaves_of M left) ≡ keep_all places₀ (leaves_of M all)
 
 abbrev pub invariant-loop-k : goal.invariant-loop-k
-invariant-loop-k l = (l.from ≤ l.k) ×
-    Keeping (bytes_mesh l.uprights l.levels) l.initial.places (all_reached (direction l.number) l.from l.to l.lows l.highs) l.places
-    (rest (direction l.number) l.from l.to l.lows l.highs l.k)
-
-abbrev pub decreases-loop-k : goal.decreases-loop-k
-decreases-loop-k l = l.to - l.k
+invariant-loop-k l =
+    Keeping (bytes_mesh l.uprights l.levels) l.initial.places (all_reached l.d l.from l.to l.self.lows l.self.highs) l.places
+    (rest l.d l.from l.to l.self.lows l.self.highs l.k)

@@ -9,7 +9,6 @@ use Rattle.axis.specs.declared.Side.{Side}
 use Rattle.axis.specs.declared.Side.TheVariants.{Lower as lower, Upper as upper}
 use Rattle.axis.specs.declared.Triple.{Triple}
 use Rattle.axis.proofs.Tests.{and_both}
-use Rattle.mesh.specs.Lines.{direction}
 use Rattle.mesh.specs.declared.Direction.{Direction}
 use Rattle.mesh.specs.Blends.{crossed, along}
 use Rattle.mesh.specs.Carried.{noted, note_all}
@@ -30,24 +29,24 @@ passed_over : (e : Side) (d : Direction) (z : ℕ) (notes : List ℕ) (x : Blend
 unfolding note_all
 passed_over e d z notes x off = rw off
 
-pub returns-then-in_upper : goal.returns-then-in_upper
-returns-then-in_upper c =
+pub returns-then-has_inside : goal.returns-then-has_inside
+returns-then-has_inside c =
     let a = c.args in
-    let over = c.in_upper.ensures ∙ rw c.crossed_by-t.ensures in
-    let on = sym over ∙ c.if-in_upper.true in (
-      rw c.to_note.ensures (noted_there _ _ _ _ _ _ on (c.wide-k.ensures ∙ rw c.along_of.ensures)),
-      passed_over _ _ _ _ _ (above_only a.z (crossed (direction a.number) a.x) on),
+    let over = c.has_inside.ensures ∙ rw c.crossed-t.ensures in
+    let on = sym over ∙ c.if-has_inside.true in (
+      rw c.to_note.ensures (noted_there _ _ _ _ _ _ on (c.from-k.ensures ∙ rw c.along.ensures)),
+      passed_over _ _ _ _ _ (above_only a.z (crossed a.d a.x) on),
     )
 
-pub returns-then-in_lower : goal.returns-then-in_lower
-returns-then-in_lower c = (
-  passed_over _ _ _ _ _ (sym (c.in_upper.ensures ∙ rw c.crossed_by-t.ensures) ∙ c.if-in_upper.false),
-  rw c.to_note-then-in_lower.ensures (noted_there _ _ _ _ _ _ (sym (c.in_lower.ensures ∙ rw c.crossed_by-t.ensures) ∙ c.if-in_lower.true)
-      (c.wide-k.ensures ∙ rw c.along_of.ensures)),
-)
+pub returns-then-has_inside-2 : goal.returns-then-has_inside-2
+returns-then-has_inside-2 c =
+    let below = c.has_inside-else-has_inside.ensures ∙ rw c.crossed-t.ensures in (
+      passed_over _ _ _ _ _ (sym (c.has_inside.ensures ∙ rw c.crossed-t.ensures) ∙ c.if-has_inside.false),
+      rw c.to_note-then-has_inside-2.ensures (noted_there _ _ _ _ _ _ (sym below ∙ c.if-has_inside-2.true) (c.from-k.ensures ∙ rw c.along.ensures)),
+    )
 
-pub returns-else-in_lower : goal.returns-else-in_lower
-returns-else-in_lower c = (
-  passed_over _ _ _ _ _ (sym (c.in_upper.ensures ∙ rw c.crossed_by-t.ensures) ∙ c.if-in_upper.false),
-  passed_over _ _ _ _ _ (sym (c.in_lower.ensures ∙ rw c.crossed_by-t.ensures) ∙ c.if-in_lower.false),
+pub returns-else-has_inside-2 : goal.returns-else-has_inside-2
+returns-else-has_inside-2 c = (
+  passed_over _ _ _ _ _ (sym (c.has_inside.ensures ∙ rw c.crossed-t.ensures) ∙ c.if-has_inside.false),
+  passed_over _ _ _ _ _ (sym (c.has_inside-else-has_inside.ensures ∙ rw c.crossed-t.ensures) ∙ c.if-has_inside-2.false),
 )
