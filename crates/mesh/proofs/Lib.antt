@@ -24,6 +24,7 @@ pub mod Filling
 pub mod MapView
 pub mod Grids
 pub mod OneLineMore
+pub mod Carrying
 pub mod TightMaps
 pub mod SoundLines
 pub mod GoodEnds

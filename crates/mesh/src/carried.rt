@@ -64,11 +64,12 @@ impl<const N: usize> Drawing<N> {
     {
         draw_split(s, Direction::Upright, self.h, &mut self.uprights);
         draw_split(s, Direction::Level, self.w, &mut self.levels);
-        match s.way() {
-            Direction::Upright => link(&mut self.columns, s.position + 1),
-            Direction::Level => link(&mut self.rows, s.position + 1),
-        }
         self.count += 1;
+        let z = s.position + 1;
+        match s.way() {
+            Direction::Upright => link(&mut self.columns, z),
+            Direction::Level => link(&mut self.rows, z),
+        }
     }
 
     // Draws the sides, and links their knots.

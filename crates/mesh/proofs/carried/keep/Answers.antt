@@ -1,21 +1,26 @@
 -- `mesh::carried::keep` meets its contract.
-use Rattle.std.proofs.Common.{arith}
+use Rattle.std.proofs.Common.{◌+◌, ◌≡◌, ◌∷◌, List, get_or, drop, arith, add-one, drop-cons}
+use mathlib.Core.List.{Memᴰ}
+use lib.ListN.{drop_of_length-le}
+use Rattle.axis.proofs.Members.{entry}
+use Rattle.mesh.specs.Sound.{none}
 use Rattle.mesh.specs.Bytes.{keep_all}
-use Rattle.mesh.proofs.BlendTables.{blends_end, Next, next_blend}
+use Rattle.mesh.specs.declared.Blend.{Blend}
 use Rattle.mesh.proofs.carried.keep.Goals as goal
 
-next : (c : goal.After-keep_blend-arg-1) → Next c.args.table c.loop-i.i
-next c = next_blend c.args.table _ (omega arith) c.requires.0 c.requires.1 (omega arith)
-
 pub keep_blend-requires : goal.keep_blend-requires
-keep_blend-requires c = let n = next c in (rw c.loop-i.auto.places (c.requires.2 _ n.there), n.proper)
+keep_blend-requires c =
+    let there : Memᴰ (get_or c.args.blends.now c.loop-x.x-index none) c.args.blends.now = entry c.args.blends.now c.loop-x.x-index none c.loop-x-test.true in
+    (rw c.loop-x.auto.places (c.requires.1 _ there), c.requires.0 _ there)
 
-pub loop-i-preserved : goal.loop-i-preserved
+pub loop-x-preserved : goal.loop-x-preserved
 unfolding keep_all
-loop-i-preserved c =
-    let n : Next c.args.table c.loop-i.i = next_blend c.args.table _ (omega arith) c.requires.0 c.requires.1 (omega arith) in
-    rw c.keep_blend.ensures (rw n.turn at c.loop-i.invariant)
+loop-x-preserved c =
+    let blends = c.args.blends.now in
+    let i = c.loop-x.x-index in
+    let turn : drop i blends ≡ get_or blends i none ∷ drop (i + 1) blends = rw add-one (drop-cons blends i none c.loop-x-test.true) in
+    rw c.keep_blend.ensures (rw turn at c.loop-x.invariant)
 
 pub returns : goal.returns
 unfolding keep_all
-returns c = rw (blends_end c.args.table c.loop-i.i (omega (arith, c.loop-i-test.false))) at c.loop-i.invariant
+returns c = rw (drop_of_length-le c.args.blends.now {i = c.loop-x.x-index} c.loop-x-test.false) at c.loop-x.invariant

@@ -1,8 +1,8 @@
 -- `mesh::carried::Drawing::add_line` meets its contract: the split is drawn in both directions' bytes, and its knot is linked in its own direction.
-use Rattle.std.proofs.Common.{ℕ, ◌+◌, ◌≤◌, ◌<◌, ◌≡◌, refl, List, arith}
+use Rattle.std.proofs.Common.{ℕ, ◌+◌, ◌≤◌, ◌<◌, ◌≡◌, refl, sym, ap, ◌∙◌, List, arith}
 use mathlib.Core.Bool.{true, ◌||◌}
 use Rattle.axis.specs.Limits.{largest_side}
-use Rattle.mesh.specs.Lines.{in_range, draws}
+use Rattle.mesh.specs.Lines.{in_range, draws, direction, number}
 use Rattle.mesh.specs.declared.Direction.{Direction}
 use Rattle.mesh.specs.declared.Direction.TheVariants.{Upright as upright, Level as level}
 use Rattle.mesh.specs.Bytes.{step_on, bytes_mesh}
@@ -24,56 +24,68 @@ both_drawn ups ups' lvs lvs' w h s f g level = g
 in_knots : (w h : ℕ) (s : Split) → in_range w h s ≡ true → w ≤ largest_side → h ≤ largest_side → s.position + 1 < 131
 in_knots w h s e wide high = omega (arith, (in_range_small w h s e wide high).position)
 
+-- it has one direction
+no_level : (n : ℕ) → direction n ≡ upright → n ≡ 1 → ⊥
+no_level n d e = omega (arith, ap number (sym (ap direction e) ∙ d))
+
+no_upright : (n : ℕ) → direction n ≡ level → n ≡ 0 → ⊥
+no_upright n d e = omega (arith, ap number (sym (ap direction e) ∙ d))
+
 pub draw_split-requires : goal.draw_split-requires
-draw_split-requires c =
-    let a = c.args in
+draw_split-requires g c =
+    let t = c.args.self.now in
+    let s = c.args.s in
     let pre = c.requires in
-    let rows = in_range_rows a.w a.h a.s a.uprights.now pre.6 pre.0 in
-    (rows.0, pre.5, λ e. let r = in_range_says a.w a.h upright a.s pre.6 e in (omega arith, r.1, r.2))
+    let rows = in_range_rows t.w t.h s t.uprights pre.4 pre.0.0 in
+    (rows.0, pre.2, λ e. let r = in_range_says t.w t.h upright s pre.4 e in (omega arith, r.1, r.2))
 
 pub draw_split-requires-2 : goal.draw_split-requires-2
-draw_split-requires-2 c =
-    let a = c.args in
+draw_split-requires-2 g c =
+    let t = c.args.self.now in
+    let s = c.args.s in
     let pre = c.requires in
-    let rows = in_range_rows a.w a.h a.s a.levels.now pre.6 pre.1 in
-    (rows.0, pre.4, λ e. let r = in_range_says a.w a.h level a.s pre.6 e in (omega arith, r.1, r.2))
+    let rows = in_range_rows t.w t.h s t.levels pre.4 pre.0.1 in
+    (rows.0, pre.1, λ e. let r = in_range_says t.w t.h level s pre.4 e in (omega arith, r.1, r.2))
 
-pub overflow_add-s : goal.overflow_add-s
-overflow_add-s c = omega (arith, in_knots c.args.w c.args.h c.args.s c.requires.6 c.requires.4 c.requires.5)
+pub overflow_add-z : goal.overflow_add-z
+overflow_add-z g c = let t = c.args.self.now in omega (arith, in_knots t.w t.h c.args.s c.requires.4 c.requires.1 c.requires.2)
 
 pub link-requires : goal.link-requires
-link-requires c = (c.requires.2, in_knots c.args.w c.args.h c.args.s c.requires.6 c.requires.4 c.requires.5)
+link-requires g c = let t = c.args.self.now in (omega arith, in_knots t.w t.h c.args.s c.requires.4 c.requires.1 c.requires.2)
 
-pub returns-then-s-eq0 : goal.returns-then-s-eq0
-returns-then-s-eq0 c =
-    let a = c.args in
+pub link-requires-in-Level : goal.link-requires-in-Level
+link-requires-in-Level g c = let t = c.args.self.now in (omega arith, in_knots t.w t.h c.args.s c.requires.4 c.requires.1 c.requires.2)
+
+pub returns-in-Upright : goal.returns-in-Upright
+returns-in-Upright g c =
+    let t = c.args.self.now in
+    let s = c.args.s in
     let ups = c.draw_split.ensures in
-    let lvs = c.draw_split-2.ensures in (
-      ups.0,
-      lvs.0,
-      both_drawn _ _ _ _ _ _ _ (ups.1 upright _ _ refl refl) (lvs.1 level _ _ refl refl),
-      λ M N more over_columns over_rows. (
-        leads_over (λ y pos free. own_bare a.w a.h a.s M N more upright y free.0 free.1) (linked_leads over_columns c.link.ensures),
-        leads_over (λ y pos free. other_bare a.w a.h a.s M N more level y (λ e. omega (arith, e, c.if-s-eq0.true)) free) over_rows,
-      ),
-    )
+    let lvs = c.draw_split-2.ensures in
+    let way = sym c.way.ensures ∙ c.in-Upright.is in
+    record {
+      kept = record { is_w = refl; is_h = refl; is_places = refl; long = (ups.0, lvs.0) };
+      is_count = refl;
+      drawn = both_drawn _ _ _ _ _ _ _ (ups.1 _ _ refl) (lvs.1 _ _ refl);
+      linked = λ M N more over_columns over_rows. (
+        leads_over (λ y pos free. own_bare t.w t.h s M N more upright y free.0 free.1) (linked_leads over_columns c.link.ensures),
+        leads_over (λ y pos free. other_bare t.w t.h s M N more level y (no_level s.direction way) free) over_rows,
+      );
+    }
 
-pub overflow_add-s-2 : goal.overflow_add-s-2
-overflow_add-s-2 c = omega (arith, in_knots c.args.w c.args.h c.args.s c.requires.6 c.requires.4 c.requires.5)
-
-pub link-requires-2 : goal.link-requires-2
-link-requires-2 c = (c.requires.3, in_knots c.args.w c.args.h c.args.s c.requires.6 c.requires.4 c.requires.5)
-
-pub returns : goal.returns
-returns c =
-    let a = c.args in
+pub returns-in-Level : goal.returns-in-Level
+returns-in-Level g c =
+    let t = c.args.self.now in
+    let s = c.args.s in
     let ups = c.draw_split.ensures in
-    let lvs = c.draw_split-2.ensures in (
-      ups.0,
-      lvs.0,
-      both_drawn _ _ _ _ _ _ _ (ups.1 upright _ _ refl refl) (lvs.1 level _ _ refl refl),
-      λ M N more over_columns over_rows. (
-        leads_over (λ y pos free. other_bare a.w a.h a.s M N more upright y c.if-s-eq0.false free) over_columns,
-        leads_over (λ y pos free. own_bare a.w a.h a.s M N more level y free.0 free.1) (linked_leads over_rows c.link-2.ensures),
-      ),
-    )
+    let lvs = c.draw_split-2.ensures in
+    let way = sym c.way.ensures ∙ c.in-Level.is in
+    record {
+      kept = record { is_w = refl; is_h = refl; is_places = refl; long = (ups.0, lvs.0) };
+      is_count = refl;
+      drawn = both_drawn _ _ _ _ _ _ _ (ups.1 _ _ refl) (lvs.1 _ _ refl);
+      linked = λ M N more over_columns over_rows. (
+        leads_over (λ y pos free. other_bare t.w t.h s M N more upright y (no_upright s.direction way) free) over_columns,
+        leads_over (λ y pos free. own_bare t.w t.h s M N more level y free.0 free.1) (linked_leads over_rows c.link-in-Level.ensures),
+      );
+    }

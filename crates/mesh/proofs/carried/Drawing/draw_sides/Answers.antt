@@ -28,10 +28,11 @@ drawn_fresh w h {ups} {lvs} {cols} {rows} on p q =
     subst (λ (M : Mesh). InBytes M ups lvs cols rows) (sym (no_splits w h)) (record { drawn = on; over_columns = p; over_rows = q })
 
 pub returns : goal.returns
-returns c =
-    let a = c.args in
-    let on = both_fresh a.w a.h _ _ (c.draw_fresh.ensures.1 upright _ _ refl refl) (c.draw_fresh-2.ensures.1 level _ _ refl refl) in (
-      c.draw_fresh.ensures.0,
-      c.draw_fresh-2.ensures.0,
-      drawn_fresh a.w a.h on (c.link_fresh.ensures upright _ _ refl) (c.link_fresh-2.ensures level _ _ refl),
-    )
+returns g c =
+    let t = c.args.self.now in
+    let on = both_fresh t.w t.h _ _ (c.draw_fresh.ensures.1 upright _ _ refl refl) (c.draw_fresh-2.ensures.1 level _ _ refl refl) in
+    record {
+      kept = record { is_w = refl; is_h = refl; is_places = refl; long = (c.draw_fresh.ensures.0, c.draw_fresh-2.ensures.0) };
+      is_count = refl;
+      lines = drawn_fresh t.w t.h on (c.link_fresh.ensures upright _ _ refl) (c.link_fresh-2.ensures level _ _ refl);
+    }
