@@ -24,7 +24,6 @@ pub mod Filling
 pub mod MapView
 pub mod Grids
 pub mod OneLineMore
-pub mod Carrying
 pub mod TightMaps
 pub mod SoundLines
 pub mod GoodEnds
@@ -40,6 +39,7 @@ pub mod Reaching
 pub mod Noting
 pub mod Looking
 pub mod Stepping
+pub mod Carrying
 pub mod Replaying
 pub mod CrossingList
 pub mod Cutting

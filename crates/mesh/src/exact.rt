@@ -126,8 +126,9 @@ impl<const N: usize> Drawing<N> {
         if !self.ends_on_lines(s) {
             return Err(Refusal::OpenEnd);
         }
-        let notes = self.notes(s.way(), s.position + 1);
-        if !notes.some_reached(s.way(), self.runs_from(s), self.runs_to(s)) {
+        let d = s.way();
+        let notes = self.notes(d, s.position + 1);
+        if !notes.some_reached(d, self.runs_from(s), self.runs_to(s)) {
             return Err(Refusal::CutsNothing);
         }
         Ok(notes)

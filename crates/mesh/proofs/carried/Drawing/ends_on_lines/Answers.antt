@@ -1,16 +1,10 @@
 -- `mesh::carried::Drawing::ends_on_lines` meets its contract: one end, then the other.
-use Rattle.std.proofs.Common.{ℕ, zero, suc, ◌+◌, ◌-◌, ◌<◌, ◌≡◌, refl, sym, ◌∙◌, Bool, true, false, ◌||◌, arith}
+use Rattle.std.proofs.Common.{ℕ, ◌+◌, ◌-◌, ◌≡◌, refl, sym, ◌∙◌, Bool, true, false, ◌||◌, arith}
 use borrow.Author.Tests.{lt-ltb}
 use Rattle.axis.specs.Range.{some}
-use Rattle.mesh.specs.Lines.{direction, other, Mesh, on_line, ended}
+use Rattle.mesh.specs.Lines.{Mesh, on_line, ended}
 use Rattle.mesh.specs.declared.Direction.{Direction}
 use Rattle.mesh.proofs.carried.Drawing.ends_on_lines.Goals as goal
-
--- the direction of the lines that cross a split, by its number
-crossing : (n : ℕ) → n < 2 → direction (1 - n) ≡ other (direction n)
-crossing zero lt = refl
-crossing (suc zero) lt = refl
-crossing (suc (suc n)) lt = absurd (omega arith)
 
 -- a point lies on a line where the step before it or the one after it is on
 turned : (a b : Bool) → (a || b) ≡ (b || (a || false))
@@ -25,13 +19,16 @@ point_by M d z p =
     let back : p + 1 - 1 ≡ p = omega arith in
     rw (lt-ltb 0 (p + 1) (omega arith), back) (turned (M d z (p + 1)) (M d z p))
 
-pub returns-then-not-some_on : goal.returns-then-not-some_on
+pub returns-then-some_on : goal.returns-then-some_on
 unfolding ended
-returns-then-not-some_on c =
-    rw (← crossing c.args.s.direction c.requires.2, point_by _ _ (c.args.s.from + 1) _, sym c.some_on.ensures ∙ c.if-not-some_on.true)
+returns-then-some_on g c =
+    let across = rw c.way.ensures at c.other-across.ensures in
+    let first = rw across at (sym c.some_on.ensures ∙ c.if-some_on.true) in
+    c.some_on-then-some_on.ensures ∙ rw (across, point_by _ _ (c.args.s.from + 1) _, point_by, first)
 
-pub returns : goal.returns
+pub returns-else-some_on : goal.returns-else-some_on
 unfolding ended
-returns c =
-    c.some_on-2.ensures ∙
-    rw (← crossing c.args.s.direction c.requires.2, point_by _ _ (c.args.s.from + 1) _, point_by, sym c.some_on.ensures ∙ c.if-not-some_on.false)
+returns-else-some_on g c =
+    let across = rw c.way.ensures at c.other-across.ensures in
+    let first = rw across at (sym c.some_on.ensures ∙ c.if-some_on.false) in
+    c.if-some_on.false ∙ rw (point_by _ _ (c.args.s.from + 1) _, first)

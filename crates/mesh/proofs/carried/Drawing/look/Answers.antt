@@ -1,114 +1,136 @@
 -- `mesh::carried::Drawing::look` meets its contract: the five tests, in order, each behind those before it.
-use Rattle.std.proofs.Common.{ℕ, ◌<◌, ◌≡◌, sym, ap, ◌∙◌, Bool, true, false, List, [], ◌∷◌, ◌++◌, length, arith}
+use Rattle.std.proofs.Common.{ℕ, ◌≤◌, ◌<◌, ◌≡◌, refl, sym, ap, ◌∙◌, Bool, true, false, List, [], ◌∷◌, ◌++◌, length, arith, rules}
 use borrow.Author.Tests.{le-leb, lt-leb}
 use mathlib.Core.Bool.{cond, not}
-use lib.ListN.{length-replicate}
 use Rattle.axis.specs.Range.{any}
-use Rattle.mesh.specs.Lines.{in_range, shares, ended, mesh, layout, Mesh}
-use Rattle.mesh.specs.Blends.{is_cut, live}
-use Rattle.mesh.specs.Splits.{given}
-use Rattle.mesh.specs.Bytes.{bytes_mesh}
-use Rattle.mesh.specs.Carried.{Carried}
+use Rattle.mesh.specs.Lines.{in_range, shares, ended, mesh_of, Layout, Mesh}
+use Rattle.mesh.specs.Blends.{is_cut}
+use Rattle.mesh.specs.Splits.{given, live_of, with_line}
+use Rattle.mesh.specs.Carried.{CarriedBy, NotedBy, mesh_by}
 use Rattle.mesh.specs.declared.Split.{Split}
-use Rattle.mesh.proofs.Stepping.{carried_small, carried_run, carried_rows, carried_walks, noted_there, cuts_some}
+use Rattle.mesh.specs.declared.carried.Drawing.{Drawing}
+use Rattle.mesh.proofs.Stepping.{noted_there, cuts_some}
+use Rattle.mesh.proofs.Carrying.{by_small, by_rows, by_walks, by_run, by_along}
 use Rattle.mesh.proofs.carried.Drawing.look.Goals as goal
 
-pub returns-then-not-in_range : goal.returns-then-not-in_range
-unfolding given
-returns-then-not-in_range c ss e now = (rw (sym c.if-not-in_range.ensures), λ z. absurd (omega arith))
+-- the tests by the bytes, on a map that is carried
+module _ {n : ℕ} {P : Layout} {t : Drawing n} (now : CarriedBy P t) (s : Split) where
+  by_range : {b : Bool} → b ≡ in_range t.w t.h s → in_range P.w P.h s ≡ b
+  by_range e = sym (rw (now.is_w, now.is_h) at e)
 
-pub returns-then-count-ge-MOST_SPLITS : goal.returns-then-count-ge-MOST_SPLITS
-unfolding given
-returns-then-count-ge-MOST_SPLITS c ss e now =
-    (rw (sym c.if-not-in_range.ensures, le-leb 60 (length ss) (omega arith)), λ z. absurd (omega arith))
+  by_full : {k : ℕ} → k ≤ t.count → k ≤ length P.splits
+  by_full le = let e = now.many in omega arith
+
+  by_room : {k : ℕ} → t.count < k → length P.splits < k
+  by_room lt = let e = now.many in omega arith
+
+  by_shares : {b : Bool} → b ≡ shares (mesh_by t) s → shares (mesh_of P) s ≡ b
+  by_shares e = sym (e ∙ ap (λ (M : Mesh). shares M s) now.carried.lines.drawn)
+
+  by_ended : {b : Bool} → b ≡ ended (mesh_by t) s → ended (mesh_of P) s ≡ b
+  by_ended e = sym (e ∙ ap (λ (M : Mesh). ended M s) now.carried.lines.drawn)
+
+-- each test decides behind those before it
+module _ (P : Layout) (s : Split) where
+  no_range : in_range P.w P.h s ≡ false → given P s ≡ 3
+  unfolding given
+  no_range e = rw e
+
+  module _ (fits : in_range P.w P.h s ≡ true) where
+    no_room : 60 ≤ length P.splits → given P s ≡ 4
+    unfolding given
+    no_room full = rw (fits, le-leb 60 (length P.splits) full)
+
+    module _ (room : length P.splits < 60) where
+      shared : shares (mesh_of P) s ≡ true → given P s ≡ 5
+      unfolding given
+      shared e = rw (fits, lt-leb 60 (length P.splits) room, e)
+
+      module _ (apart : shares (mesh_of P) s ≡ false) where
+        open_end : ended (mesh_of P) s ≡ false → given P s ≡ 6
+        unfolding given
+        open_end e = rw (fits, lt-leb 60 (length P.splits) room, apart, e)
+
+        by_cuts : ended (mesh_of P) s ≡ true → {b : Bool} → any (is_cut (mesh_of (with_line P s))) (live_of P) ≡ b → given P s ≡ cond (not b) 7 0
+        unfolding given
+        by_cuts ends e = rw (fits, lt-leb 60 (length P.splits) room, apart, ends, e)
+
+pub returns-then-not-in_range : goal.returns-then-not-in_range
+returns-then-not-in_range g c P now = no_range P c.args.s (by_range now c.args.s c.if-not-in_range.ensures)
+
+pub returns-then-self-ge-MOST_SPLITS : goal.returns-then-self-ge-MOST_SPLITS
+returns-then-self-ge-MOST_SPLITS g c P now =
+    no_room P c.args.s (by_range now c.args.s c.if-not-in_range.ensures) (by_full now c.args.s c.if-self-ge-MOST_SPLITS.true)
 
 pub shares_step-requires : goal.shares_step-requires
-shares_step-requires c =
-    let now = c.requires.0.2 in
-    let fits = sym c.if-not-in_range.ensures in
-    let r = carried_small now c.args.s fits in
-    let rows = carried_rows now c.args.s fits in
-    (rows.0, rows.1, r.position, r.rises, r.to)
-
-pub ends_on_lines-requires : goal.ends_on_lines-requires
-ends_on_lines-requires c =
-    let now = c.requires.0.2 in
-    let fits = sym c.if-not-in_range.ensures in
-    let r = carried_small now c.args.s fits in
-    let rows = carried_rows now c.args.s fits in
-    (rows.2, rows.3, r.direction, r.position, r.rises, r.to)
-
--- the tests by the bytes, on a map that is carried
-module _ {w h : ℕ} {ss : List Split} {ups lvs cols rows places : List ℕ} (now : Carried w h ss ups lvs cols rows places) (s : Split) where
-  by_shares : {b : Bool} → b ≡ shares (bytes_mesh ups lvs) s → shares (mesh w h ss) s ≡ b
-  by_shares e = sym (e ∙ ap (λ (M : Mesh). shares M s) now.lines.drawn)
-
-  by_ended : {b : Bool} → b ≡ ended (bytes_mesh ups lvs) s → ended (mesh w h ss) s ≡ b
-  by_ended e = sym (e ∙ ap (λ (M : Mesh). ended M s) now.lines.drawn)
-
-  -- behind the other four, the last test decides
-  last_decides : true ≡ in_range w h s → length ss < 60 → false ≡ shares (bytes_mesh ups lvs) s → true ≡ ended (bytes_mesh ups lvs) s →
-      {b : Bool} → b ≡ any (is_cut (mesh w h (ss ++ s ∷ []))) (live w h (mesh w h ss)) → cond (not b) 7 0 ≡ given (layout w h ss) s
-  unfolding given
-  last_decides fits room apart ends cuts = rw (sym fits, lt-leb 60 (length ss) room, by_shares apart, by_ended ends, sym cuts)
+shares_step-requires g c =
+    let now = c.requires.1 in
+    let fits = by_range now c.args.s c.if-not-in_range.ensures in
+    let r = by_small now c.args.s fits in
+    let rows = by_rows now c.args.s fits in
+    (search rules, (rows.0, rows.1, r.position, r.rises, r.to))
 
 pub returns-then-shares_step : goal.returns-then-shares_step
-unfolding given
-returns-then-shares_step c ss e now = (
-  rw (sym c.if-not-in_range.ensures, lt-leb 60 (length ss) (omega arith), by_shares now c.args.s c.if-shares_step.ensures),
-  λ z. absurd (omega arith),
-)
+returns-then-shares_step g c P now =
+    let s = c.args.s in
+    shared P s (by_range now s c.if-not-in_range.ensures) (by_room now s c.if-self-ge-MOST_SPLITS.false) (by_shares now s c.if-shares_step.ensures)
+
+pub ends_on_lines-requires : goal.ends_on_lines-requires
+ends_on_lines-requires g c =
+    let now = c.requires.1 in
+    let fits = by_range now c.args.s c.if-not-in_range.ensures in
+    let r = by_small now c.args.s fits in
+    let rows = by_rows now c.args.s fits in
+    (search rules, (rows.2, rows.3, r.position, r.rises, r.to))
 
 pub returns-then-not-ends_on_lines : goal.returns-then-not-ends_on_lines
-unfolding given
-returns-then-not-ends_on_lines c ss e now = (
-  rw (
-    sym c.if-not-in_range.ensures,
-    lt-leb 60 (length ss) (omega arith),
-    by_shares now c.args.s c.if-shares_step.ensures,
-    by_ended now c.args.s c.if-not-ends_on_lines.ensures,
-  ),
-  λ z. absurd (omega arith),
-)
+returns-then-not-ends_on_lines g c P now =
+    let s = c.args.s in
+    open_end P s (by_range now s c.if-not-in_range.ensures) (by_room now s c.if-self-ge-MOST_SPLITS.false) (by_shares now s c.if-shares_step.ensures)
+    (by_ended now s c.if-not-ends_on_lines.ensures)
 
 pub overflow_add-s : goal.overflow_add-s
-overflow_add-s c = let r = carried_small c.requires.0.2 c.args.s (sym c.if-not-in_range.ensures) in omega arith
+overflow_add-s g c = let r = by_small c.requires.1 c.args.s (by_range c.requires.1 c.args.s c.if-not-in_range.ensures) in omega arith
 
-pub note_all-requires : goal.note_all-requires
-note_all-requires c =
-    let blank = length-replicate {A = ℕ} 131 0 in
-    (carried_walks c.requires.0.2, ap length c.requires.1 ∙ blank, ap length c.requires.2 ∙ blank)
+pub notes-notes-requires : goal.notes-notes-requires
+notes-notes-requires g c = (search rules, by_walks c.requires.1)
 
-pub runs_from-from-requires : goal.runs_from-from-requires
-runs_from-from-requires c =
-    let now = c.requires.0.2 in
-    let fits = sym c.if-not-in_range.ensures in
-    let r = carried_small now c.args.s fits in
-    let rows = carried_rows now c.args.s fits in
-    (rows.0, rows.1, r.position, omega arith)
+pub runs_from-requires : goal.runs_from-requires
+runs_from-requires g c =
+    let now = c.requires.1 in
+    let fits = by_range now c.args.s c.if-not-in_range.ensures in
+    let r = by_small now c.args.s fits in
+    let rows = by_rows now c.args.s fits in
+    (search rules, (rows.0, rows.1, r.position, omega arith))
 
-pub runs_to-to-requires : goal.runs_to-to-requires
-runs_to-to-requires c =
-    let now = c.requires.0.2 in
-    let fits = sym c.if-not-in_range.ensures in
-    let rows = carried_rows now c.args.s fits in
-    let along = carried_run now c.args.s fits c.run_of.ensures in
-    (rows.0, rows.1, (carried_small now c.args.s fits).position, along.0, along.1)
+pub runs_to-requires : goal.runs_to-requires
+runs_to-requires g c =
+    let now = c.requires.1 in
+    let fits = by_range now c.args.s c.if-not-in_range.ensures in
+    let rows = by_rows now c.args.s fits in
+    let along = by_run now c.args.s fits in
+    (search rules, (rows.0, rows.1, (by_small now c.args.s fits).position, along.0, along.1))
 
 pub returns-then-not-some_reached : goal.returns-then-not-some_reached
-returns-then-not-some_reached c ss e now =
-    let fits = c.if-not-in_range.ensures in
-    let n = noted_there now c.args.s c.requires.1 c.requires.2 c.note_all.ensures.0 c.note_all.ensures.1 in
-    let cuts = cuts_some now c.args.s n (sym fits) c.run_of.ensures c.runs_from-from.ensures c.runs_to-to.ensures.0 in (
-      last_decides now c.args.s fits (omega arith) c.if-shares_step.ensures c.if-not-ends_on_lines.ensures (c.if-not-some_reached.ensures ∙ cuts),
-      λ z. absurd (omega arith),
-    )
+returns-then-not-some_reached g c P now =
+    let s = c.args.s in
+    let fits = by_range now s c.if-not-in_range.ensures in
+    let noted = rw (c.way-d.ensures, now.is_w, now.is_h) at c.notes-notes.ensures in
+    let n = noted_there now.carried s refl refl noted.0 noted.1 in
+    let cuts = sym (cuts_some now.carried s n fits (by_along now s fits) c.runs_from.ensures c.runs_to.ensures.0) ∙
+    sym (rw c.way-d.ensures at c.some_reached.ensures) in
+    let is = by_cuts P s fits (by_room now s c.if-self-ge-MOST_SPLITS.false) (by_shares now s c.if-shares_step.ensures)
+    (by_ended now s c.if-not-ends_on_lines.ensures) cuts in
+    is ∙ rw c.if-not-some_reached.true
 
 pub returns : goal.returns
-returns c ss e now =
-    let fits = c.if-not-in_range.ensures in
-    let n = noted_there now c.args.s c.requires.1 c.requires.2 c.note_all.ensures.0 c.note_all.ensures.1 in
-    let cuts = cuts_some now c.args.s n (sym fits) c.run_of.ensures c.runs_from-from.ensures c.runs_to-to.ensures.0 in (
-      last_decides now c.args.s fits (omega arith) c.if-shares_step.ensures c.if-not-ends_on_lines.ensures (c.if-not-some_reached.ensures ∙ cuts),
-      λ z. n,
-    )
+returns g c P now =
+    let s = c.args.s in
+    let fits = by_range now s c.if-not-in_range.ensures in
+    let noted = rw (c.way-d.ensures, now.is_w, now.is_h) at c.notes-notes.ensures in
+    let n = noted_there now.carried s refl refl noted.0 noted.1 in
+    let cuts = sym (cuts_some now.carried s n fits (by_along now s fits) c.runs_from.ensures c.runs_to.ensures.0) ∙
+    sym (rw c.way-d.ensures at c.some_reached.ensures) in
+    let is = by_cuts P s fits (by_room now s c.if-self-ge-MOST_SPLITS.false) (by_shares now s c.if-shares_step.ensures)
+    (by_ended now s c.if-not-ends_on_lines.ensures) cuts in
+    (is ∙ rw c.if-not-some_reached.false, n)

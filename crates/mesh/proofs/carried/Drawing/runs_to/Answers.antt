@@ -3,9 +3,6 @@ use Rattle.std.proofs.Common.{ℕ, zero, suc, ◌+◌, ◌-◌, ◌<◌, ◌≡�
 use Rattle.mesh.specs.Carried.{runs_to}
 use Rattle.mesh.proofs.carried.Drawing.runs_to.Goals as goal
 
-pub loop-k-init : goal.loop-k-init
-loop-k-init c = let e = c.last_knot-k.ensures in record { within = omega (arith, e.1); same = rw e.0 }
-
 -- one turn on
 turn : (line : ℕ → Bool) (k n m : ℕ) → n ≡ suc m → line k ≡ true → runs_to line (k + 1) m ≡ runs_to line k n
 unfolding runs_to
@@ -17,20 +14,19 @@ stop line k zero lt e = absurd (omega arith)
 stop line k (suc n) lt e = rw e
 
 pub returns-then-not-on : goal.returns-then-not-on
-returns-then-not-on c =
-    let l = c.loop-k in (stop _ l.k (131 - l.k) (omega arith) (sym c.if-not-on.ensures) ∙ l.invariant.same, omega arith)
+returns-then-not-on g c =
+    let l = c.loop-k in
+    (stop _ l.k (131 - l.k) (omega arith) (rw c.way-in-loop-k.ensures at (sym c.if-not-on.ensures)) ∙ l.invariant, omega arith)
 
 pub loop-k-preserved : goal.loop-k-preserved
-loop-k-preserved c =
+loop-k-preserved g c =
     let l = c.loop-k in
-    record {
-      within = omega arith;
-      same = turn _ l.k (131 - l.k) (131 - (l.k + 1)) (omega arith) (sym c.if-not-on.ensures) ∙ l.invariant.same;
-    }
+    turn _ l.k (131 - l.k) (131 - (l.k + 1)) (omega arith) (rw c.way-in-loop-k.ensures at (sym c.if-not-on.ensures)) ∙ l.invariant
 
 pub returns : goal.returns
 unfolding runs_to
-returns c =
+returns g c =
     let l = c.loop-k in
-    let last : l.k ≡ 131 = omega (arith, c.loop-k-test.false) in
-    (sym (rw last) ∙ l.invariant.same, omega arith)
+    let ends = c.end-k.ensures in
+    let last : l.k ≡ 131 = omega arith in
+    (sym (rw last) ∙ l.invariant, omega arith)

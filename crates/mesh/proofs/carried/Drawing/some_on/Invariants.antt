@@ -1,14 +1,8 @@
 -- What is left to test decides the whole answer.
-use Rattle.std.proofs.Common.{◌≡◌, ◌+◌}
+use Rattle.std.proofs.Common.{◌≡◌, ◌+◌, ◌-◌}
 use Rattle.axis.specs.Range.{some}
-use Rattle.mesh.specs.Lines.{direction}
-use Rattle.mesh.specs.Bytes.{bytes_mesh}
+use Rattle.mesh.specs.Carried.{mesh_by}
 use Rattle.mesh.proofs.carried.Drawing.some_on.Given as goal
 
-abbrev pub invariant-loop-left : goal.invariant-loop-left
-invariant-loop-left l =
-    let line = bytes_mesh l.uprights l.levels (direction l.number) l.z in
-    record { within : l.k + l.left ≡ l.from + l.n; rest : some l.k l.left line ≡ some l.from l.n line }
-
-abbrev pub decreases-loop-left : goal.decreases-loop-left
-decreases-loop-left l = l.left
+abbrev pub invariant-loop-k : goal.invariant-loop-k
+invariant-loop-k g l = some l.k (l.from + l.n - l.k) (mesh_by l.self l.d l.z) ≡ some l.from l.n (mesh_by l.self l.d l.z)
