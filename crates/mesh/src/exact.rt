@@ -136,8 +136,8 @@ impl<const N: usize> Drawing<N> {
 
     // Whether an end of a line, at knot k, is good: the gap's, or one at which a blend before the line and one after it are alike.
     fn good_end(&self, notes: &Notes, d: Direction, z: usize, end: Side, k: usize) -> bool
-        requires { Rows (z + 1) self.now.uprights × Rows (z + 1) self.now.levels × (z < 131) × (1 ≤ k) × (k < 131) × (self.now.w ≤ largest_side) ×
-            (self.now.h ≤ largest_side) }
+        requires { Rows (z + 1) self.now.uprights × Rows (z + 1) self.now.levels × (z < 131) × (1 ≤ k) × (k < 131) ×
+            (run_by self.now d ≤ largest_side) }
         ensures { result ≡ looks_good (mesh_by self.now) d z (run_by self.now d) notes.now.lows notes.now.highs end k }
     {
         let ends_gap = match end {
@@ -149,7 +149,7 @@ impl<const N: usize> Drawing<N> {
 
     pub fn good_ends(&self, notes: &Notes, s: Split) -> bool
         requires { Rows (s.position + 2) self.now.uprights × Rows (s.position + 2) self.now.levels × (s.position < largest_side) ×
-            (s.from < largest_side) × (s.to ≤ largest_side) × (self.now.w ≤ largest_side) × (self.now.h ≤ largest_side) }
+            (s.from < largest_side) × (s.to ≤ largest_side) × (run_by self.now (direction s.direction) ≤ largest_side) }
         ensures { result ≡ looks_sound (mesh_by self.now) (run_by self.now (direction s.direction)) notes.now.lows notes.now.highs s }
     {
         let d = s.way();

@@ -21,8 +21,8 @@ impl<const N: usize> Drawing<N> {
     {
         let run = self.run(s.way());
         let mut found = None;
-        'search: for length in s.to - s.from..=longest {
-            for from in s.to.saturating_sub(length)..=s.from {
+        'search: for length in s.to - s.from..longest + 1 {
+            for from in s.to.saturating_sub(length)..s.from + 1 {
                 let line = Split {
                     direction: s.direction,
                     position: s.position,
