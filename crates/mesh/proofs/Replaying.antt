@@ -15,7 +15,7 @@ use Rattle.axis.proofs.Tests.{true_not_false, and_first, and_last, cond_true, co
 use Rattle.axis.proofs.Runs.{if_at_most, if_equal}
 use Rattle.mesh.specs.Lines.{allowed_side, Layout, layout, splits_of, layout_of}
 use Rattle.mesh.specs.Sound.{table}
-use Rattle.mesh.specs.Splits.{given, asked, exact_number, accepted, with_line}
+use Rattle.mesh.specs.Splits.{given, asked, exact_number, accepted, live_of, with_line}
 use Rattle.mesh.specs.Lengthening.{steps_of}
 use Rattle.mesh.specs.Ends.{nearest_good}
 use Rattle.mesh.specs.Refusals.{number_of}
@@ -131,7 +131,7 @@ module _ {n : ℕ} {L : Lines} {i : ℕ} {t : Drawing n} (r : Replaying L i t) w
     turn = r.decides ∙ rw (drop-cons (splits_of L) i blank lt, add-one)
 
     -- a split is refused, or one more is taken
-    module _ {a : Result Split Refusal} (is : judged this a ≡ verdict before this 0) where
+    module _ (a : Result Split Refusal) (is : judged this a ≡ verdict before this 0) where
       by_number : (judged this a).number ≡ exact_number before this
       by_number = ap (λ (u : Verdict). u.number) is ∙ verdict_exact _ this r.carried.carried.taken
 
@@ -143,12 +143,12 @@ module _ {n : ℕ} {L : Lines} {i : ℕ} {t : Drawing n} (r : Replaying L i t) w
 
     pub replay_stop : (a : Result Split Refusal) → judged this a ≡ verdict before this 0 → is_err a ≡ true → None ≡ replayed L
     replay_stop (Ok line) is e = absurd (true_not_false _ e refl)
-    replay_stop (Err x) is e = stops {a = Err x} is (λ z. refusal_not_zero x (by_number {a = Err x} is ∙ z))
+    replay_stop (Err x) is e = stops (Err x) is (λ z. refusal_not_zero x (by_number (Err x) is ∙ z))
 
     pub replay_more : (a : Result Split Refusal) → judged this a ≡ verdict before this 0 → is_err a ≡ false → {u : Drawing n} →
         IfOk a (λ line. CarriedBy (with_line before line) u) → Replaying L (i + 1) u
     replay_more (Ok line) is e next =
-        goes_on {a = Ok line} is (sym (by_number {a = Ok line} is)) (rw (verdict_line _ this r.carried.carried.taken is refl) at next)
+        goes_on (Ok line) is (sym (by_number (Ok line) is)) (rw (verdict_line _ this r.carried.carried.taken is refl) at next)
     replay_more (Err x) is e next = absurd (true_not_false _ refl e)
 
   pub replay_done : L.count ≤ 60 → i ≡ length (splits_of L) → Some (table (walk t.w t.h t.places)) ≡ replayed L
@@ -210,7 +210,8 @@ module _ (L : Lines) (t : Table) (s : Split) where
         {n : ℕ} {u : Drawing n} {new : Table} → CarriedBy (with_line (layout_of L) v.line) u →
         new ≡ table (walk u.w u.h u.places) → ◌≡◌ {A = Step} (record { number = 0; split = v.line; table = new }) (split_step L t s a)
     unfolding split_step
-    verdict_drawn taken {v} is none now e =
+    verdict_drawn taken {v} is none {n} {u} now e =
         let f = verdict_says (layout_of L) s a is none in
-        ap (λ (x : Table). record { number = 0; split = v.line; table = x }) (e ∙ ap table (rw (now.is_w, now.is_h) (carried_walk now.carried))) ∙
+        let lives : walk u.w u.h u.places ≡ live_of (with_line (layout_of L) v.line) = rw (now.is_w, now.is_h) (carried_walk now.carried) in
+        ap (λ (x : Table). record { number = 0; split = v.line; table = x }) (e ∙ ap table lives) ∙
         rw (asked_given (layout_of L) s a few, f.0, f.2, (least_sound_line (layout_of L) (replays_stands taken).built s f.0).taken a, le-leb _ _ f.1)

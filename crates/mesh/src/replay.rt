@@ -11,7 +11,7 @@ use crate::{Lines, Table};
 #[inline(never)]
 fn replay_in<const N: usize>(lines: &Lines) -> Option<Table>
     requires { (allowed_side lines.now.w ≡ true) × (allowed_side lines.now.h ≡ true) × (lines.now.count ≤ most_splits) ×
-        ((lines.now.w + 3) * 131 ≤ N) × ((lines.now.h + 3) * 131 ≤ N) }
+        ((lines.now.w + 3) * 131 ≤ N) × ((lines.now.h + 3) * 131 ≤ N) × (N ≤ 17161) }
     ensures { result ≡ replayed lines.now }
 {
     let mut drawing = Drawing::<N>::clear(lines.w, lines.h);

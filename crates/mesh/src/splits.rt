@@ -47,10 +47,10 @@ impl<const N: usize> Drawing<N> {
     {
         let notes = self.look(s)?;
         let longest = s.to - s.from + allowance;
-        let line = self
-            .least_line(&notes, longest, s)
-            .ok_or(Refusal::Unsound)?;
-        Ok((line, notes))
+        match self.least_line(&notes, longest, s) {
+            Some(line) => Ok((line, notes)),
+            None => Err(Refusal::Unsound),
+        }
     }
 
     // Takes a split. Accepted, its line is drawn and cut with; refused, it leaves all as it was.
@@ -74,7 +74,8 @@ fn split_in<const N: usize>(
     s: Split,
     allowance: usize,
 ) -> Result<Drawn, Refusal>
-    requires { (allowance ≤ most_allowance) × HasTable lines.now table.now × ((lines.now.w + 3) * 131 ≤ N) × ((lines.now.h + 3) * 131 ≤ N) }
+    requires { (allowance ≤ most_allowance) × HasTable lines.now table.now × ((lines.now.w + 3) * 131 ≤ N) × ((lines.now.h + 3) * 131 ≤ N) ×
+        (N ≤ 17161) }
     ensures { stepped table.now s result ≡ split_step lines.now table.now s allowance }
 {
     let mut drawing = Drawing::<N>::clear(lines.w, lines.h);
