@@ -53,11 +53,11 @@ set_mem (y ∷ ys) (suc i) v x m =
     ⊎_elim (λ q. inr (Memᴰ.head q)) (λ n. ⊎_elim inl (λ k. inr (Memᴰ.tail k)) (set_mem ys i v x n)) (Memᴰ.cases_cons m)
 
 -- the entries of one more of a list
-pub joined_append : {A : Type 0} (f : A → List ℕ) (xs ys : List A) → joined f (xs ++ ys) ≡ joined f xs ++ joined f ys
+pub joined_append : {A B : Type 0} (f : A → List B) (xs ys : List A) → joined f (xs ++ ys) ≡ joined f xs ++ joined f ys
 joined_append f [] ys = refl
 joined_append f (x ∷ xs) ys = rw (joined_append f xs ys, append_assoc)
 
-pub joined_more : {A : Type 0} (f : A → List ℕ) (xs : List A) (i : ℕ) (d : A) → i < length xs →
+pub joined_more : {A B : Type 0} (f : A → List B) (xs : List A) (i : ℕ) (d : A) → i < length xs →
     joined f (take (i + 1) xs) ≡ joined f (take i xs) ++ f (get_or xs i d)
 joined_more f xs i d lt = rw (add-one, take-suc xs i d lt, joined_append, append-nil)
 

@@ -2,12 +2,14 @@
 -- Nothing here knows how many axes there are.
 use Prim.Native.Nat.{ℕ, zero, suc, ◌+◌, ◌-◌, ◌≤◌, ◌<◌}
 use native.Mathlib.Omega.{arith}
-use mathlib.Core.Path.{◌≡◌, refl, ap, ◌∙◌}
+use mathlib.Core.Path.{◌≡◌, refl, sym, ap, ◌∙◌}
 use mathlib.Core.Logic.{⊎_elim}
 use mathlib.Core.Bool.{Bool, true, false, cond}
 use borrow.Author.Tests.{eqb-true, eqb-false, eq-eqb, ne_eqb, ltb-true, ltb-false}
 use lib.Dec.{eqb, ltb}
-use Rattle.axis.specs.Nearest.{below, above, nearest}
+use Rattle.std.specs.Prelude.{Option, Some, None}
+use Rattle.std.proofs.lemmas.Option.{none-some, cond_some}
+use Rattle.axis.specs.Nearest.{below, above, nearest, any_line}
 use Rattle.axis.specs.declared.Triple.{Triple}
 use Rattle.axis.specs.Triple.{Rise}
 use Rattle.axis.proofs.Tests.{either, true_not_false}
@@ -126,6 +128,22 @@ module _ (line : ℕ → Bool) (t : Triple) where
   pub nearest_beyond : under ≡ 0 → nearest line t ≡ beyond
   unfolding nearest
   nearest_beyond e = rw (eq-eqb _ _ e)
+
+-- a line that was found, and none
+pub some_line : (v z : ℕ) → v ≡ z → 0 < z → Some z ≡ any_line v
+some_line zero z e pos = absurd (omega arith)
+some_line (suc v) z e pos = ap Some (sym e)
+
+pub no_line : (v : ℕ) → v ≡ 0 → None ≡ any_line v
+no_line v e = rw e
+
+pub line_is : (v z : ℕ) → any_line v ≡ Some z → (z ≡ v) × (z ≡ 0 → ⊥)
+line_is zero z e = absurd (none-some z e)
+line_is (suc v) z e = let same = (cond_some true (suc v) z e).1 in (sym same, λ q. omega arith)
+
+pub line_none : (v : ℕ) → any_line v ≡ None → v ≡ 0
+line_none zero e = refl
+line_none (suc v) e = absurd (none-some (suc v) (sym e))
 
 -- The searches as such: the last number at or below n that passes a test, where 0 does,
 pub below_last : (test : ℕ → Bool) (n : ℕ) → test 0 ≡ true →

@@ -1,6 +1,6 @@
 -- Which of the lines that cut a triple comes first: the nearest below the middle, else the nearest above it; 0 where none cuts (no line at −1
 -- does). Which one is taken first makes no difference to what is left of a blend.
-use Rattle.std.specs.Prelude.{ℕ, zero, suc, ◌+◌, ◌-◌, Bool, cond, eqb}
+use Rattle.std.specs.Prelude.{ℕ, zero, suc, ◌+◌, ◌-◌, Bool, cond, eqb, Option, Some, None}
 use Rattle.axis.specs.declared.Triple.{Triple}
 
 unfoldable pub below : (ℕ → Bool) → ℕ → ℕ → ℕ
@@ -16,3 +16,8 @@ nearest line t =
     let high = above line t.r (t.r - t.m - 1) in
     let low = below line t.l (t.m - t.l - 1) in
     cond (eqb low 0) high low
+
+-- such a line, if any
+abbrev pub any_line : ℕ → Option ℕ
+any_line zero = None
+any_line (suc z) = Some (suc z)

@@ -1,11 +1,12 @@
 -- Tables: their arrays are as long as their types say; their blends, one by one as a loop takes them; and that they are proper.
 use Prim.Native.Nat.{ℕ, ◌+◌, ◌-◌, ◌≤◌, ◌<◌}
 use native.Mathlib.Omega.{arith}
-use mathlib.Core.Path.{◌≡◌, refl, ap}
+use mathlib.Core.Path.{◌≡◌, refl, ap, ◌∙◌}
 use mathlib.Core.Bool.{true}
-use mathlib.Core.List.{List, [], ◌∷◌, Memᴰ}
-use lib.ListN.{length, get_or, set, drop, replicate}
+use mathlib.Core.List.{List, [], ◌∷◌, ◌++◌, Memᴰ}
+use lib.ListN.{length, get_or, drop, replicate}
 use lib.Seq.{take-append_seam}
+use Rattle.std.proofs.lemmas.List.{drop-replicate}
 use mir.Val.{Val}
 use denote.Shadow.{shadow}
 use denote.Struct.Declared.{row}
@@ -70,8 +71,10 @@ module _ (t : Table) (i : ℕ) where
         proper = proper_facts _ _ _ (all_at (proper largest_side largest_side) (blends_of t) e _ there);
       }
 
--- four blends at the front of an empty table
-pub four_set : (bs : List Blend) (A B C D : Blend) → bs ≡ (table []).blends →
-    ◌≡◌ {A = Table} (record { count = 4; blends = set (set (set (set bs 0 A) 1 B) 2 C) 3 D }) (table (A ∷ B ∷ C ∷ D ∷ []))
+-- blends at the front of unused places
+pub listed : (bs front : List Blend) → front ≡ bs →
+    ◌≡◌ {A = Table} (record { count = length bs; blends = front ++ drop (length bs) (replicate most_blends none) }) (table bs)
 unfolding table
-four_set bs A B C D e = ap (λ (l : List Blend). record { count = 4; blends = set (set (set (set l 0 A) 1 B) 2 C) 3 D }) e
+listed bs front e =
+    ap (λ (l : List Blend). record { count = length bs; blends = l ++ drop (length bs) (replicate most_blends none) }) e ∙
+    ap (λ (l : List Blend). record { count = length bs; blends = bs ++ l }) (drop-replicate (length bs) most_blends none)

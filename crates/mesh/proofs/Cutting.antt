@@ -4,8 +4,9 @@ use native.Mathlib.Omega.{arith}
 use borrow.Author.Tests.{eq-eqb, ne_eqb}
 use mathlib.Core.Path.{◌≡◌, refl, sym, ap, ◌∙◌}
 use mathlib.Core.Bool.{Bool, true, false, cond}
-use mathlib.Core.List.{List, [], ◌∷◌, ◌++◌}
-use Rattle.axis.specs.Range.{every}
+use mathlib.Core.List.{List, [], ◌∷◌, ◌++◌, append-nil}
+use lib.ListN.{length, get_or, take}
+use Rattle.axis.specs.Range.{every, joined}
 use Rattle.axis.specs.Triple.{half}
 use Rattle.axis.specs.declared.Side.{Side}
 use Rattle.axis.specs.declared.Side.TheVariants.{Lower as lower, Upper as upper}
@@ -18,6 +19,7 @@ use Rattle.mesh.specs.Blends.{crossed, cutter, halve, leaves, leaves_of, size}
 use Rattle.axis.specs.declared.Triple.{Triple}
 use Rattle.mesh.specs.declared.Blend.{Blend}
 use Rattle.axis.proofs.Tests.{true_not_false}
+use Rattle.axis.proofs.Members.{joined_more}
 use Rattle.mesh.proofs.Cuts.{put, halve_own, cut_fact, cutter_cuts, rise_b_of, halve_proper, halve_within, halve_smaller, WithinB}
 
 -- whether the line at a knot covers the n steps from knot b on
@@ -46,6 +48,17 @@ keep_all_append places (x ∷ xs) ys = keep_all_append (keep places x) xs ys
 -- the places q are the places p with what is left of a blend kept besides, lines of direction d tried first
 abbrev pub Cut : Mesh → Direction → Blend → List ℕ → List ℕ → Type 0
 Cut M d x p q = (f : ℕ) → size x ≤ f → q ≡ keep_all p (leaves f M d x)
+
+-- what is left of a half, and the places q are the places p with what is left of the halves on the first i of some sides
+abbrev pub handed : ℕ → Mesh → Direction → Blend → Side → List Blend
+handed f M d x s = leaves f M (other d) (halve d s (cutter M d x) x)
+
+abbrev pub Handed : Mesh → Direction → Blend → List Side → ℕ → List ℕ → List ℕ → Type 0
+Handed M d x ss i p q = (f : ℕ) → size x ≤ suc f → q ≡ keep_all p (joined (handed f M d x) (take i ss))
+
+pub handed_none : (M : Mesh) (d : Direction) (x : Blend) (ss : List Side) (p : List ℕ) → Handed M d x ss 0 p p
+unfolding keep_all
+handed_none M d x ss p f le = refl
 
 -- a half as the code makes it
 put_half : (d : Direction) (s : Side) (z : ℕ) (x : Blend) (t : Triple) → t ≡ half s z (crossed d x) → put d x t ≡ halve d s z x
@@ -96,14 +109,19 @@ module _ {M : Mesh} {d : Direction} {x : Blend} {z : ℕ} (F : Found M d x z) wh
       let less = put_smaller s t h in
       (half_ahead tried n less e, less.proper, λ q. absurd (true_not_false _ q refl), less.within.across.hi, less.within.up.hi)
 
-  pub cut_halves : (tried : Bool) (t u : Triple) (p q r : List ℕ) → (tried ≡ true → cutter M (other d) x ≡ 0) →
-      t ≡ half lower z (crossed d x) → u ≡ half upper z (crossed d x) →
-      Cut M (other d) (put d x t) p q → Cut M (other d) (put d x u) q r → Cut M (cond tried (other d) d) x p r
-  cut_halves tried t u p q r none e e' first second zero le = absurd (omega (arith, (put_smaller lower t e).less))
-  cut_halves tried t u p q r none e e' first second (suc f) le =
-      second f (omega (arith, (put_smaller upper u e').less))
-      ∙ ap (λ (l : List ℕ). keep_all l (leaves f M (other d) (put d x u))) (first f (omega (arith, (put_smaller lower t e).less)))
-      ∙ rw (leaves_cut f M d x tried (λ q. F.some (F.is ∙ q)) none, keep_all_append, put_half d lower z x t e, put_half d upper z x u e', F.is)
+  pub handed_more : (ss : List Side) (i : ℕ) (t : Triple) (p q r : List ℕ) → i < length ss → t ≡ half (get_or ss i lower) z (crossed d x) →
+      Handed M d x ss i p q → Cut M (other d) (put d x t) q r → Handed M d x ss (i + 1) p r
+  handed_more ss i t p q r lt e first next f le =
+      let s = get_or ss i lower in
+      let same : put d x t ≡ halve d s (cutter M d x) x = rw (← F.is) (put_half d s z x t e) in
+      next f (omega (arith, (put_smaller s t e).less)) ∙ ap (λ (l : List ℕ). keep_all l (leaves f M (other d) (put d x t))) (first f le) ∙
+      rw (same, joined_more (handed f M d x) ss i lower lt) (sym (keep_all_append p (joined (handed f M d x) (take i ss)) (handed f M d x s)))
+
+  pub handed_both : (tried : Bool) (p r : List ℕ) → (tried ≡ true → cutter M (other d) x ≡ 0) →
+      Handed M d x (lower ∷ upper ∷ []) 2 p r → Cut M (cond tried (other d) d) x p r
+  handed_both tried p r none both zero le = absurd (omega (arith, (put_smaller lower _ refl).less))
+  handed_both tried p r none both (suc f) le =
+      both f le ∙ rw (append-nil (handed f M d x upper), leaves_cut f M d x tried (λ q. F.some (F.is ∙ q)) none)
 
 -- a blend that no line cuts is kept as it is
 pub cut_kept : (M : Mesh) (d : Direction) (x : Blend) (p q : List ℕ) → cutter M d x ≡ 0 → cutter M (other d) x ≡ 0 → q ≡ keep p x → Cut M d x p q

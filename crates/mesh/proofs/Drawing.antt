@@ -4,17 +4,18 @@ use native.Mathlib.Omega.{arith}
 use mathlib.Core.Path.{◌≡◌, refl, sym, ap, ◌∙◌}
 use mathlib.Core.Logic.{⊎_elim}
 use mathlib.Core.Bool.{Bool, true, false, ◌&&◌, ◌||◌, or-false, or_assoc, and-true, and-false, and-or_distrib_right}
-use mathlib.Core.List.{List}
+use mathlib.Core.List.{List, [], ◌∷◌, ◌++◌}
 use borrow.Author.Tests.{ltb-true, leb-true, eqb-true, eqb-false, lt-ltb, le-ltb, le-leb, eq-eqb, ne_eqb}
 use lib.Dec.{eqb, ltb, leb, leb-zero}
 use lib.ListN.{length, get_or, set, length-set}
 use lib.Seq.{get_or-set_same, get_or-set_other}
-use Rattle.mesh.specs.Lines.{number, other, side, start, end, draws}
+use Rattle.axis.specs.Range.{any}
+use Rattle.mesh.specs.Lines.{number, other, side, start, end, draws, fresh_mesh}
 use Rattle.mesh.specs.declared.Direction.{Direction}
 use Rattle.mesh.specs.Bytes.{Rows, Zeros, step_on, Drawn}
 use Rattle.mesh.specs.Blends.{at}
 use Rattle.mesh.specs.declared.Split.{Split}
-use Rattle.axis.proofs.Tests.{either, same_test, and_both, and_of, or_either, or_left, or_right, true_not_false}
+use Rattle.axis.proofs.Tests.{any_append, either, same_test, and_both, and_of, or_either, or_left, or_right, true_not_false}
 use Rattle.mesh.proofs.Bytes.{step_on_lem, zeros}
 
 -- two tests after the same two, equal where those hold
@@ -118,30 +119,42 @@ off bytes none y k =
     let zero : get_or bytes (at y k) 0 ≡ 0 = ap (λ (xs : List ℕ). get_or xs (at y k) 0) none ∙ zeros (length bytes) (at y k) in
     rw zero (and-false (ltb y 131 && ltb k 131))
 
--- four lines over no steps, as a fresh map has them
-pub fresh_drawn : {b₀ b₁ b₂ b₃ b₄ : List ℕ} {p q r s to : ℕ} → Zeros b₀ →
-    Drawn b₀ b₁ p 0 to → Drawn b₁ b₂ q 0 to → Drawn b₂ b₃ r 0 to → Drawn b₃ b₄ s 0 to →
-    (y k : ℕ) → step_on b₄ y k ≡ ((eqb y p || eqb y q || eqb y r || eqb y s) && ltb k to)
-fresh_drawn {b₀} none d₁ d₂ d₃ d₄ y k =
-    rw (d₄.on y k, d₃.on y k, d₂.on y k, d₁.on y k, off b₀ none y k, leb-zero k)
-    (simp (and-true, and-or_distrib_right))
+-- lines from the first knot to one knot, at some positions over no steps
+pub record AllDrawn (bytes : List ℕ) (n : ℕ) (zs : List ℕ) (to : ℕ) : Type 0 where
+  pub long : length bytes ≡ n
+  pub on : (y k : ℕ) → step_on bytes y k ≡ (any (eqb y) zs && ltb k to)
+
+pub all_none : {bytes : List ℕ} {to : ℕ} → Zeros bytes → AllDrawn bytes (length bytes) [] to
+all_none {bytes} none = record { long = refl; on = off bytes none }
+
+pub all_more : {before after : List ℕ} {n : ℕ} {zs : List ℕ} {to z : ℕ} → AllDrawn before n zs to → Drawn before after z 0 to →
+    AllDrawn after n (zs ++ z ∷ []) to
+all_more {zs = zs} {to = to} {z = z} a d =
+    record {
+      long = d.long ∙ a.long;
+      on = λ y k.
+          rw (d.on y k, a.on y k, leb-zero k, any_append (eqb y) zs (z ∷ []), or-false (eqb y z))
+          (simp (and-true, and-or_distrib_right));
+    }
+
+-- a fresh map's lines
+pub all_fresh : {bytes : List ℕ} {n crossed run : ℕ} → AllDrawn bytes n (0 ∷ 1 ∷ (crossed + 1) ∷ (crossed + 2) ∷ []) (run + 2) →
+    (d : Direction) (w h : ℕ) → side d w h ≡ crossed → side (other d) w h ≡ run → (y k : ℕ) → step_on bytes y k ≡ fresh_mesh w h d y k
+unfolding fresh_mesh
+all_fresh {bytes} {n} {crossed} {run} a d w h across along y k = a.on y k ∙ rw (across, along, or-false (eqb y (crossed + 2))) (simp (or_assoc))
 
 -- A split's line, from its first knot to its last, is what the split draws; a split of the other direction draws nothing.
-module _ (s : Split) (direction : ℕ) (d : Direction) (w h : ℕ) (same : number d ≡ direction) where
+module _ (s : Split) (d : Direction) (w h : ℕ) where
   pub split_drawn : {before after : List ℕ} {z from to : ℕ} (run : ℕ) → Drawn before after z from to →
-      s.direction ≡ direction → z ≡ s.position + 1 → from ≡ start s → to ≡ end run s → side (other d) w h ≡ run →
+      s.direction ≡ number d → z ≡ s.position + 1 → from ≡ start s → to ≡ end run s → side (other d) w h ≡ run →
       (y k : ℕ) → step_on after y k ≡ (step_on before y k || draws w h d y k s)
   unfolding draws
-  split_drawn run drawn e ez ef et er y k =
-      let n : s.direction ≡ number d = e ∙ sym same in
-      rw (drawn.on y k, eq-eqb _ _ n, ez, ef, et, er)
+  split_drawn run drawn e ez ef et er y k = rw (drawn.on y k, eq-eqb _ _ e, ez, ef, et, er)
 
-  pub split_passed : (bytes : List ℕ) → (s.direction ≡ direction → ⊥) →
+  pub split_passed : (bytes : List ℕ) → (s.direction ≡ number d → ⊥) →
       (y k : ℕ) → step_on bytes y k ≡ (step_on bytes y k || draws w h d y k s)
   unfolding draws
-  split_passed bytes ne y k =
-      let n : eqb s.direction (number d) ≡ false = ne_eqb _ _ (λ e. ne (e ∙ same)) in
-      sym (rw n (or-false (step_on bytes y k)))
+  split_passed bytes ne y k = sym (rw (ne_eqb _ _ ne) (or-false (step_on bytes y k)))
 
 -- what an array of splits reads as past its end
 abbrev pub blank : Split

@@ -3,7 +3,7 @@ ghost use Rattle.std.specs.Prelude.{◌≡◌, true, cond, ℕ, ◌+◌, ◌-◌
 ghost use Rattle.axis.specs.Range.{every};
 ghost use Rattle.axis.specs.Triple.{Rises};
 ghost use Rattle.mesh.specs.declared.Direction.TheVariants.{Upright as upright, Level as level};
-ghost use Rattle.axis.specs.Nearest.{below, above, nearest};
+ghost use Rattle.axis.specs.Nearest.{nearest, any_line};
 ghost use Rattle.mesh.specs.Blends.{cutter, leaves, size};
 ghost use Rattle.mesh.specs.Sound.{Proper};
 ghost use Rattle.mesh.specs.Bytes.{Rows, step_on, bytes_mesh, keep, keep_all};
@@ -13,48 +13,22 @@ use crate::Blend;
 use crate::steps::covers;
 use axis::{Side, Triple};
 
-// The nearest line below the middle that covers the n steps from knot b on; 0 if there is none.
-fn nearest_below(steps: &[u8], x: Triple, b: u8, n: u8) -> u8
+// The line that cuts a triple first, if any covers the n steps from knot b on: the nearest below the middle, else the nearest above.
+fn first_line(steps: &[u8], x: Triple, b: u8, n: u8) -> Option<u8>
     requires { Rows x.r steps.now × Rises x × (b + n ≤ 131) }
-    ensures { result ≡ below (λ z. every b n (step_on steps.now z)) x.l (x.m - x.l - 1) }
+    ensures { result ≡ any_line (nearest (λ z. every b n (step_on steps.now z)) x) }
 {
-    let l = x.l;
-    let mut z = x.m - 1;
-    while l < z {
+    for z in (x.l + 1..x.m).rev() {
         if covers(steps, z, b, n) {
-            return z;
+            return Some(z);
         }
-        z -= 1;
     }
-    0
-}
-
-// The nearest line above the middle that covers the n steps from knot b on; 0 if there is none.
-fn nearest_above(steps: &[u8], x: Triple, b: u8, n: u8) -> u8
-    requires { Rows x.r steps.now × Rises x × (b + n ≤ 131) }
-    ensures { result ≡ above (λ z. every b n (step_on steps.now z)) x.r (x.r - x.m - 1) }
-{
-    let r = x.r;
-    let mut z = x.m + 1;
-    while z < r {
+    for z in x.m + 1..x.r {
         if covers(steps, z, b, n) {
-            return z;
+            return Some(z);
         }
-        z += 1;
     }
-    0
-}
-
-// The line that cuts a triple first, if it covers the n steps from knot b on; 0 if none does.
-fn first_line(steps: &[u8], x: Triple, b: u8, n: u8) -> u8
-    requires { Rows x.r steps.now × Rises x × (b + n ≤ 131) }
-    ensures { result ≡ nearest (λ z. every b n (step_on steps.now z)) x }
-{
-    let z = nearest_below(steps, x, b, n);
-    if z != 0 {
-        return z;
-    }
-    nearest_above(steps, x, b, n)
+    None
 }
 
 // Keeps a blend at its anchor's place.
@@ -76,35 +50,19 @@ pub(crate) fn cut_across(uprights: &[u8], levels: &[u8], x: Blend, tried: bool, 
 {
     let a = x.across;
     let u = x.up;
-    let z = first_line(uprights, a, u.l, u.r - u.l);
-    if z != 0 {
-        cut_up(
-            uprights,
-            levels,
-            Blend {
-                across: a.half(Side::Lower, z),
-                up: u,
-            },
-            false,
-            places,
-        );
-        cut_up(
-            uprights,
-            levels,
-            Blend {
-                across: a.half(Side::Upper, z),
-                up: u,
-            },
-            false,
-            places,
-        );
-        return;
+    match first_line(uprights, a, u.l, u.r - u.l) {
+        Some(z) => {
+            for side in [Side::Lower, Side::Upper] {
+                let half = Blend {
+                    across: a.half(side, z),
+                    up: u,
+                };
+                cut_up(uprights, levels, half, false, places);
+            }
+        }
+        None if tried => keep_blend(places, x),
+        None => cut_up(uprights, levels, x, true, places),
     }
-    if tried {
-        keep_blend(places, x);
-        return;
-    }
-    cut_up(uprights, levels, x, true, places);
 }
 
 // Cuts a blend by levels and hands the halves back to the upright cuts. `tried` tells that no upright cuts the blend.
@@ -117,33 +75,17 @@ fn cut_up(uprights: &[u8], levels: &[u8], x: Blend, tried: bool, places: &mut [u
 {
     let a = x.across;
     let u = x.up;
-    let z = first_line(levels, u, a.l, a.r - a.l);
-    if z != 0 {
-        cut_across(
-            uprights,
-            levels,
-            Blend {
-                across: a,
-                up: u.half(Side::Lower, z),
-            },
-            false,
-            places,
-        );
-        cut_across(
-            uprights,
-            levels,
-            Blend {
-                across: a,
-                up: u.half(Side::Upper, z),
-            },
-            false,
-            places,
-        );
-        return;
+    match first_line(levels, u, a.l, a.r - a.l) {
+        Some(z) => {
+            for side in [Side::Lower, Side::Upper] {
+                let half = Blend {
+                    across: a,
+                    up: u.half(side, z),
+                };
+                cut_across(uprights, levels, half, false, places);
+            }
+        }
+        None if tried => keep_blend(places, x),
+        None => cut_across(uprights, levels, x, true, places),
     }
-    if tried {
-        keep_blend(places, x);
-        return;
-    }
-    cut_across(uprights, levels, x, true, places);
 }

@@ -40,8 +40,8 @@ impl Blend {
     {
         let a = self.across;
         let u = self.up;
-        ((usize::from(a.l) * 256 + usize::from(a.r)) * 256 + usize::from(u.l)) * 256 +
-            usize::from(u.r)
+        ((usize::from(a.l) * 256 + usize::from(a.r)) * 256 + usize::from(u.l)) * 256
+            + usize::from(u.r)
     }
 
     pub(crate) fn pack(self) -> u32

@@ -13,13 +13,10 @@ pub(crate) fn covers(steps: &[u8], z: u8, b: u8, n: u8) -> bool
     requires { Rows (z + 1) steps.now × (z < 131) × (b + n ≤ 131) }
     ensures { result ≡ every b n (step_on steps.now z) }
 {
-    let row = usize::from(z) * 131;
-    for k in b..b + n {
-        if steps[row + usize::from(k)] == 0 {
-            return false;
-        }
-    }
-    true
+    let from = usize::from(z) * 131 + usize::from(b);
+    steps[from..from + usize::from(n)]
+        .iter()
+        .all(|&step| step != 0)
 }
 
 // Switches on the steps from knot `from` to knot `to` of the line at knot z.
@@ -38,6 +35,15 @@ impl Lines {
         ensures { result ≡ allowed_side side }
     {
         1 <= side && side <= Lines::LARGEST_SIDE
+    }
+}
+
+impl Direction {
+    // Its number in a split.
+    fn number(self) -> usize
+        ensures { result ≡ number self }
+    {
+        self as usize
     }
 }
 
@@ -65,7 +71,11 @@ impl Split {
     pub(crate) fn way(self) -> Direction
         ensures { result ≡ direction self.direction }
     {
-        if self.direction == 0 { Direction::Upright } else { Direction::Level }
+        if self.direction == 0 {
+            Direction::Upright
+        } else {
+            Direction::Level
+        }
     }
 
     // Its first and its last knot: a drawn end at a side runs out.
@@ -92,7 +102,7 @@ pub(crate) fn draw_split(s: Split, d: Direction, run: usize, steps: &mut [u8])
         ((w h : ℕ) → side (other d) w h ≡ run → (z k : ℕ) →
         step_on steps.new z k ≡ (step_on steps.old z k || draws w h d z k s)) }
 {
-    if s.direction == d as usize {
+    if s.direction == d.number() {
         draw(steps, s.position + 1, s.start(), s.end(run));
     }
 }

@@ -1,5 +1,5 @@
 // Tables of blends: the empty one, and the first four.
-ghost use Rattle.std.specs.Prelude.{◌≡◌, [], ◌≤◌};
+ghost use Rattle.std.specs.Prelude.{◌≡◌, ◌≤◌, [], length};
 ghost use Rattle.axis.specs.Limits.{largest_side, most_blends};
 ghost use Rattle.mesh.specs.Blends.{first_four};
 ghost use Rattle.mesh.specs.Sound.{table, fresh_table, blends_of};
@@ -45,27 +45,35 @@ pub(crate) fn first_four(w: usize, h: usize) -> [Blend; 4]
 }
 
 impl Table {
-    #[tactic(auto, unfolding(crate::specs::Sound::table))]
-    pub(crate) fn empty() -> Table
-        ensures { result ≡ table [] }
+    // The table that lists some blends.
+    fn of(blends: &[Blend]) -> Table
+        requires { length blends.now ≤ most_blends }
+        ensures { result ≡ table blends.now }
     {
+        let mut places = [Blend::NONE; Table::MOST_BLENDS];
+        places[..blends.len()].copy_from_slice(blends);
         Table {
-            count: 0,
-            blends: [Blend::NONE; Table::MOST_BLENDS],
+            count: blends.len(),
+            blends: places,
         }
     }
 
+    pub(crate) fn empty() -> Table
+        ensures { result ≡ table [] }
+    {
+        Table::of(&[])
+    }
+
     // The table of a fresh map; an empty one where a side is out of range.
+    #[tactic(auto, unfolding(crate::specs::Sound::fresh_table))]
     pub fn fresh(w: usize, h: usize) -> Table
         ensures { result ≡ fresh_table w h }
     {
-        let mut t = Table::empty();
         if Lines::allows_side(w) && Lines::allows_side(h) {
-            let four = first_four(w, h);
-            t.blends[..4].copy_from_slice(&four);
-            t.count = 4;
+            Table::of(&first_four(w, h))
+        } else {
+            Table::empty()
         }
-        t
     }
 
     // The blends that are listed.

@@ -10,7 +10,7 @@ use Rattle.axis.proofs.Tests.{either}
 use Rattle.axis.proofs.Runs.{if_below}
 use Rattle.mesh.proofs.links.link.Invariants.{linked, Linking}
 use Rattle.mesh.proofs.links.link.Goals as goal
-use Rattle.mesh.proofs.links.link.Goals.{then-z-wide, else-z-wide}
+use Rattle.mesh.proofs.links.link.Goals.{then-z-from, else-z-from}
 
 pub loop-k-init : goal.loop-k-init
 loop-k-init c = record { within = omega arith; done = λ i lt. absurd (omega arith); left = λ i le. refl }
@@ -53,11 +53,11 @@ loop-k-preserved c =
     let l = c.loop-k in
     let lt = c.loop-k-test.true in
     let here = l.invariant.left l.k (omega arith) in
-    let looked = c.wide.ensures ∙ here in
-    elim c.if-z-wide.branch [
-      | then-z-wide w ↦ rw w.links-is
-          (next l.invariant lt c.requires.1 (omega arith) (is_set a.links.now a.z l.k lt (subst (λ n. a.z < n) looked w.if-z-wide.true)))
-      | else-z-wide w ↦ rw w.links-is (passed l.invariant lt (here ∙ stays a.links.now a.z l.k (subst (λ n. n ≤ a.z) looked w.if-z-wide.false)))
+    let looked = c.from.ensures ∙ here in
+    elim c.if-z-from.branch [
+      | then-z-from w ↦ rw w.links-is
+          (next l.invariant lt c.requires.1 (omega arith) (is_set a.links.now a.z l.k lt (subst (λ n. a.z < n) looked w.if-z-from.true)))
+      | else-z-from w ↦ rw w.links-is (passed l.invariant lt (here ∙ stays a.links.now a.z l.k (subst (λ n. n ≤ a.z) looked w.if-z-from.false)))
     ]
 
 pub returns : goal.returns

@@ -1,5 +1,5 @@
 -- The links before the k-th are as they shall be, the others as they were.
-use Rattle.std.proofs.Common.{ℕ, ◌-◌, ◌≤◌, ◌<◌, ◌≡◌, List, get_or}
+use Rattle.std.proofs.Common.{ℕ, ◌≤◌, ◌<◌, ◌≡◌, List, get_or}
 use mathlib.Core.Bool.{cond, ◌&&◌}
 use lib.Dec.{ltb}
 use Rattle.mesh.proofs.links.link.Given as goal
@@ -15,6 +15,3 @@ pub record Linking (before after : List ℕ) (z k : ℕ) : Type 0 where
 
 abbrev pub invariant-loop-k : goal.invariant-loop-k
 invariant-loop-k l = Linking l.initial.links l.links l.z l.k
-
-abbrev pub decreases-loop-k : goal.decreases-loop-k
-decreases-loop-k l = l.z - l.k

@@ -1,30 +1,17 @@
--- `mesh::steps::covers` meets its contract.
-use Rattle.std.proofs.Common.{arith, refl, sym, ◌∙◌}
-use Rattle.mesh.specs.Bytes.{step_on}
-use Rattle.axis.proofs.Tests.{every_turn, every_none}
-use Rattle.mesh.proofs.Bytes.{step_off, step_on_lem}
+-- `mesh::steps::covers` meets its contract: `all` tests the bytes of the run.
+use Rattle.std.proofs.Common.{rules, tests, ◌≡◌, ◌∙◌, eqb, arith}
+use mathlib.Core.Bool.{not}
+use lib.ListN.{take, drop}
+use Rattle.std.proofs.lemmas.Iterator.{YieldsList-from_slice}
+use Rattle.std.proofs.lemmas.Iterator.Search.{all_from_yields_List}
+use Rattle.mesh.specs.Blends.{at}
+use Rattle.mesh.proofs.Bytes.{steps_run}
 use Rattle.mesh.proofs.steps.covers.Goals as goal
-
-pub loop-left-init : goal.loop-left-init
-loop-left-init c = rw (c.wide-k.ensures, c.wide-left.ensures) (refl, refl)
-
-pub returns-then-steps-row-eq0 : goal.returns-then-steps-row-eq0
-returns-then-steps-row-eq0 c =
-    let l = c.loop-left in
-    let a = c.args in
-    let off = step_off a.steps.now a.z l.k (omega arith) (omega arith) (rw c.wide-row.ensures at c.if-steps-row-eq0.true) in
-    let turn = every_turn l.k l.left (step_on a.steps.now a.z) (omega arith) in
-    sym (sym l.invariant.1 ∙ turn ∙ rw off)
-
-pub loop-left-preserved : goal.loop-left-preserved
-loop-left-preserved c =
-    let l = c.loop-left in
-    let a = c.args in
-    let on = step_on_lem a.steps.now a.z l.k (omega arith) (omega arith) (rw c.wide-row.ensures at c.if-steps-row-eq0.false) in
-    let turn = every_turn l.k l.left (step_on a.steps.now a.z) (omega arith) in
-    (omega arith, sym (turn ∙ rw on) ∙ l.invariant.1)
 
 pub returns : goal.returns
 returns c =
-    let l = c.loop-left in
-    sym (every_none l.k l.left (step_on c.args.steps.now c.args.z) (omega arith)) ∙ l.invariant.1
+    let a = c.args in
+    let run = c.iter.result.rest.now in
+    let is : run ≡ take a.n (drop (at a.z a.b) a.steps.now) = search (rules, tests) in
+    all_from_yields_List (λ x. not (eqb x 0)) _ _ _ c.all.ensures.ran (YieldsList-from_slice run cc) (λ x b q k. search (rules, tests)) ∙
+    rw is (steps_run a.steps.now a.z a.b a.n (omega arith) (omega arith) (omega arith))
