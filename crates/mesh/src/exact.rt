@@ -66,8 +66,8 @@ impl<const N: usize> Drawing<N> {
         ensures { result ≡ ended (mesh_by self.now) s }
     {
         let across = s.way().other();
-        self.some_on(across, s.from + 1, s.position, 2) &&
-            self.some_on(across, s.to + 1, s.position, 2)
+        self.some_on(across, s.from + 1, s.position, 2)
+            && self.some_on(across, s.to + 1, s.position, 2)
     }
 
     // The knots from which and to which a split's line runs once it is drawn, with the lines at its position that it touches.
@@ -154,8 +154,8 @@ impl<const N: usize> Drawing<N> {
     {
         let d = s.way();
         let z = s.position + 1;
-        self.good_end(notes, d, z, Side::Lower, s.from + 1) &&
-            self.good_end(notes, d, z, Side::Upper, s.to + 1)
+        self.good_end(notes, d, z, Side::Lower, s.from + 1)
+            && self.good_end(notes, d, z, Side::Upper, s.to + 1)
     }
 
     // Draws a split that is accepted, and cuts with it.
@@ -166,6 +166,13 @@ impl<const N: usize> Drawing<N> {
         let from = self.runs_from(s);
         let to = self.runs_to(s);
         self.add_line(s);
-        notes.cut_reached(&self.uprights, &self.levels, s.way(), from, to, &mut self.places);
+        notes.cut_reached(
+            &self.uprights,
+            &self.levels,
+            s.way(),
+            from,
+            to,
+            &mut self.places,
+        );
     }
 }

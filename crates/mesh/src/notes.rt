@@ -9,8 +9,8 @@ ghost use Rattle.mesh.specs.Sound.{AllProper};
 ghost use Rattle.mesh.specs.Bytes.{bytes_mesh, keep_all, walk};
 ghost use Rattle.mesh.specs.Carried.{WalksBy, RowsOf, note_all, notes, alike, reached, all_reached};
 
-use crate::cut::cut_across;
 use crate::carried::Drawing;
+use crate::cut::cut_across;
 use crate::{Blend, Direction};
 use axis::Side;
 

@@ -85,12 +85,7 @@ fn split_in<const N: usize>(
     Ok(Drawn { line, table: after })
 }
 
-pub fn split(
-    lines: &Lines,
-    table: &Table,
-    s: Split,
-    allowance: usize,
-) -> Result<Drawn, Refusal>
+pub fn split(lines: &Lines, table: &Table, s: Split, allowance: usize) -> Result<Drawn, Refusal>
     requires { HasTable lines.now table.now }
     ensures { stepped table.now s result ≡ split_step lines.now table.now s allowance }
 {

@@ -1,5 +1,5 @@
 -- `mesh::replay::replay_in` meets its contract: one step after the other, up to one that is refused.
-use Rattle.std.proofs.Common.{◌≡◌, length, rules, arith}
+use Rattle.std.proofs.Common.{◌≡◌, sym, length, rules, arith}
 use Rattle.mesh.specs.Lines.{splits_of}
 use Rattle.mesh.proofs.Carrying.{by_walks, by_short}
 use Rattle.mesh.proofs.Replaying.{replay_none, replay_stop, replay_more, replay_done}
@@ -19,10 +19,14 @@ pub step-requires : goal.step-requires
 step-requires g c = (search rules, (omega arith, (_, c.loop-s.invariant.carried)))
 
 pub returns-then-is_err : goal.returns-then-is_err
-returns-then-is_err g c = ?
+returns-then-is_err g c =
+    let r = c.loop-s.invariant in
+    replay_stop r c.loop-s-test.true c.step.result (c.step.ensures.told _ r.carried) (sym c.if-is_err.ensures.value)
 
 pub loop-s-preserved : goal.loop-s-preserved
-loop-s-preserved g c = ?
+loop-s-preserved g c =
+    let r = c.loop-s.invariant in
+    replay_more r c.loop-s-test.true c.step.result (c.step.ensures.told _ r.carried) (sym c.if-is_err.ensures.value) (c.step.ensures.drawn _ r.carried)
 
 pub read_out-requires : goal.read_out-requires
 read_out-requires g c = let now = c.loop-s.invariant.carried in (search rules, (by_walks now, by_short now))
@@ -31,4 +35,4 @@ pub returns : goal.returns
 returns g c =
     let L = c.args.lines.now in
     let last : c.loop-s.s-index ≡ length (splits_of L) = omega arith in
-    ?
+    rw c.read_out.ensures (replay_done c.loop-s.invariant c.requires.2 last)

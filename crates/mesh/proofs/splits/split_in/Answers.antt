@@ -1,5 +1,6 @@
 -- `mesh::splits::split_in` meets its contract: one step, with the line found.
 use Rattle.std.proofs.Common.{◌≡◌, refl, sym, ◌∙◌, length, arith, rules}
+use Rattle.std.proofs.lemmas.Result.{err_from_is_err_and}
 use Rattle.mesh.proofs.Accepted.{lines_replay}
 use Rattle.mesh.proofs.Carrying.{by_walks, by_short}
 use Rattle.mesh.proofs.Replaying.{refusal_not_zero, verdict_told, verdict_drawn}
@@ -15,7 +16,14 @@ pub step-requires : goal.step-requires
 step-requires g c = (search rules, (c.requires.0, (_, c.load.ensures)))
 
 pub returns-in_err-line : goal.returns-in_err-line
-returns-in_err-line g c = ?
+returns-in_err-line g c =
+    let a = c.args in
+    let L = a.lines.now in
+    let full : length L.splits ≡ 60 = omega arith in
+    let e = c.in_err-line.field-0.0 in
+    let p = err_from_is_err_and c.from_residual.result c.from_residual.ensures.1 in
+    rw (p.1, p.2) (verdict_told L a.table.now a.s a.allowance c.requires.0 (lines_replay L full c.requires.1.accepted?)
+    (c.in_err-line.ensures.told _ c.load.ensures) (refusal_not_zero e))
 
 pub read_out-after-requires : goal.read_out-after-requires
 read_out-after-requires g c =
