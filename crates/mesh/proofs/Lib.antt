@@ -39,6 +39,7 @@ pub mod Reaching
 pub mod Noting
 pub mod Looking
 pub mod Stepping
+pub mod Carrying
 pub mod Replaying
 pub mod CrossingList
 pub mod Cutting

@@ -1,5 +1,5 @@
 -- The splits of lines, one step after the other; and one split more, within an allowance.
-use Prim.Native.Nat.{ℕ, ◌+◌, ◌*◌, ◌≤◌, ◌<◌}
+use Prim.Native.Nat.{ℕ, ◌+◌, ◌≤◌, ◌<◌}
 use native.Mathlib.Omega.{arith}
 use native.Mathlib.Numerals.{add-one}
 use mathlib.Core.Path.{◌≡◌, refl, sym, ap, ◌∙◌}
@@ -7,25 +7,28 @@ use mathlib.Core.Bool.{true, false, ◌&&◌}
 use mathlib.Core.List.{List, [], ◌∷◌, ◌++◌}
 use borrow.Author.Tests.{le-leb, lt-leb, lt-ltb, eq-eqb, ne_eqb}
 use lib.Dec.{eqb, leb}
-use lib.ListN.{length, get_or, take, drop, replicate, length-replicate}
-use lib.Seq.{take-suc, length-take-le}
+use lib.ListN.{length, get_or, take, drop, drop_of_length-le}
+use lib.Seq.{take-suc, take-length, drop-cons}
+use Rattle.std.specs.Prelude.{Some, None, Result, Ok, Err, IfOk, is_err}
 use Rattle.axis.specs.Limits.{most_allowance}
-use Rattle.axis.proofs.Tests.{and_first, and_last, cond_true, cond_false}
+use Rattle.axis.proofs.Tests.{true_not_false, and_first, and_last, cond_true, cond_false}
 use Rattle.axis.proofs.Runs.{if_at_most, if_equal}
-use Rattle.axis.proofs.Entries.{left_turn, left_none}
-use Rattle.mesh.specs.Lines.{direction, other, side, allowed_side, Layout, layout, splits_of, layout_of}
+use Rattle.mesh.specs.Lines.{allowed_side, Layout, layout, splits_of, layout_of}
 use Rattle.mesh.specs.Sound.{table}
-use Rattle.mesh.specs.Splits.{given, asked, exact_number, accepted}
+use Rattle.mesh.specs.Splits.{given, asked, exact_number, accepted, live_of, with_line}
 use Rattle.mesh.specs.Lengthening.{steps_of}
 use Rattle.mesh.specs.Ends.{nearest_good}
-use Rattle.mesh.specs.Replay.{replays, Replays, replayed, not_replayed, refused_step, split_step}
-use Rattle.mesh.specs.Bytes.{Tall, Zeros, walk}
-use Rattle.mesh.specs.Carried.{Carried, Cleared, unlinked, Noted, Searches, told_of, found_by, verdict}
+use Rattle.mesh.specs.Refusals.{number_of}
+use Rattle.mesh.specs.Replay.{replays, Replays, replayed, Step, refused_step, split_step}
+use Rattle.mesh.specs.Bytes.{walk}
+use Rattle.mesh.specs.Carried.{CarriedBy, Noted, NotedBy, SearchesBy, Verdict, told_of, judged, found_by, verdict}
 use Rattle.mesh.specs.declared.Split.{Split}
 use Rattle.mesh.specs.declared.Lines.{Lines}
 use Rattle.mesh.specs.declared.Table.{Table}
-use Rattle.mesh.specs.declared.Step.{Step}
-use Rattle.mesh.specs.declared.splits.Verdict.{Verdict}
+use Rattle.mesh.specs.declared.carried.Drawing.{Drawing}
+use Rattle.mesh.specs.declared.notes.Notes.{Notes}
+use Rattle.mesh.specs.declared.refusal.Refusal.{Refusal}
+use Rattle.mesh.specs.declared.refusal.Refusal.TheVariants.{Side, BadRecord, OutOfRange, Full, Shared, OpenEnd, CutsNothing, Unsound, NoAnchor, Outside, NoFile, ShortBuffer, NoPair}
 use Rattle.mesh.proofs.Drawing.{blank}
 use Rattle.mesh.proofs.Passing.{asked_given, exact_refused}
 use Rattle.mesh.proofs.LeastLine.{least_sound_line}
@@ -33,17 +36,21 @@ use Rattle.mesh.proofs.Accepted.{replays_stands}
 use Rattle.mesh.proofs.Allowance.{nearest_accepted, exact_unsound, exact_nearest, nearest_exact}
 use Rattle.mesh.proofs.Stepping.{carried_walk}
 
--- tables of n zeros are cleared, where n entries are the rows of both sides
-pub cleared : (w h n : ℕ) → (w + 3) * 131 ≤ n → (h + 3) * 131 ≤ n → Cleared w h (replicate n 0) (replicate n 0) unlinked unlinked (replicate n 0)
-cleared w h n lw lh =
-    let long : length (replicate {A = ℕ} n 0) ≡ n = length-replicate {A = ℕ} n 0 in
-    let tall : Tall w h (replicate n 0) = (omega arith, omega arith) in
-    let none : Zeros (replicate n 0) = sym (ap (λ (k : ℕ). replicate {A = ℕ} k 0) long) in
-    record {
-      undrawn = record { tall = (tall, tall); no_upright = none; no_level = none; no_column = refl; no_row = refl };
-      tall = tall;
-      no_place = none;
-    }
+-- a refusal has a number, which is not that of a yes
+pub refusal_not_zero : (e : Refusal) → number_of e ≡ 0 → ⊥
+refusal_not_zero Side e = omega arith
+refusal_not_zero BadRecord e = omega arith
+refusal_not_zero OutOfRange e = omega arith
+refusal_not_zero Full e = omega arith
+refusal_not_zero Shared e = omega arith
+refusal_not_zero OpenEnd e = omega arith
+refusal_not_zero CutsNothing e = omega arith
+refusal_not_zero Unsound e = omega arith
+refusal_not_zero NoAnchor e = omega arith
+refusal_not_zero Outside e = omega arith
+refusal_not_zero NoFile e = omega arith
+refusal_not_zero ShortBuffer e = omega arith
+refusal_not_zero NoPair e = omega arith
 
 -- What a split comes to: refused with 3 to 7, or found within the allowance.
 module _ (P : Layout) (s : Split) where
@@ -86,86 +93,87 @@ module _ (P : Layout) (s : Split) where
     verdict_accepted a is none = let f = verdict_says a is none in rw f.2 (nearest_accepted P taken s f.0)
 
 -- Part of the way through: the map of the first i splits is carried, and the splits that are left decide.
-pub record Replaying (L : Lines) (i : ℕ) (ups lvs cols rows places : List ℕ) : Type 0 where
-  pub within : i ≤ L.count
-  pub few : L.count ≤ 60
-  pub room : length L.splits ≡ 60
-  pub carried : Carried L.w L.h (take i L.splits) ups lvs cols rows places
-  pub decides : accepted (layout L.w L.h []) (splits_of L) ≡ accepted (layout L.w L.h (take i L.splits)) (drop i (splits_of L))
+pub record Replaying {n : ℕ} (L : Lines) (i : ℕ) (t : Drawing n) : Type 0 where
+  pub carried : CarriedBy (layout L.w L.h (take i (splits_of L))) t
+  pub decides : accepted (layout L.w L.h []) (splits_of L) ≡ accepted (layout L.w L.h (take i (splits_of L))) (drop i (splits_of L))
 
 module _ (L : Lines) where
-  fails : (allowed_side L.w && allowed_side L.h && leb L.count 60 && accepted (layout L.w L.h []) (splits_of L)) ≡ false → not_replayed ≡ replayed L
+  fails : (allowed_side L.w && allowed_side L.h && leb L.count 60 && accepted (layout L.w L.h []) (splits_of L)) ≡ false → None ≡ replayed L
   unfolding replayed replays
   fails e = sym (cond_false _ _ _ e)
 
-  pub out_across : allowed_side L.w ≡ false → not_replayed ≡ replayed L
+  pub out_across : allowed_side L.w ≡ false → None ≡ replayed L
   out_across e = fails (and_first _ _ (and_first _ _ (and_first _ _ e)))
 
-  pub out_up : allowed_side L.h ≡ false → not_replayed ≡ replayed L
+  pub out_up : allowed_side L.h ≡ false → None ≡ replayed L
   out_up e = fails (and_first _ _ (and_first _ _ (and_last (allowed_side L.w) _ e)))
 
-  pub out_count : 60 < L.count → not_replayed ≡ replayed L
+  pub out_count : 60 < L.count → None ≡ replayed L
   out_count lt = fails (and_first _ _ (and_last (allowed_side L.w && allowed_side L.h) _ (lt-leb L.count 60 lt)))
 
-  pub replay_none : {ups lvs cols rows places : List ℕ} → L.count ≤ 60 → length L.splits ≡ 60 →
-      Carried L.w L.h [] ups lvs cols rows places → Replaying L 0 ups lvs cols rows places
-  replay_none few room now = record { within = omega arith; few = few; room = room; carried = now; decides = refl }
+  pub replay_none : {n : ℕ} {t : Drawing n} → CarriedBy (layout L.w L.h []) t → Replaying L 0 t
+  replay_none now = record { carried = now; decides = refl }
 
-module _ {L : Lines} {i : ℕ} {ups lvs cols rows places : List ℕ} (r : Replaying L i ups lvs cols rows places) where
+module _ {n : ℕ} {L : Lines} {i : ℕ} {t : Drawing n} (r : Replaying L i t) where
   abbrev pub this : Split
-  this = get_or L.splits i blank
+  this = get_or (splits_of L) i blank
 
-  pub replay_long : i ≡ length (take i L.splits)
-  replay_long = sym (length-take-le i L.splits (let n = r.room in let f = r.few in omega (arith, r.within)))
+  abbrev before : Layout
+  before = layout L.w L.h (take i (splits_of L))
 
-  module _ (lt : i < L.count) where
-    longer : take i L.splits ++ this ∷ [] ≡ take (i + 1) L.splits
-    longer = let n = r.room in let f = r.few in sym (rw add-one (take-suc L.splits i blank (omega arith)))
+  module _ (lt : i < length (splits_of L)) where
+    longer : take i (splits_of L) ++ this ∷ [] ≡ take (i + 1) (splits_of L)
+    longer = sym (rw add-one (take-suc (splits_of L) i blank lt))
 
-    turn : accepted (layout L.w L.h []) (splits_of L) ≡ (eqb (exact_number (layout L.w L.h (take i L.splits)) this) 0 &&
-        accepted (layout L.w L.h (take i L.splits ++ this ∷ [])) (drop (i + 1) (splits_of L)))
+    turn : accepted (layout L.w L.h []) (splits_of L) ≡ (eqb (exact_number before this) 0 &&
+        accepted (with_line before this) (drop (i + 1) (splits_of L)))
     unfolding accepted
-    turn =
-        let n = r.room in
-        let f = r.few in
-        r.decides ∙ rw (left_turn L.splits L.count i (omega arith) blank lt)
+    turn = r.decides ∙ rw (drop-cons (splits_of L) i blank lt, add-one)
 
     -- a split is refused, or one more is taken
-    module _ {v : Verdict} (is : v ≡ verdict (layout L.w L.h (take i L.splits)) this 0) where
-      by_number : v.number ≡ exact_number (layout L.w L.h (take i L.splits)) this
-      by_number = ap (λ (u : Verdict). u.number) is ∙ verdict_exact _ this r.carried.taken
+    module _ (a : Result Split Refusal) (is : judged this a ≡ verdict before this 0) where
+      by_number : (judged this a).number ≡ exact_number before this
+      by_number = ap (λ (u : Verdict). u.number) is ∙ verdict_exact _ this r.carried.carried.taken
 
-      pub replay_stop : (v.number ≡ 0 → ⊥) → not_replayed ≡ replayed L
-      replay_stop ne =
-          fails L (and_last (allowed_side L.w && allowed_side L.h && leb L.count 60) _ (turn ∙ and_first _ _ (ne_eqb _ 0 (λ z. ne (by_number ∙ z)))))
+      stops : (exact_number before this ≡ 0 → ⊥) → None ≡ replayed L
+      stops ne = fails L (and_last (allowed_side L.w && allowed_side L.h && leb L.count 60) _ (turn ∙ and_first _ _ (ne_eqb _ 0 ne)))
 
-      pub replay_more : v.number ≡ 0 → {ups' lvs' cols' rows' places' : List ℕ} →
-          Carried L.w L.h (take i L.splits ++ v.line ∷ []) ups' lvs' cols' rows' places' → Replaying L (i + 1) ups' lvs' cols' rows' places'
-      replay_more z next =
-          record {
-            within = omega arith;
-            few = r.few;
-            room = r.room;
-            carried = rw (verdict_line _ this r.carried.taken is z, longer) at next;
-            decides = turn ∙ rw (eq-eqb _ 0 (sym by_number ∙ z), longer);
-          }
+      goes_on : exact_number before this ≡ 0 → {u : Drawing n} → CarriedBy (with_line before this) u → Replaying L (i + 1) u
+      goes_on z next = record { carried = rw longer at next; decides = turn ∙ rw (eq-eqb _ 0 z, longer) }
 
-  pub replay_done : L.count ≤ i → record { ok = true; table = table (walk L.w L.h places) } ≡ replayed L
+    pub replay_stop : (a : Result Split Refusal) → judged this a ≡ verdict before this 0 → is_err a ≡ true → None ≡ replayed L
+    replay_stop (Ok line) is e = absurd (true_not_false _ e refl)
+    replay_stop (Err x) is e = stops (Err x) is (λ z. refusal_not_zero x (by_number (Err x) is ∙ z))
+
+    pub replay_more : (a : Result Split Refusal) → judged this a ≡ verdict before this 0 → is_err a ≡ false → {u : Drawing n} →
+        IfOk a (λ line. CarriedBy (with_line before line) u) → Replaying L (i + 1) u
+    replay_more (Ok line) is e next =
+        goes_on (Ok line) is (sym (by_number (Ok line) is)) (rw (verdict_line _ this r.carried.carried.taken is refl) at next)
+    replay_more (Err x) is e next = absurd (true_not_false _ refl e)
+
+  pub replay_done : L.count ≤ 60 → i ≡ length (splits_of L) → Some (table (walk t.w t.h t.places)) ≡ replayed L
   unfolding replayed replays accepted
-  replay_done done =
-      let n = r.room in
-      let f = r.few in
-      let all_of_it : i ≡ L.count = omega (arith, r.within) in
-      let taken = r.carried.taken in
-      let all_taken : accepted (layout L.w L.h []) (splits_of L) ≡ true = r.decides ∙ rw (left_none L.splits L.count i (omega arith) done) in
-      rw (taken.across, taken.up, le-leb L.count 60 f, all_taken, carried_walk r.carried, all_of_it)
+  replay_done few last =
+      let now = r.carried in
+      let taken = now.carried.taken in
+      let done = drop_of_length-le (splits_of L) {i = i} (omega (arith, last)) in
+      let all_taken : accepted (layout L.w L.h []) (splits_of L) ≡ true = r.decides ∙ rw done in
+      rw (taken.across, taken.up, le-leb L.count 60 few, all_taken, now.is_w, now.is_h, carried_walk now.carried, last, take-length)
 
 -- what the search for a longer line starts from
-abbrev pub searches : {w h : ℕ} {ss : List Split} {ups lvs cols rows places lows highs : List ℕ} {run : ℕ} {s : Split} →
-    Carried w h ss ups lvs cols rows places →
-    Noted w h ss s lows highs → given (layout w h ss) s ≡ 0 → run ≡ side (other (direction s.direction)) w h → Searches ups lvs lows highs run s
-searches {w} {h} {ss} {ups} {lvs} {cols} {rows} {places} now n e along =
-    record { w = w; h = h; splits = ss; columns = cols; rows = rows; places = places; carried = now; noted = n; passes = e; along = along }
+abbrev pub searches : {n : ℕ} {P : Layout} {t : Drawing n} {notes : Notes} {s : Split} → CarriedBy P t → NotedBy P s notes → given P s ≡ 0 → SearchesBy t notes s
+searches {n} {P} {t} now noted e = record {
+  w = P.w;
+  h = P.h;
+  splits = P.splits;
+  columns = t.columns;
+  rows = t.rows;
+  places = t.places;
+  carried = now.carried;
+  noted = noted;
+  passes = e;
+  along = rw (now.is_w, now.is_h);
+}
 
 -- the notes for the split are those for the line between the nearest good ends
 module _ {w h : ℕ} {ss : List Split} {s : Split} {lows highs : List ℕ} (n : Noted w h ss s lows highs) {line : Split} where
@@ -199,10 +207,11 @@ module _ (L : Lines) (t : Table) (s : Split) where
         (λ no. rw (asked_given (layout_of L) s a few, is, ne_eqb (given (layout_of L) s) 0 no))
 
     pub verdict_drawn : Replays (layout_of L) → {v : Verdict} → v ≡ verdict (layout_of L) s a → v.number ≡ 0 →
-        {ups lvs cols rows places : List ℕ} {new : Table} → Carried L.w L.h (splits_of L ++ v.line ∷ []) ups lvs cols rows places →
-        new ≡ table (walk L.w L.h places) → ◌≡◌ {A = Step} (record { number = 0; split = v.line; table = new }) (split_step L t s a)
+        {n : ℕ} {u : Drawing n} {new : Table} → CarriedBy (with_line (layout_of L) v.line) u →
+        new ≡ table (walk u.w u.h u.places) → ◌≡◌ {A = Step} (record { number = 0; split = v.line; table = new }) (split_step L t s a)
     unfolding split_step
-    verdict_drawn taken {v} is none now e =
+    verdict_drawn taken {v} is none {n} {u} now e =
         let f = verdict_says (layout_of L) s a is none in
-        ap (λ (x : Table). record { number = 0; split = v.line; table = x }) (e ∙ ap table (carried_walk now)) ∙
+        let lives : walk u.w u.h u.places ≡ live_of (with_line (layout_of L) v.line) = rw (now.is_w, now.is_h) (carried_walk now.carried) in
+        ap (λ (x : Table). record { number = 0; split = v.line; table = x }) (e ∙ ap table lives) ∙
         rw (asked_given (layout_of L) s a few, f.0, f.2, (least_sound_line (layout_of L) (replays_stands taken).built s f.0).taken a, le-leb _ _ f.1)

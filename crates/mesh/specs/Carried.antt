@@ -1,12 +1,12 @@
 -- What is carried from split to split while splits are taken in order, and what is noted for a line over it. Only contracts of functions that the crate keeps
 -- to itself cite this file.
-use Rattle.std.specs.Prelude.{ℕ, zero, suc, ◌+◌, ◌-◌, ◌*◌, ◌/◌, ◌%◌, ◌<◌, ◌≤◌, ◌≡◌, Bool, false, cond, ◌&&◌, ◌||◌, not, List, [], ◌∷◌, ◌++◌, ltb, leb, eqb, length, get_or, set, replicate}
+use Rattle.std.specs.Prelude.{ℕ, zero, suc, ◌+◌, ◌-◌, ◌*◌, ◌/◌, ◌%◌, ◌<◌, ◌≤◌, ◌≡◌, Bool, false, cond, ◌&&◌, ◌||◌, not, List, [], ◌∷◌, ◌++◌, ltb, leb, eqb, length, get_or, set, replicate, Option, Some, None, Result, Ok, Err}
 use Rattle.axis.specs.Limits.{largest_side}
 use Rattle.axis.specs.Range.{each, only}
 use Rattle.axis.specs.Triple.{knot_in}
 use Rattle.axis.specs.declared.Side.{Side}
 use Rattle.axis.specs.declared.Side.TheVariants.{Lower as lower, Upper as upper}
-use Rattle.mesh.specs.Lines.{direction, other, side, Mesh, mesh, Layout, layout}
+use Rattle.mesh.specs.Lines.{direction, other, side, Mesh, mesh, draws, Layout, layout}
 use Rattle.mesh.specs.declared.Direction.{Direction}
 use Rattle.mesh.specs.declared.Direction.TheVariants.{Upright as upright, Level as level}
 use Rattle.mesh.specs.Blends.{crossed, along, anchored, live}
@@ -17,7 +17,10 @@ use Rattle.mesh.specs.Ends.{back, nearest_good}
 use Rattle.mesh.specs.Bytes.{Rows, Tall, Zeros, bytes_mesh, packed, unpacked, kept}
 use Rattle.mesh.specs.declared.Split.{Split}
 use Rattle.mesh.specs.declared.Blend.{Blend}
-use Rattle.mesh.specs.declared.splits.Verdict.{Verdict}
+use Rattle.mesh.specs.declared.carried.Drawing.{Drawing}
+use Rattle.mesh.specs.declared.notes.Notes.{Notes}
+use Rattle.mesh.specs.declared.refusal.Refusal.{Refusal}
+use Rattle.mesh.specs.Refusals.{number_of}
 
 -- Links over knots: from each to a later one, past knots that are free.
 pub record Leads (free : ℕ → Type 0) (links : List ℕ) : Type 0 where
@@ -50,10 +53,6 @@ pub record Carried (w h : ℕ) (ss : List Split) (uprights levels columns rows p
   pub tall : Tall w h uprights × Tall w h levels × Tall w h places
   pub lines : InBytes (mesh w h ss) uprights levels columns rows
   pub held : Held places (live w h (mesh w h ss))
-
--- of some splits, so many
-abbrev pub Carries : ℕ → ℕ → ℕ → List ℕ → List ℕ → List ℕ → List ℕ → List ℕ → Type 0
-Carries w h count uprights levels columns rows places = (ss : List Split) × (count ≡ length ss) × Carried w h ss uprights levels columns rows places
 
 -- A note: a blend in one number, which is not 0.
 abbrev pub noted : Blend → ℕ
@@ -154,6 +153,10 @@ pub record Searches (uprights levels lows highs : List ℕ) (run : ℕ) (s : Spl
   pub along : run ≡ side (other (direction s.direction)) w h
 
 -- A verdict on a split: a number, and the line that is drawn; on a refusal the split as it came.
+pub record Verdict : Type 0 where
+  pub number : ℕ
+  pub line : Split
+
 abbrev pub told_of : ℕ → Split → Verdict
 told_of n line = record { number = n; line = line }
 
@@ -164,3 +167,76 @@ found_by s longest line = cond (leb (steps_of line) longest) (told_of 0 line) (t
 -- what a split comes to: refused with 3 to 7, or the verdict of the search within the allowance, which seeks the line between the nearest good ends
 abbrev pub verdict : Layout → Split → ℕ → Verdict
 verdict P s allowance = cond (eqb (given P s) 0) (found_by s (steps_of s + allowance) (nearest_good P s)) (told_of (given P s) s)
+
+-- The same of what the code answers.
+abbrev pub told_line : Split → Option Split → Verdict
+told_line s (Some line) = told_of 0 line
+told_line s None = told_of 8 s
+
+abbrev pub judged : Split → Result Split Refusal → Verdict
+judged s (Ok line) = told_of 0 line
+judged s (Err e) = told_of (number_of e) s
+
+-- A drawing that is cleared.
+pub record Clear {n : ℕ} (t : Drawing n) : Type 0 where
+  pub no_split : t.count ≡ 0
+  pub cleared : Cleared t.w t.h t.uprights t.levels t.columns t.rows t.places
+
+-- It has a row for each knot of either side.
+abbrev pub TallBy : {n : ℕ} → Drawing n → Type 0
+TallBy t = Tall t.w t.h t.uprights × Tall t.w t.h t.levels
+
+-- its lines
+abbrev pub mesh_by : {n : ℕ} → Drawing n → Mesh
+mesh_by t = bytes_mesh t.uprights t.levels
+
+-- It has lines in bytes, and links.
+abbrev pub LinesBy : {n : ℕ} → Mesh → Drawing n → Type 0
+LinesBy M t = InBytes M t.uprights t.levels t.columns t.rows
+
+-- What drawing lines leaves as it was: the sides, the blends, and how many bytes there are.
+pub record Redrawn {n : ℕ} (t u : Drawing n) : Type 0 where
+  pub is_w : u.w ≡ t.w
+  pub is_h : u.h ≡ t.h
+  pub is_places : u.places ≡ t.places
+  pub long : (length u.uprights ≡ length t.uprights) × (length u.levels ≡ length t.levels)
+
+-- the sides are drawn
+pub record SidesDrawn {n : ℕ} (t u : Drawing n) : Type 0 where
+  pub kept : Redrawn t u
+  pub is_count : u.count ≡ t.count
+  pub lines : LinesBy (mesh t.w t.h []) u
+
+-- one split more is drawn, and its knot linked
+pub record LineAdded {n : ℕ} (s : Split) (t u : Drawing n) : Type 0 where
+  pub kept : Redrawn t u
+  pub is_count : u.count ≡ t.count + 1
+  pub drawn : (d : Direction) (z k : ℕ) → mesh_by u d z k ≡ (mesh_by t d z k || draws t.w t.h d z k s)
+  pub linked : (M N : Mesh) → ((d : Direction) (z k : ℕ) → N d z k ≡ (M d z k || draws t.w t.h d z k s)) →
+      Leads (Bare M upright) t.columns → Leads (Bare M level) t.rows → Leads (Bare N upright) u.columns × Leads (Bare N level) u.rows
+
+-- A map that is carried.
+pub record CarriedBy {n : ℕ} (P : Layout) (t : Drawing n) : Type 0 where
+  pub is_w : t.w ≡ P.w
+  pub is_h : t.h ≡ P.h
+  pub many : t.count ≡ length P.splits
+  pub carried : Carried P.w P.h P.splits t.uprights t.levels t.columns t.rows t.places
+
+abbrev pub Carries : {n : ℕ} → Drawing n → Type 0
+Carries t = (P : Layout) × CarriedBy P t
+
+-- Its places can be walked.
+abbrev pub WalksBy : {n : ℕ} → Drawing n → Type 0
+WalksBy t = Walks t.w t.h t.columns t.rows t.places
+
+-- The notes for a split's position.
+abbrev pub NotedBy : Layout → Split → Notes → Type 0
+NotedBy P s n = Noted P.w P.h P.splits s n.lows n.highs
+
+-- the side that lines of the direction run along
+abbrev pub run_by : {n : ℕ} → Drawing n → Direction → ℕ
+run_by t d = side (other d) t.w t.h
+
+-- What the search for a line goes by.
+abbrev pub SearchesBy : {n : ℕ} → Drawing n → Notes → Split → Type 0
+SearchesBy t n s = Searches t.uprights t.levels n.lows n.highs (run_by t (direction s.direction)) s

@@ -1,6 +1,6 @@
 -- Document 01, "Values, readings, splits": the splits of a record, "taken in order as exact splits from a fresh map of those sides, are all accepted"; and one
 -- split more.
-use Rattle.std.specs.Prelude.{ℕ, ◌≤◌, ◌≡◌, Bool, true, false, cond, ◌&&◌, List, [], ◌∷◌, leb, eqb, length}
+use Rattle.std.specs.Prelude.{ℕ, ◌≤◌, ◌≡◌, Bool, true, cond, ◌&&◌, List, [], ◌∷◌, leb, eqb, length, Option, Some, None, Result, Ok, Err}
 use Rattle.axis.specs.Limits.{most_splits}
 use Rattle.mesh.specs.Lines.{allowed_side, Layout, layout, splits_of, layout_of}
 use Rattle.mesh.specs.Sound.{table}
@@ -9,8 +9,9 @@ use Rattle.mesh.specs.Lengthening.{chosen}
 use Rattle.mesh.specs.declared.Split.{Split}
 use Rattle.mesh.specs.declared.Lines.{Lines}
 use Rattle.mesh.specs.declared.Table.{Table}
-use Rattle.mesh.specs.declared.Step.{Step}
-use Rattle.mesh.specs.declared.Found.{Found}
+use Rattle.mesh.specs.declared.Drawn.{Drawn}
+use Rattle.mesh.specs.declared.refusal.Refusal.{Refusal}
+use Rattle.mesh.specs.Refusals.{number_of}
 
 -- whether sides and count are in their ranges and the splits are all accepted
 unfoldable pub replays : Lines → Bool
@@ -24,16 +25,19 @@ pub record Replays (P : Layout) : Type 0 where
   pub all_taken : accepted (layout P.w P.h []) P.splits ≡ true
 
 -- the live blends of such lines; nothing where one is refused
-abbrev pub not_replayed : Found
-not_replayed = record { ok = false; table = table [] }
-
-unfoldable pub replayed : Lines → Found
-replayed L = cond (replays L) (record { ok = true; table = table (live_of (layout_of L)) }) not_replayed
+unfoldable pub replayed : Lines → Option Table
+replayed L = cond (replays L) (Some (table (live_of (layout_of L)))) None
 
 -- A split goes on from lines that were replayed, with the table that this left.
 pub record HasTable (L : Lines) (t : Table) : Type 0 where
   pub accepted? : replays L ≡ true
   pub is_table : t ≡ table (live_of (layout_of L))
+
+-- What a split comes to on such lines: its number, the line that is drawn, and the table of blends after it.
+pub record Step : Type 0 where
+  pub number : ℕ
+  pub split : Split
+  pub table : Table
 
 -- refused with a number, with the split and the table as they came; and a line drawn
 abbrev pub refused_step : Table → ℕ → Split → Step
@@ -50,3 +54,8 @@ first_step L t s (c ∷ cs) = drawn_step L c
 unfoldable pub split_step : Lines → Table → Split → ℕ → Step
 split_step L t s allowance =
     let n = asked (layout_of L) s allowance in cond (eqb n 0) (first_step L t s (chosen (layout_of L) s allowance)) (refused_step t n s)
+
+-- the same of what the code answers
+abbrev pub stepped : Table → Split → Result Drawn Refusal → Step
+stepped t s (Ok d) = record { number = 0; split = d.line; table = d.table }
+stepped t s (Err e) = refused_step t (number_of e) s

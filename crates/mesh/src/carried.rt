@@ -1,16 +1,12 @@
-// What is carried from split to split: the lines in bytes, links past columns and rows without a line, and the live blends by their anchors.
-ghost use Rattle.std.specs.Prelude.{◌≡◌, true, ◌||◌, ℕ, ◌+◌, ◌≤◌, length};
+// What is carried from split to split: a map's lines in bytes, links past columns and rows without a line, and the live blends by their anchors.
+ghost use Rattle.std.specs.Prelude.{◌≡◌, true, ◌+◌, ◌*◌, ◌≤◌, ◌<◌};
 ghost use mathlib.Core.List.{[], Memᴰ};
-ghost use Rattle.axis.specs.Limits.{largest_side, most_blends};
-ghost use Rattle.axis.specs.Range.{all};
-ghost use Rattle.mesh.specs.Lines.{Mesh, in_range, draws, mesh, splits_of, allowed_side};
-ghost use Rattle.mesh.specs.declared.Direction.{Direction};
-ghost use Rattle.mesh.specs.declared.Direction.TheVariants.{Upright as upright, Level as level};
-ghost use Rattle.mesh.specs.Blends.{first_four};
-ghost use Rattle.mesh.specs.Sound.{proper, blends_of};
+ghost use Rattle.axis.specs.Limits.{largest_side, most_splits};
+ghost use Rattle.mesh.specs.Lines.{in_range, layout, layout_of, allowed_side};
+ghost use Rattle.mesh.specs.Sound.{AllProper};
 ghost use Rattle.mesh.specs.Replay.{HasTable};
-ghost use Rattle.mesh.specs.Bytes.{Rows, Tall, bytes_mesh, keep_all};
-ghost use Rattle.mesh.specs.Carried.{Leads, Bare, InBytes, Carried, Undrawn, Cleared};
+ghost use Rattle.mesh.specs.Bytes.{Rows, keep_all};
+ghost use Rattle.mesh.specs.Carried.{Clear, TallBy, LineAdded, SidesDrawn, CarriedBy};
 
 use crate::cut::keep_blend;
 use crate::links::{link, link_fresh};
@@ -18,124 +14,93 @@ use crate::steps::{draw_fresh, draw_split};
 use crate::tables::first_four;
 use crate::{Blend, Direction, Lines, Split, Table};
 
-// Draws a split's line and links its knot.
-pub(crate) fn add_line(
-    s: Split,
-    w: usize,
-    h: usize,
-    uprights: &mut [u8],
-    levels: &mut [u8],
-    columns: &mut [u8],
-    rows: &mut [u8],
-)
-    requires { Tall w h uprights.old × Tall w h levels.old × (length columns.old ≡ 131) × (length rows.old ≡ 131) × (w ≤ largest_side) ×
-        (h ≤ largest_side) × (in_range w h s ≡ true) }
-    ensures { (length uprights.new ≡ length uprights.old) × (length levels.new ≡ length levels.old) ×
-        ((d : Direction) (z k : ℕ) → bytes_mesh uprights.new levels.new d z k ≡
-        (bytes_mesh uprights.old levels.old d z k || draws w h d z k s)) ×
-        ((M N : Mesh) → ((d : Direction) (z k : ℕ) → N d z k ≡ (M d z k || draws w h d z k s)) →
-        Leads (Bare M upright) columns.old → Leads (Bare M level) rows.old →
-        Leads (Bare N upright) columns.new × Leads (Bare N level) rows.new) }
-{
-    draw_split(s, Direction::Upright, h, uprights);
-    draw_split(s, Direction::Level, w, levels);
-    if s.direction == 0 {
-        link(columns, s.position + 1);
-        return;
-    }
-    link(rows, s.position + 1);
+// A map of `count` splits. Its tables have a row of 131 places for each knot, or for as many as its sides need.
+#[derive(Drop)]
+pub(crate) struct Drawing<const N: usize> {
+    pub w: usize,
+    pub h: usize,
+    pub uprights: [u8; N],
+    pub levels: [u8; N],
+    pub places: [u32; N],
+    pub columns: [u8; 131],
+    pub rows: [u8; 131],
+    pub count: usize,
 }
 
-// Keeps the first four blends.
-fn keep_first(w: usize, h: usize, places: &mut [u32])
-    requires { (allowed_side w ≡ true) × (allowed_side h ≡ true) × Rows (w + 3) places.old }
-    ensures { places.new ≡ keep_all places.old (first_four w h) }
+// Keeps blends at the places of their anchors.
+fn keep(places: &mut [u32], blends: &[Blend])
+    requires { AllProper blends.now × ((B : Blend) → Memᴰ B blends.now → Rows (B.across.m + 1) places.old) }
+    ensures { places.new ≡ keep_all places.old blends.now }
 {
-    let four = first_four(w, h);
-    let mut i = 0;
-    while i < 4 {
-        let x = four[i];
-        keep_blend(places, x);
-        i += 1;
+    for x in blends {
+        keep_blend(places, *x);
     }
 }
 
-// Keeps the blends of a table.
-fn keep_table(table: Table, places: &mut [u32])
-    requires { (table.count ≤ most_blends) × (all (proper largest_side largest_side) (blends_of table) ≡ true) ×
-        ((B : Blend) → Memᴰ B (blends_of table) → Rows (B.across.m + 1) places.old) }
-    ensures { places.new ≡ keep_all places.old (blends_of table) }
-{
-    let count = table.count;
-    let mut i = 0;
-    while i < count {
-        let x = table.blends[i];
-        keep_blend(places, x);
-        i += 1;
+impl<const N: usize> Drawing<N> {
+    // Nothing is drawn yet, and links lead past all knots.
+    #[inline]
+    pub fn clear(w: usize, h: usize) -> Self
+        requires { ((w + 3) * 131 ≤ N) × ((h + 3) * 131 ≤ N) }
+        ensures { Clear result × (result.w ≡ w) × (result.h ≡ h) }
+    {
+        Drawing {
+            w,
+            h,
+            uprights: [0; N],
+            levels: [0; N],
+            places: [0; N],
+            columns: [131; 131],
+            rows: [131; 131],
+            count: 0,
+        }
     }
-}
 
-// Draws the sides, and links their knots.
-fn load_sides(
-    w: usize,
-    h: usize,
-    uprights: &mut [u8],
-    levels: &mut [u8],
-    columns: &mut [u8],
-    rows: &mut [u8],
-)
-    requires { (w ≤ largest_side) × (h ≤ largest_side) × Undrawn w h uprights.old levels.old columns.old rows.old }
-    ensures { (length uprights.new ≡ length uprights.old) × (length levels.new ≡ length levels.old) ×
-        InBytes (mesh w h []) uprights.new levels.new columns.new rows.new }
-{
-    draw_fresh(w, h, uprights);
-    draw_fresh(h, w, levels);
-    link_fresh(w, columns);
-    link_fresh(h, rows);
-}
-
-// Loads the fresh map of two sides.
-pub(crate) fn load_fresh(
-    w: usize,
-    h: usize,
-    uprights: &mut [u8],
-    levels: &mut [u8],
-    columns: &mut [u8],
-    rows: &mut [u8],
-    places: &mut [u32],
-)
-    requires { (allowed_side w ≡ true) × (allowed_side h ≡ true) ×
-        Cleared w h uprights.old levels.old columns.old rows.old places.old }
-    ensures { Carried w h [] uprights.new levels.new columns.new rows.new places.new }
-{
-    load_sides(w, h, uprights, levels, columns, rows);
-    keep_first(w, h, places);
-}
-
-// Loads lines that were replayed, whose live blends are in the table.
-pub(crate) fn load(
-    lines: Lines,
-    table: Table,
-    uprights: &mut [u8],
-    levels: &mut [u8],
-    columns: &mut [u8],
-    rows: &mut [u8],
-    places: &mut [u32],
-)
-    requires { HasTable lines table ×
-        Cleared lines.w lines.h uprights.old levels.old columns.old rows.old places.old }
-    ensures { Carried lines.w lines.h (splits_of lines) uprights.new levels.new columns.new rows.new
-        places.new }
-{
-    let w = lines.w;
-    let h = lines.h;
-    load_sides(w, h, uprights, levels, columns, rows);
-    let count = lines.count;
-    let mut i = 0;
-    while i < count {
-        let s = lines.splits[i];
-        add_line(s, w, h, uprights, levels, columns, rows);
-        i += 1;
+    // Draws a split's line and links its knot.
+    pub fn add_line(&mut self, s: Split)
+        requires { TallBy self.old × (self.old.w ≤ largest_side) × (self.old.h ≤ largest_side) × (self.old.count < most_splits) ×
+            (in_range self.old.w self.old.h s ≡ true) }
+        ensures { LineAdded s self.old self.new }
+    {
+        draw_split(s, Direction::Upright, self.h, &mut self.uprights);
+        draw_split(s, Direction::Level, self.w, &mut self.levels);
+        self.count += 1;
+        let z = s.position + 1;
+        match s.way() {
+            Direction::Upright => link(&mut self.columns, z),
+            Direction::Level => link(&mut self.rows, z),
+        }
     }
-    keep_table(table, places);
+
+    // Draws the sides, and links their knots.
+    fn draw_sides(&mut self)
+        requires { Clear self.old × (self.old.w ≤ largest_side) × (self.old.h ≤ largest_side) }
+        ensures { SidesDrawn self.old self.new }
+    {
+        draw_fresh(self.w, self.h, &mut self.uprights);
+        draw_fresh(self.h, self.w, &mut self.levels);
+        link_fresh(self.w, &mut self.columns);
+        link_fresh(self.h, &mut self.rows);
+    }
+
+    // Loads the fresh map of its sides.
+    pub fn load_fresh(&mut self)
+        requires { Clear self.old × (allowed_side self.old.w ≡ true) × (allowed_side self.old.h ≡ true) }
+        ensures { CarriedBy (layout self.old.w self.old.h []) self.new }
+    {
+        self.draw_sides();
+        keep(&mut self.places, &first_four(self.w, self.h));
+    }
+
+    // Loads lines that were replayed, whose live blends are in the table.
+    pub fn load(&mut self, lines: &Lines, table: &Table)
+        requires { HasTable lines.now table.now × Clear self.old × (self.old.w ≡ lines.now.w) × (self.old.h ≡ lines.now.h) }
+        ensures { CarriedBy (layout_of lines.now) self.new }
+    {
+        self.draw_sides();
+        for s in &lines.splits[..lines.count] {
+            self.add_line(*s);
+        }
+        keep(&mut self.places, table.blends());
+    }
 }

@@ -70,17 +70,9 @@ impl Table {
     pub const MOST_BLENDS: usize = 1024;
 }
 
-// A yes with a table of blends, or a no with an empty one.
+// What a split draws: the line, and the table of blends after it.
 #[derive(Clone, Copy)]
-pub struct Found {
-    pub ok: bool,
-    pub table: Table,
-}
-
-// A split's number; the line that is drawn, and the table of blends after it. On a refusal the split and the table as they came.
-#[derive(Clone, Copy)]
-pub struct Step {
-    pub number: usize,
-    pub split: Split,
+pub struct Drawn {
+    pub line: Split,
     pub table: Table,
 }

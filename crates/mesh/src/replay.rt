@@ -1,90 +1,45 @@
 // The splits of lines, taken in order as exact splits.
-ghost use Rattle.std.specs.Prelude.{◌≡◌, true, ◌≤◌};
+ghost use Rattle.std.specs.Prelude.{◌≡◌, true, ◌+◌, ◌*◌, ◌≤◌};
 ghost use Rattle.axis.specs.Limits.{most_splits};
 ghost use Rattle.mesh.specs.Lines.{allowed_side};
 ghost use Rattle.mesh.specs.Replay.{replayed};
-ghost use Rattle.mesh.specs.Carried.{Cleared};
 
-use crate::carried::load_fresh;
-use crate::read::read_out;
-use crate::splits::step;
-use crate::tables::refusal;
-use crate::{Found, Lines};
+use crate::carried::Drawing;
+use crate::{Lines, Table};
 
-// In cleared tables, where sides and count are in their ranges.
-fn replay_in(
-    lines: Lines,
-    uprights: &mut [u8],
-    levels: &mut [u8],
-    columns: &mut [u8],
-    rows: &mut [u8],
-    places: &mut [u32],
-) -> Found
-    requires { (allowed_side lines.w ≡ true) × (allowed_side lines.h ≡ true) × (lines.count ≤ most_splits) ×
-        Cleared lines.w lines.h uprights.old levels.old columns.old rows.old places.old }
-    ensures { result ≡ replayed lines }
+// In tables of N places, where sides and count are in their ranges.
+#[inline(never)]
+fn replay_in<const N: usize>(lines: &Lines) -> Option<Table>
+    requires { (allowed_side lines.now.w ≡ true) × (allowed_side lines.now.h ≡ true) × (lines.now.count ≤ most_splits) ×
+        ((lines.now.w + 3) * 131 ≤ N) × ((lines.now.h + 3) * 131 ≤ N) × (N ≤ 17161) }
+    ensures { result ≡ replayed lines.now }
 {
-    let w = lines.w;
-    let h = lines.h;
-    let count = lines.count;
-    load_fresh(w, h, uprights, levels, columns, rows, places);
-    let mut i = 0;
-    while i < count {
-        let s = lines.splits[i];
-        let found = step(w, h, i, s, 0, uprights, levels, columns, rows, places);
-        let number = found.number;
-        if number != 0 {
-            return refusal();
+    let mut drawing = Drawing::<N>::clear(lines.w, lines.h);
+    drawing.load_fresh();
+    for s in &lines.splits[..lines.count] {
+        if drawing.step(*s, 0).is_err() {
+            return None;
         }
-        i += 1;
     }
-    Found {
-        ok: true,
-        table: read_out(places, columns, rows, w, h),
-    }
+    Some(drawing.read_out())
 }
 
-pub fn replay(lines: Lines) -> Found
-    ensures { result ≡ replayed lines }
+pub fn replay(lines: &Lines) -> Option<Table>
+    ensures { result ≡ replayed lines.now }
 {
-    let w = lines.w;
-    let h = lines.h;
-    if !Lines::allows_side(w) {
-        return refusal();
+    if !Lines::allows_side(lines.w) {
+        return None;
     }
-    if !Lines::allows_side(h) {
-        return refusal();
+    if !Lines::allows_side(lines.h) {
+        return None;
     }
     if Lines::MOST_SPLITS < lines.count {
-        return refusal();
+        return None;
     }
-    let mut columns = [131u8; 131];
-    let mut rows = [131u8; 131];
     // A small map has few rows of knots, so its tables are short and soon cleared.
-    if w <= 16 {
-        if h <= 16 {
-            let mut uprights = [0u8; 2489];
-            let mut levels = [0u8; 2489];
-            let mut places = [0u32; 2489];
-            return replay_in(
-                lines,
-                &mut uprights,
-                &mut levels,
-                &mut columns,
-                &mut rows,
-                &mut places,
-            );
-        }
+    if lines.w <= 16 && lines.h <= 16 {
+        replay_in::<2489>(lines)
+    } else {
+        replay_in::<17161>(lines)
     }
-    let mut uprights = [0u8; 17161];
-    let mut levels = [0u8; 17161];
-    let mut places = [0u32; 17161];
-    replay_in(
-        lines,
-        &mut uprights,
-        &mut levels,
-        &mut columns,
-        &mut rows,
-        &mut places,
-    )
 }

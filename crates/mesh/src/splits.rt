@@ -1,232 +1,102 @@
 // A split within an allowance: one step on what is carried; and on lines that were replayed, whose table is in hand.
-ghost use Rattle.std.specs.Prelude.{◌≡◌, List, [], ◌∷◌, ◌++◌, ◌*◌, ◌≤◌, length};
+ghost use Rattle.std.specs.Prelude.{◌≡◌, ◌+◌, ◌*◌, ◌≤◌, MatchResult, IfOk, IfErr};
 ghost use Rattle.axis.specs.Limits.{largest_side, most_allowance};
-ghost use Rattle.mesh.specs.Lines.{layout};
+ghost use Rattle.mesh.specs.Lines.{Layout, layout};
+ghost use Rattle.mesh.specs.Splits.{with_line};
 ghost use Rattle.mesh.specs.Ends.{nearest_good};
-ghost use Rattle.mesh.specs.Replay.{HasTable, split_step};
-ghost use Rattle.mesh.specs.Carried.{Carried, Carries, Cleared, Noted, Searches, blank, told_of, found_by, verdict};
+ghost use Rattle.mesh.specs.Refusals.{number_of};
+ghost use Rattle.mesh.specs.Replay.{HasTable, stepped, split_step};
+ghost use Rattle.mesh.specs.Carried.{CarriedBy, Carries, NotedBy, SearchesBy, told_of, told_line, judged, found_by, verdict};
 
-use crate::carried::load;
-use crate::exact::{draw, good_ends, look, run_of};
-use crate::read::read_out;
-use crate::{Lines, Split, Step, Table};
+use crate::carried::Drawing;
+use crate::notes::Notes;
+use crate::{Drawn, Lines, Refusal, Split, Table};
 
-// What a refused split gives: the split and the table as they came.
-fn refused(number: usize, s: Split, table: Table) -> Step
-    ensures { result ≡ record { number = number; split = s; table = table } }
-{
-    Step {
-        number: number,
-        split: s,
-        table: table,
-    }
-}
-
-// What a split comes to: its number, and the line that it draws; on a refusal the split as it came.
-#[derive(Clone, Copy)]
-pub(crate) struct Verdict {
-    pub number: usize,
-    pub line: Split,
-}
-
-fn told(number: usize, line: Split) -> Verdict
-    ensures { result ≡ told_of number line }
-{
-    Verdict {
-        number: number,
-        line: line,
-    }
-}
-
-// The line that a split takes, or 8: nested loops over length and start, left with the first line between good ends. Every other one contains it and so
-// adds more live blends. The search stops at the longest allowed length; with none to spare it looks at the given line alone.
-fn least_line(
-    uprights: &[u8],
-    levels: &[u8],
-    lows: &[usize],
-    highs: &[usize],
-    run: usize,
-    longest: usize,
-    s: Split,
-) -> Verdict
-    requires { Searches uprights.now levels.now lows.now highs.now run s × (longest ≤ 2 * largest_side) }
-    ensures { (i : Searches uprights.now levels.now lows.now highs.now run s) →
-        result ≡ found_by s longest (nearest_good (layout i.w i.h i.splits) s) }
-{
-    let mut found = told(8, s);
-    let mut length = s.to - s.from;
-    'search: while length <= longest {
-        let mut from = 0;
-        if length < s.to {
-            from = s.to - length;
-        }
-        while from <= s.from {
-            let c = Split {
-                direction: s.direction,
-                position: s.position,
-                from: from,
-                to: from + length,
-            };
-            // A line that would reach past the side is no line.
-            if c.to <= run {
-                if good_ends(uprights, levels, lows, highs, run, c) {
-                    found = told(0, c);
+impl<const N: usize> Drawing<N> {
+    // The line that a split takes, if there is one: nested loops over length and start, left with the first line between good ends. Every other one contains
+    // it and so adds more live blends. The search stops at the longest allowed length; with none to spare it looks at the given line alone.
+    fn least_line(&self, notes: &Notes, longest: usize, s: Split) -> Option<Split>
+        requires { SearchesBy self.now notes.now s × (longest ≤ 2 * largest_side) }
+        ensures { (i : SearchesBy self.now notes.now s) → told_line s result ≡ found_by s longest (nearest_good (layout i.w i.h i.splits) s) }
+    {
+        let run = self.run(s.way());
+        let mut found = None;
+        'search: for length in s.to - s.from..longest + 1 {
+            for from in s.to.saturating_sub(length)..s.from + 1 {
+                let line = Split {
+                    direction: s.direction,
+                    position: s.position,
+                    from,
+                    to: from + length,
+                };
+                // A line that would reach past the side is no line.
+                if line.to <= run && self.good_ends(notes, line) {
+                    found = Some(line);
                     break 'search;
                 }
             }
-            from += 1;
         }
-        length += 1;
+        found
     }
-    found
+
+    // Refusals 3 to 8 of a split, in their order, or the line that it draws, with the notes for its position.
+    fn find(&self, s: Split, allowance: usize) -> Result<(Split, Notes), Refusal>
+        requires { (allowance ≤ most_allowance) × Carries self.now }
+        ensures { (P : Layout) → CarriedBy P self.now → MatchResult result (λ f. (told_of 0 f.0 ≡ verdict P s allowance) × NotedBy P f.0 f.1)
+            (λ e. told_of (number_of e) s ≡ verdict P s allowance) }
+    {
+        let notes = self.look(s)?;
+        let longest = s.to - s.from + allowance;
+        match self.least_line(&notes, longest, s) {
+            Some(line) => Ok((line, notes)),
+            None => Err(Refusal::Unsound),
+        }
+    }
+
+    // Takes a split. Accepted, its line is drawn and cut with; refused, it leaves all as it was.
+    pub fn step(&mut self, s: Split, allowance: usize) -> Result<Split, Refusal>
+        requires { (allowance ≤ most_allowance) × Carries self.old }
+        ensures told { (P : Layout) → CarriedBy P self.old → judged s result ≡ verdict P s allowance }
+        ensures drawn { (P : Layout) → CarriedBy P self.old → IfOk result (λ line. CarriedBy (with_line P line) self.new) }
+        ensures kept { IfErr result (λ e. self.new ≡ self.old) }
+    {
+        let (line, notes) = self.find(s, allowance)?;
+        self.draw(line, &notes);
+        Ok(line)
+    }
 }
 
-// The number of a split, 3 to 8 in their order, and the line that it draws, with the notes for its position.
-fn find(
-    w: usize,
-    h: usize,
-    count: usize,
+// In tables of N places: one step.
+#[inline(never)]
+fn split_in<const N: usize>(
+    lines: &Lines,
+    table: &Table,
     s: Split,
     allowance: usize,
-    uprights: &[u8],
-    levels: &[u8],
-    columns: &[u8],
-    rows: &[u8],
-    places: &[u32],
-    lows: &mut [usize],
-    highs: &mut [usize],
-) -> Verdict
-    requires { (allowance ≤ most_allowance) × Carries w h count uprights.now levels.now columns.now rows.now places.now ×
-        (lows.old ≡ blank) × (highs.old ≡ blank) }
-    ensures { (ss : List Split) → count ≡ length ss →
-        Carried w h ss uprights.now levels.now columns.now rows.now places.now →
-        (result ≡ verdict (layout w h ss) s allowance) × (result.number ≡ 0 → Noted w h ss result.line lows.new highs.new) }
+) -> Result<Drawn, Refusal>
+    requires { (allowance ≤ most_allowance) × HasTable lines.now table.now × ((lines.now.w + 3) * 131 ≤ N) × ((lines.now.h + 3) * 131 ≤ N) ×
+        (N ≤ 17161) }
+    ensures { stepped table.now s result ≡ split_step lines.now table.now s allowance }
 {
-    let number = look(
-        w, h, count, s, uprights, levels, columns, rows, places, lows, highs,
-    );
-    if number != 0 {
-        return told(number, s);
-    }
-    let run = run_of(w, h, s.direction);
-    let longest = s.to - s.from + allowance;
-    least_line(uprights, levels, lows, highs, run, longest, s)
+    let mut drawing = Drawing::<N>::clear(lines.w, lines.h);
+    drawing.load(lines, table);
+    let line = drawing.step(s, allowance)?;
+    let after = drawing.read_out();
+    Ok(Drawn { line, table: after })
 }
 
-// Takes a split. Accepted, its line is drawn and cut with; refused, it leaves all as it was.
-pub(crate) fn step(
-    w: usize,
-    h: usize,
-    count: usize,
-    s: Split,
-    allowance: usize,
-    uprights: &mut [u8],
-    levels: &mut [u8],
-    columns: &mut [u8],
-    rows: &mut [u8],
-    places: &mut [u32],
-) -> Verdict
-    requires { (allowance ≤ most_allowance) × Carries w h count uprights.old levels.old columns.old rows.old places.old }
-    ensures { ((ss : List Split) → count ≡ length ss →
-        Carried w h ss uprights.old levels.old columns.old rows.old places.old →
-        (result ≡ verdict (layout w h ss) s allowance) ×
-        (result.number ≡ 0 → Carried w h (ss ++ result.line ∷ []) uprights.new levels.new columns.new rows.new
-        places.new)) × ((result.number ≡ 0 → ⊥) → (uprights.new ≡ uprights.old) × (levels.new ≡ levels.old) ×
-        (columns.new ≡ columns.old) × (rows.new ≡ rows.old) × (places.new ≡ places.old)) }
-{
-    let mut lows = [0usize; 131];
-    let mut highs = [0usize; 131];
-    let found = find(
-        w, h, count, s, allowance, uprights, levels, columns, rows, places, &mut lows, &mut highs,
-    );
-    let why = found.number;
-    if why != 0 {
-        return found;
-    }
-    let line = found.line;
-    draw(
-        w, h, line, uprights, levels, columns, rows, places, &lows, &highs,
-    );
-    found
-}
-
-// In cleared tables: one step.
-fn split_in(
-    lines: Lines,
-    table: Table,
-    s: Split,
-    allowance: usize,
-    uprights: &mut [u8],
-    levels: &mut [u8],
-    columns: &mut [u8],
-    rows: &mut [u8],
-    places: &mut [u32],
-) -> Step
-    requires { (allowance ≤ most_allowance) × HasTable lines table ×
-        Cleared lines.w lines.h uprights.old levels.old columns.old rows.old places.old }
-    ensures { result ≡ split_step lines table s allowance }
-{
-    let w = lines.w;
-    let h = lines.h;
-    let count = lines.count;
-    load(lines, table, uprights, levels, columns, rows, places);
-    let found = step(
-        w, h, count, s, allowance, uprights, levels, columns, rows, places,
-    );
-    let number = found.number;
-    if number != 0 {
-        return refused(number, s, table);
-    }
-    let line = found.line;
-    let after = read_out(places, columns, rows, w, h);
-    Step {
-        number: 0,
-        split: line,
-        table: after,
-    }
-}
-
-pub fn split(lines: Lines, table: Table, s: Split, allowance: usize) -> Step
-    requires { HasTable lines table }
-    ensures { result ≡ split_step lines table s allowance }
+pub fn split(lines: &Lines, table: &Table, s: Split, allowance: usize) -> Result<Drawn, Refusal>
+    requires { HasTable lines.now table.now }
+    ensures { stepped table.now s result ≡ split_step lines.now table.now s allowance }
 {
     let most = Lines::MOST_ALLOWANCE;
     if most < allowance {
-        return refused(3, s, table);
+        return Err(Refusal::OutOfRange);
     }
-    let mut columns = [131u8; 131];
-    let mut rows = [131u8; 131];
     // A small map has few rows of knots, so its tables are short and soon cleared.
-    if lines.w <= 16 {
-        if lines.h <= 16 {
-            let mut uprights = [0u8; 2489];
-            let mut levels = [0u8; 2489];
-            let mut places = [0u32; 2489];
-            return split_in(
-                lines,
-                table,
-                s,
-                allowance,
-                &mut uprights,
-                &mut levels,
-                &mut columns,
-                &mut rows,
-                &mut places,
-            );
-        }
+    if lines.w <= 16 && lines.h <= 16 {
+        split_in::<2489>(lines, table, s, allowance)
+    } else {
+        split_in::<17161>(lines, table, s, allowance)
     }
-    let mut uprights = [0u8; 17161];
-    let mut levels = [0u8; 17161];
-    let mut places = [0u32; 17161];
-    split_in(
-        lines,
-        table,
-        s,
-        allowance,
-        &mut uprights,
-        &mut levels,
-        &mut columns,
-        &mut rows,
-        &mut places,
-    )
 }

@@ -3,9 +3,8 @@ ghost use Rattle.std.specs.Prelude.{◌≡◌, ◌≤◌, [], length};
 ghost use Rattle.axis.specs.Limits.{largest_side, most_blends};
 ghost use Rattle.mesh.specs.Blends.{first_four};
 ghost use Rattle.mesh.specs.Sound.{table, fresh_table, blends_of};
-ghost use Rattle.mesh.specs.Replay.{not_replayed};
 
-use crate::{Blend, Found, Lines, Table};
+use crate::{Blend, Lines, Table};
 use axis::{Side, Triple};
 
 impl Blend {
@@ -14,16 +13,6 @@ impl Blend {
         across: Triple { l: 0, m: 0, r: 0 },
         up: Triple { l: 0, m: 0, r: 0 },
     };
-}
-
-// The answer where lines are not replayed.
-pub(crate) fn refusal() -> Found
-    ensures { result ≡ not_replayed }
-{
-    Found {
-        ok: false,
-        table: Table::empty(),
-    }
 }
 
 // The first four blends.

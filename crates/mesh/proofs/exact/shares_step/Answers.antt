@@ -1,7 +1,0 @@
--- `mesh::exact::shares_step` meets its contract.
-use Rattle.mesh.specs.Lines.{shares}
-use Rattle.mesh.proofs.exact.shares_step.Goals as goal
-
-pub returns : goal.returns
-unfolding shares
-returns c = c.some_on.ensures
