@@ -6,10 +6,9 @@ mod show;
 mod text;
 
 ghost use Rattle.std.specs.Prelude.{◌≤◌, length};
-ghost use Rattle.maps.specs.Opened.{Opens};
 
 use crate::show::Out;
-use maps::opened::{Opened, fresh};
+use maps::opened::Opened;
 use std::io;
 use std::io::Read;
 use std::rt::Stdin;
@@ -18,171 +17,100 @@ use std::rt::Stdin;
 // number may make any call longer).
 const ROOM: usize = 32768;
 
-// What goes on from one read to the next: the map; how many bytes at the front of the buffer start a line; whether they follow on a start that was
-// too long to keep; and whether the input has ended.
-#[derive(Clone, Copy)]
+// What goes on from one read to the next: the map; how many bytes at the front of the buffer start a line; and whether they follow on a start that was
+// too long to keep.
+#[derive(Drop)]
 struct State {
     map: Opened,
     held: usize,
     long: bool,
-    ended: bool,
 }
 
-// Where the line that starts at a place ends, or what was read of it.
-fn line_end(input: &[u8], from: usize) -> usize
-    requires { from ≤ length input.now }
-    ensures { (from ≤ result) × (result ≤ length input.now) }
-{
-    let mut to = from;
-    while to < input.len() {
-        if input[to] == b'\n' {
-            return to;
+impl State {
+    // Answers a line, of which the end alone may be left.
+    fn line(&mut self, bytes: &[u8], out: &mut Out) {
+        if self.long {
+            answers::answer_rest(bytes, out);
+        } else {
+            answers::answer(&mut self.map, bytes, out);
         }
-        to += 1;
+        self.long = false;
+        out.text(b"\n");
     }
-    to
-}
 
-// Answers a line, of which the end alone may be left.
-fn line(map: Opened, bytes: &[u8], long: bool, out: &mut Out) -> Opened
-    requires { Opens map }
-    ensures { Opens result }
-{
-    if long {
-        answers::answer_rest(bytes, out);
-        show::text(b"\n", out);
-        return map;
+    // Answers each whole line, and tells how many bytes these are.
+    fn whole_lines(&mut self, input: &[u8], out: &mut Out) -> usize
+        ensures { result ≤ length input.now }
+    {
+        let mut rest = input;
+        while let Some(end) = rest.iter().position(|byte| *byte == b'\n') {
+            self.line(&rest[..end], out);
+            rest = &rest[end + 1..];
+        }
+        input.len() - rest.len()
     }
-    let next = answers::answer(map, bytes, out);
-    show::text(b"\n", out);
-    next
-}
 
-// Answers each whole line; `held` is then where the rest starts.
-fn whole_lines(s: State, input: &[u8], out: &mut Out) -> State
-    requires { Opens s.map }
-    ensures { Opens result.map × (result.held ≤ length input.now) }
-{
-    let mut map = s.map;
-    let mut long = s.long;
-    let mut from = 0;
-    let mut to = line_end(input, from);
-    while to < input.len() {
-        map = line(map, &input[from..to], long, out);
-        long = false;
-        from = to + 1;
-        to = line_end(input, from);
-    }
-    State {
-        map: map,
-        held: from,
-        long: long,
-        ended: false,
-    }
-}
-
-// Moves the bytes between two places to the front, and counts them.
-fn to_front(input: &mut [u8], from: usize, to: usize) -> usize
-    requires { (from ≤ to) × (to ≤ length input.old) }
-{
-    let n = to - from;
-    let mut i = 0;
-    while i < n {
-        input[i] = input[from + i];
-        i += 1;
-    }
-    n
-}
-
-// A line that fills the buffer is no call: its bytes are shown and given up, and it is answered with `?` where it ends.
-fn with_room(s: State, input: &[u8], out: &mut Out) -> State
-    requires { Opens s.map }
-    ensures { Opens result.map × (result.held ≤ length input.now) }
-{
-    if s.held < input.len() {
-        return s;
-    }
-    show::text(input, out);
-    let mut next = s;
-    next.held = 0;
-    next.long = true;
-    next
-}
-
-// Reads once behind the held bytes, and tells where they then end. A read that fails leaves none of them: their line may be cut short.
-fn read_on(from: &mut Stdin, input: &mut [u8], held: usize) -> usize
-    requires { held ≤ length input.old }
-    ensures { result ≤ length input.new }
-{
-    match from.read(&mut input[held..]) {
-        Ok(got) => held + got,
-        Err(_) => 0,
-    }
-}
-
-// Reads once and answers the lines that are whole.
-fn turn(s: State, from: &mut Stdin, input: &mut [u8], out: &mut Out) -> State
-    requires { Opens s.map }
-    ensures { Opens result.map }
-{
-    let mut now = with_room(s, input, out);
-    let held = now.held;
-    let to = read_on(from, input, held);
-    if to <= held {
-        now.held = to;
-        now.ended = true;
-        return now;
-    }
-    let mut next = whole_lines(now, &input[..to], out);
-    let from = next.held;
-    next.held = to_front(input, from, to);
-    next
-}
-
-// Answers the last line, where its line end is missing.
-fn last_line(s: State, input: &[u8], out: &mut Out)
-    requires { Opens s.map }
-{
-    let held = s.held;
-    if held == 0 {
-        if !s.long {
-            return;
+    // A line that fills the buffer is no call: its bytes are shown and given up, and it is answered with `?` where it ends.
+    fn make_room(&mut self, input: &[u8], out: &mut Out)
+        ensures { self.new.held ≤ length input.now }
+    {
+        if input.len() <= self.held {
+            out.text(input);
+            self.held = 0;
+            self.long = true;
         }
     }
-    if held <= input.len() {
-        let map = s.map;
-        line(map, &input[..held], s.long, out);
+
+    // Reads once and answers the lines that are whole; false where the input has ended. A read that fails leaves none of the held bytes: their line may
+    // be cut short.
+    fn turn(&mut self, from: &mut Stdin, input: &mut [u8], out: &mut Out) -> bool {
+        self.make_room(input, out);
+        match from.read(&mut input[self.held..]) {
+            Ok(0) => false,
+            Ok(got) => {
+                let to = self.held + got;
+                let answered = self.whole_lines(&input[..to], out);
+                input[..to].rotate_left(answered);
+                self.held = to - answered;
+                true
+            }
+            Err(_) => {
+                self.held = 0;
+                false
+            }
+        }
+    }
+
+    // Answers the last line, where its line end is missing.
+    fn last_line(&mut self, input: &[u8], out: &mut Out) {
+        if 0 < self.held || self.long {
+            if let Some(bytes) = input.get(..self.held) {
+                self.line(bytes, out);
+            }
+        }
     }
 }
 
-// A proved loop has to end, and nothing says that an input does: the turns count down from a number that no run uses up. What a turn answers is
-// written before the next one reads, for whoever waits for it; where that fails, nobody does.
+// A proved loop has to end, and nothing says that an input does: the turns count up to a number that no run reaches. What a turn answers is written
+// before the next one reads, for whoever waits for it; where that fails, nobody does.
 fn run(from: &mut Stdin, input: &mut [u8], out: &mut Out) {
-    let map = fresh(1, 1);
-    let mut s = State {
-        map: map,
+    let mut state = State {
+        map: answers::smallest(),
         held: 0,
         long: false,
-        ended: false,
     };
-    let mut turns = u64::MAX;
-    while turns > 0 {
-        if s.ended {
-            break;
-        }
-        if out.has_failed() {
-            break;
-        }
-        s = turn(s, from, input, out);
+    for _ in 0..u64::MAX {
+        let goes_on = state.turn(from, input, out);
         out.flush();
-        turns -= 1;
+        if !goes_on || out.has_failed() {
+            break;
+        }
     }
     // The line that is held may go on behind what was read.
-    if out.has_failed() {
-        return;
+    if !out.has_failed() {
+        state.last_line(input, out);
+        out.flush();
     }
-    last_line(s, input, out);
-    out.flush();
 }
 
 fn main(rt: HostRuntime) -> io::Result<()> {

@@ -1,7 +1,7 @@
 // Answers as text, gathered in memory that goes to standard output when it is full, and when whoever waits is to see it.
 use crate::ROOM;
 use itoa::Buffer;
-use maps::{Shape, Weight, Weights};
+use maps::{Refusal, Shape, Weight, Weights};
 use std::io;
 use std::io::Print;
 use std::rt::Stdout;
@@ -44,79 +44,73 @@ impl Out {
     pub fn end(self) -> io::Result<()> {
         self.failed
     }
-}
 
-fn byte(x: u8, out: &mut Out) {
-    if out.bytes.len() <= out.at {
-        out.flush();
+    fn byte(&mut self, x: u8) {
+        if self.bytes.len() <= self.at {
+            self.flush();
+        }
+        let n = self.at;
+        if n < self.bytes.len() {
+            self.bytes[n] = x;
+            self.at = n + 1;
+        }
     }
-    let n = out.at;
-    if n < out.bytes.len() {
-        out.bytes[n] = x;
-        out.at = n + 1;
+
+    pub fn text(&mut self, bytes: &[u8]) {
+        for x in bytes {
+            self.byte(*x);
+        }
     }
-}
 
-pub fn text(bytes: &[u8], out: &mut Out) {
-    for x in bytes {
-        byte(*x, out);
+    // A blank and a number.
+    pub fn number(&mut self, n: usize) {
+        let mut digits = Buffer::new();
+        self.byte(b' ');
+        self.text(digits.format(n).as_bytes());
     }
-}
 
-// A blank and a number.
-pub fn number(n: usize, out: &mut Out) {
-    let mut digits = Buffer::new();
-    byte(b' ', out);
-    text(digits.format(n).as_bytes(), out);
-}
-
-// A blank and a coordinate: −1, or a number from 0 on.
-fn coordinate(n: i64, out: &mut Out) {
-    if n < 0 {
-        text(b" -1", out);
-        return;
+    // The number of an answer, 0 for a yes.
+    pub fn told<T>(&mut self, answer: &Result<T, Refusal>) {
+        self.text(b" =");
+        self.number(match answer {
+            Ok(_) => 0,
+            Err(refusal) => refusal.number(),
+        });
     }
-    number(n as usize, out);
-}
 
-fn triple(a: i64, b: i64, c: i64, out: &mut Out) {
-    coordinate(a, out);
-    coordinate(b, out);
-    coordinate(c, out);
-}
+    // A blank and a coordinate: −1, or a number from 0 on.
+    fn coordinate(&mut self, n: i64) {
+        match usize::try_from(n) {
+            Ok(n) => self.number(n),
+            Err(_) => self.text(b" -1"),
+        }
+    }
 
-pub fn shape(s: Shape, out: &mut Out) {
-    triple(s.l, s.m, s.r, out);
-    triple(s.b, s.n, s.t, out);
-}
+    pub fn shape(&mut self, s: &Shape) {
+        for n in [s.l, s.m, s.r, s.b, s.n, s.t] {
+            self.coordinate(n);
+        }
+    }
 
-fn weight(w: Weight, out: &mut Out) {
-    shape(w.blend, out);
-    number(w.numerator, out);
-    number(w.denominator, out);
-}
+    fn weight(&mut self, w: &Weight) {
+        self.shape(&w.blend);
+        self.number(w.numerator);
+        self.number(w.denominator);
+    }
 
-fn next_weight(w: Weight, out: &mut Out) {
-    text(b" ;", out);
-    weight(w, out);
-}
+    pub fn four(&mut self, weights: &Weights) {
+        for (i, w) in weights.entries.iter().enumerate() {
+            if 0 < i {
+                self.text(b" ;");
+            }
+            self.weight(w);
+        }
+    }
 
-pub fn four(w: Weights, out: &mut Out) {
-    let a = w.entries[0];
-    let b = w.entries[1];
-    let c = w.entries[2];
-    let d = w.entries[3];
-    weight(a, out);
-    next_weight(b, out);
-    next_weight(c, out);
-    next_weight(d, out);
-}
-
-// A byte as two hexadecimal digits.
-pub fn hex(x: u8, out: &mut Out) {
-    let digits = b"0123456789abcdef";
-    let high = (x / 16) as usize;
-    let low = (x % 16) as usize;
-    byte(digits[high], out);
-    byte(digits[low], out);
+    // A byte as two hexadecimal digits.
+    pub fn hex(&mut self, x: u8) {
+        let digits = b"0123456789abcdef";
+        self.byte(digits[usize::from(x / 16)]);
+        self.byte(digits[usize::from(x % 16)]);
+    }
 }

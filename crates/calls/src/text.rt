@@ -1,209 +1,118 @@
 // The text of calls: a word, then numbers, each behind one blank.
-ghost use Rattle.std.specs.Prelude.{◌≤◌, ◌<◌, length};
+ghost use Rattle.std.specs.Prelude.{◌<◌, IfSome};
+ghost use Rattle.std.specs.Iterator.{IsFinite};
 
-// What a line calls for.
+use mesh::Split;
+
+// What a line calls for, and with what. Another map comes as the hexadecimal digits of its file.
 #[derive(Clone, Copy)]
-pub enum Call {
-    History,
-    Set,
-    Split,
-    Place,
-    Reading,
-    Weights,
-    Row,
-    Column,
-    Same,
+pub enum Call<'a> {
+    History(usize, usize),
+    Set(usize, usize, u16),
+    Split(Split, usize),
+    Place(usize),
+    Reading(usize, usize),
+    Weights(usize, usize),
+    Row(usize, usize),
+    Column(usize, usize),
+    Same(&'a [u8]),
     File,
-    Unknown,
 }
 
-// The last five numbers of a line, the last in e; not `whole` where the line holds anything else.
-#[derive(Clone, Copy)]
-pub struct Five {
-    pub whole: bool,
-    pub a: usize,
-    pub b: usize,
-    pub c: usize,
-    pub d: usize,
-    pub e: usize,
-}
-
-// A number and the place after it; none where no digit stands there, or too many.
-#[derive(Clone, Copy)]
-pub struct Found {
-    pub some: bool,
-    pub value: usize,
-    pub next: usize,
-}
-
-// Whether the line begins with a word.
-pub fn begins(line: &[u8], word: &[u8]) -> bool {
-    if line.len() < word.len() {
-        return false;
-    }
-    let mut i = 0;
-    while i < word.len() {
-        if line[i] != word[i] {
-            return false;
-        }
-        i += 1;
-    }
-    true
-}
-
-// By the word that the line begins with; `file` stands alone.
-pub fn call_of(line: &[u8]) -> Call {
-    if begins(line, b"history") {
-        return Call::History;
-    }
-    if begins(line, b"set") {
-        return Call::Set;
-    }
-    if begins(line, b"split") {
-        return Call::Split;
-    }
-    if begins(line, b"place") {
-        return Call::Place;
-    }
-    if begins(line, b"reading") {
-        return Call::Reading;
-    }
-    if begins(line, b"weights") {
-        return Call::Weights;
-    }
-    if begins(line, b"row") {
-        return Call::Row;
-    }
-    if begins(line, b"column") {
-        return Call::Column;
-    }
-    if begins(line, b"same ") {
-        return Call::Same;
-    }
-    if line.len() == 4 {
-        if begins(line, b"file") {
-            return Call::File;
-        }
-    }
-    Call::Unknown
-}
-
-// The number behind a blank at a place, below ten to the ninth.
-pub fn number(line: &[u8], at: usize) -> Found {
-    let none = Found {
-        some: false,
-        value: 0,
-        next: 0,
-    };
-    if line.len() <= at {
-        return none;
-    }
-    if line[at] != b' ' {
-        return none;
-    }
-    let first = at + 1;
-    let mut value: usize = 0;
-    let mut i = first;
-    while i < line.len() {
-        let c = line[i];
-        if c < b'0' {
-            break;
-        }
-        if b'9' < c {
-            break;
-        }
-        if 99999999 < value {
-            return none;
-        }
-        value = value * 10 + digit(c);
-        i += 1;
-    }
-    Found {
-        some: first < i,
-        value: value,
-        next: i,
+impl<'a> Call<'a> {
+    // What a line calls for; none where it is no call.
+    pub fn parse(line: &'a [u8]) -> Option<Call<'a>> {
+        let mut words = line.split(|byte| *byte == b' ');
+        let call = match words.next()? {
+            b"history" => {
+                let [w, h] = numbers::<2, _>(&mut words)?;
+                Call::History(w, h)
+            }
+            b"set" => {
+                let [m, n, value] = numbers::<3, _>(&mut words)?;
+                Call::Set(m, n, u16::try_from(value).ok()?)
+            }
+            b"split" => {
+                let [direction, position, from, to, allowance] = numbers::<5, _>(&mut words)?;
+                let s = Split {
+                    direction,
+                    position,
+                    from,
+                    to,
+                };
+                Call::Split(s, allowance)
+            }
+            b"place" => {
+                let [place] = numbers::<1, _>(&mut words)?;
+                Call::Place(place)
+            }
+            b"reading" => {
+                let [u, v] = numbers::<2, _>(&mut words)?;
+                Call::Reading(u, v)
+            }
+            b"weights" => {
+                let [u, v] = numbers::<2, _>(&mut words)?;
+                Call::Weights(u, v)
+            }
+            b"row" => {
+                let [v, wanted] = numbers::<2, _>(&mut words)?;
+                Call::Row(v, wanted)
+            }
+            b"column" => {
+                let [u, wanted] = numbers::<2, _>(&mut words)?;
+                Call::Column(u, wanted)
+            }
+            b"same" => Call::Same(words.next()?),
+            b"file" => Call::File,
+            _ => return None,
+        };
+        words.next().is_none().then_some(call)
     }
 }
 
-// What a digit's byte counts.
-fn digit(c: u8) -> usize
-    ensures { result < 16 }
+// The next so many words as numbers.
+fn numbers<'a, const K: usize, I: Iterator<Item = &'a [u8]>>(words: &mut I) -> Option<[usize; K]>
+    requires { I.can_next words.old × IsFinite (I.remaining words.old) }
 {
-    (c % 16) as usize
-}
-
-// Exactly `count` numbers, at most five, from a place to the line's end.
-pub fn numbers(line: &[u8], at: usize, count: usize) -> Five {
-    let mut found = Five {
-        whole: false,
-        a: 0,
-        b: 0,
-        c: 0,
-        d: 0,
-        e: 0,
-    };
-    let mut next = at;
-    let mut i = 0;
-    while i < count {
-        let n = number(line, next);
-        if !n.some {
-            return found;
-        }
-        next = n.next;
-        found.a = found.b;
-        found.b = found.c;
-        found.c = found.d;
-        found.d = found.e;
-        found.e = n.value;
-        i += 1;
+    let mut found = [0; K];
+    for n in &mut found {
+        *n = number(words.next()?)?;
     }
-    found.whole = next == line.len();
-    found
+    Some(found)
 }
 
-// What a hexadecimal digit's byte counts; 16 where it is none.
-fn hex_digit(c: u8) -> u8
-    ensures { result < 17 }
+// The number of a word's digits, below ten to the ninth.
+fn number(word: &[u8]) -> Option<usize> {
+    let mut value = 0;
+    for byte in word {
+        if !byte.is_ascii_digit() || 99999999 < value {
+            return None;
+        }
+        value = value * 10 + usize::from(*byte - b'0');
+    }
+    (!word.is_empty()).then_some(value)
+}
+
+// What a hexadecimal digit's byte counts.
+fn hex_digit(byte: u8) -> Option<u8>
+    ensures { IfSome result (λ d. d < 16) }
 {
-    if c < b'0' {
-        return 16;
+    match byte {
+        b'0'..=b'9' => Some(byte - b'0'),
+        b'a'..=b'f' => Some(byte - b'a' + 10),
+        _ => None,
     }
-    if c <= b'9' {
-        return c - b'0';
-    }
-    if c < b'a' {
-        return 16;
-    }
-    if c <= b'f' {
-        return c - b'a' + 10;
-    }
-    16
 }
 
-// The bytes that the hexadecimal digits from a place to the line's end give, into a lent buffer, and how many: 0 where they are no bytes or too many.
-pub fn unhex(line: &[u8], at: usize, out: &mut [u8]) -> usize
-    ensures { result ≤ length out.new }
-{
-    let mut i = at;
-    let mut n = 0;
-    while i < line.len() {
-        if line.len() - i < 2 {
-            return 0;
-        }
-        if out.len() <= n {
-            return 0;
-        }
-        let high = hex_digit(line[i]);
-        let low = hex_digit(line[i + 1]);
-        if 15 < high {
-            return 0;
-        }
-        if 15 < low {
-            return 0;
-        }
-        out[n] = high * 16 + low;
-        n += 1;
-        i += 2;
+// The bytes that hexadecimal digits give, in the lent buffer; none where they give no bytes or too many.
+pub fn unhex<'a>(digits: &[u8], buffer: &'a mut [u8]) -> Option<&'a [u8]> {
+    let (pairs, rest) = digits.as_chunks::<2>();
+    if !rest.is_empty() {
+        return None;
     }
-    n
+    let bytes = buffer.get_mut(..pairs.len())?;
+    for (byte, [high, low]) in bytes.iter_mut().zip(pairs) {
+        *byte = hex_digit(*high)? * 16 + hex_digit(*low)?;
+    }
+    Some(bytes)
 }

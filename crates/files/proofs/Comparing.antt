@@ -11,7 +11,7 @@ use lib.ListN.{length, get_or, drop, length-drop, drop_of_length-le}
 use lib.Seq.{drop-cons, drop-drop}
 use Rattle.axis.specs.Range.{joined, agree}
 use Rattle.axis.proofs.Tests.{true_not_false, and_both, same_test, false_of}
-use Rattle.files.specs.File.{word}
+use Rattle.files.specs.File.{word, entry}
 use Rattle.files.specs.Inner.{begins}
 use Rattle.files.proofs.Words.{joined_length}
 
@@ -72,6 +72,22 @@ module _ (bytes : List ℕ) (at : ℕ) (words : List ℕ) where
 
     pub words_more : begins (drop (at + 2 * i) bytes) (word (get_or words i 0)) ≡ true → begins (drop (at + 2 * i) bytes) (joined word (drop i words)) ≡ others
     words_more t = words_turn i lt ∙ ap (λ (b : Bool). b && others) t
+
+-- a record: its length and kind stand there, and its payload decides
+module _ (bytes : List ℕ) (at kind : ℕ) (payload : List ℕ) where
+  abbrev front : List ℕ
+  front = word (2 + 2 * length payload) ++ word kind
+
+  pub front_room : at ≤ length bytes → begins (drop at bytes) front ≡ true → at + 4 ≤ length bytes
+  front_room le t = omega (arith, begins_long (drop at bytes) front t, length-drop at bytes)
+
+  pub front_stands : begins (drop at bytes) front ≡ true → begins (drop (at + 4) bytes) (joined word payload) ≡ begins (drop at bytes) (entry kind payload)
+  front_stands t =
+      let apart = begins_append (drop at bytes) front (joined word payload) in
+      sym (apart ∙ rw (t, drop-drop 4 at bytes))
+
+  pub front_fails : begins (drop at bytes) front ≡ false → false ≡ begins (drop at bytes) (entry kind payload)
+  front_fails f = sym (begins_append (drop at bytes) front (joined word payload) ∙ rw f)
 
 -- From a place on the bytes are to be a part of a file. They agree with it as far as `at`, and what is left of both decides.
 pub record Left (bytes : List ℕ) (from : ℕ) (part : List ℕ) (at : ℕ) (rest : List ℕ) : Type 0 where

@@ -22,7 +22,7 @@ use Rattle.axis.proofs.Entries.{taken_mem}
 use Rattle.axis.proofs.Beside.{beside_second}
 use Rattle.mesh.proofs.Ranges.{in_range_says}
 use Rattle.maps.specs.declared.Map.{Map}
-use Rattle.maps.specs.declared.Changed.{Changed}
+use Rattle.maps.specs.Outcomes.{Changed}
 use Rattle.maps.specs.Plain.{Plain, fresh_plain, blends}
 use Rattle.maps.specs.Values.{paired}
 use Rattle.maps.specs.Record.{is_zero, record_of, Held, plain, good}

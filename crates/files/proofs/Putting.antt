@@ -1,15 +1,16 @@
 -- Bytes put over others, one part after the other.
-use Prim.Native.Nat.{ℕ, ◌+◌, ◌*◌, ◌≤◌, ◌<◌}
+use Prim.Native.Nat.{ℕ, ◌+◌, ◌*◌, ◌/◌, ◌%◌, ◌≤◌, ◌<◌}
 use native.Mathlib.Omega.{arith}
+use native.Mathlib.Numerals.{add-one}
 use native.Mathlib.Nat.{add-zero, add_assoc, mul-le-mul_left}
-use mathlib.Core.Path.{◌≡◌, sym, ap, ◌∙◌}
-use mathlib.Core.List.{List, [], ◌++◌, append_assoc, append-nil}
-use lib.ListN.{length, take, drop, get_or, length-append, length-drop, take-append-drop}
-use lib.Seq.{length-take-le, take_all, take_at, drop_at, drop-drop}
+use mathlib.Core.Path.{◌≡◌, refl, sym, ap, ◌∙◌}
+use mathlib.Core.List.{List, [], ◌∷◌, ◌++◌, append_assoc, append-nil}
+use lib.ListN.{length, take, drop, get_or, set, length-append, length-drop, take-append-drop}
+use lib.Seq.{sets-eq, length-take-le, take_all, take_at, drop_at, drop-drop}
 use Rattle.axis.specs.Range.{joined}
 use Rattle.axis.proofs.Tests.{cond_true, cond_false}
 use borrow.Author.Tests.{le-leb, lt-leb}
-use Rattle.files.specs.File.{word, put, put_words}
+use Rattle.files.specs.File.{word, entry, put, put_words}
 use Rattle.files.proofs.Words.{joined_length}
 use Rattle.axis.proofs.Members.{joined_more}
 
@@ -37,6 +38,10 @@ pub put_then : (bytes : List ℕ) (at : ℕ) (xs ys : List ℕ) (n : ℕ) {betwe
     at + length xs ≡ n → n ≤ length bytes → after ≡ put bytes at (xs ++ ys)
 put_then bytes at xs ys n p q e room = q ∙ rw p (put_more bytes at xs (omega arith) ys n e)
 
+-- a number is put by a store of each of its bytes
+pub put_word : (bytes : List ℕ) (at n : ℕ) → at + 2 ≤ length bytes → set (set bytes at (n % 256)) (at + 1) (n / 256 % 256) ≡ put bytes at (word n)
+put_word bytes at n le = rw add-one (sets-eq (word n) bytes at le)
+
 -- numbers in a row, where they fit and where they do not
 module _ (bytes : List ℕ) (at : ℕ) (words : List ℕ) where
   pub words_fit : at + 2 * length words ≤ length bytes → put_words bytes at words ≡ put bytes at (joined word words)
@@ -46,6 +51,14 @@ module _ (bytes : List ℕ) (at : ℕ) (words : List ℕ) where
   pub words_not : length bytes < at + 2 * length words → bytes ≡ put_words bytes at words
   unfolding put_words
   words_not lt = sym (cond_false _ _ _ (lt-leb _ _ lt))
+
+-- a record: its length and kind, and then its payload
+pub put_record : (bytes : List ℕ) (at kind : ℕ) (payload : List ℕ) {between after : List ℕ} → at + (4 + 2 * length payload) ≤ length bytes →
+    between ≡ put_words bytes at ((2 + 2 * length payload) ∷ kind ∷ []) → after ≡ put_words between (at + 4) payload → length between ≡ length bytes →
+    after ≡ put bytes at (entry kind payload)
+put_record bytes at kind payload room p q same =
+    put_then bytes at (word (2 + 2 * length payload) ++ word kind) (joined word payload) (at + 4) (p ∙ words_fit bytes at _ (omega arith))
+    (q ∙ words_fit _ (at + 4) payload (omega arith)) refl (omega arith)
 
 -- Entries of one length, put in a row one by one:
 module _ {A : Type 0} (entry : A → List ℕ) (size : ℕ) (xs : List A) (before : List ℕ) (at : ℕ) where

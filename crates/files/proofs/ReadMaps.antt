@@ -12,11 +12,10 @@ use borrow.Author.Tests.{ltb-true, lt-ltb, leb-true}
 use Rattle.axis.specs.Range.{all}
 use Rattle.axis.proofs.Tests.{all_at, all_of, all_append, each_mem}
 use Rattle.axis.proofs.Padding.{padding_passes}
-use Rattle.maps.specs.declared.Changed.{Changed}
-use Rattle.maps.specs.declared.opened.Opened.{Opened}
+use Rattle.maps.specs.Outcomes.{Changed}
 use Rattle.maps.specs.Plain.{Plain, fresh_plain}
 use Rattle.maps.specs.Record.{is_mark, lines_of, record_of, Held, plain, good}
-use Rattle.maps.specs.Opened.{with_table, Opens}
+use Rattle.maps.specs.Opened.{table_of}
 use Rattle.maps.specs.Calls.{changed}
 use Rattle.maps.specs.Holds.{Holds}
 use Rattle.maps.proofs.Opening.{good_passes}
@@ -106,13 +105,6 @@ read_good bytes = let h = read_holds bytes in rw h.is (record_good h.holds).0
 pub map_held : (bytes : List ℕ) → Held (read_file bytes).map
 map_held bytes = let h = read_holds bytes in rw h.is (all_held h.holds h.small)
 
--- so it is an opened map.
-module _ (bytes : List ℕ) {file : Opened} (is : file ≡ with_table (read_file bytes)) where
-  pub read_opens : Opens file
-  read_opens = rw is (record { is_good = read_good bytes; is_table = refl })
-
-  pub read_map : GoodMap file.map file.table
-  read_map = opened_map read_opens (rw is (map_held bytes).full)
-
-  pub read_answer : changed file.number file.map ≡ read_file bytes
-  read_answer = ap (λ (o : Opened). changed o.number o.map) is
+-- so it has its table.
+pub read_map : (bytes : List ℕ) → GoodMap (read_file bytes).map (table_of (read_file bytes).map)
+read_map bytes = opened_map (record { is_good = read_good bytes; is_table = refl }) (map_held bytes).full

@@ -15,7 +15,7 @@ use Rattle.mesh.specs.Weight.{Term}
 use Rattle.axis.proofs.Tests.{either, and_both, and_of, false_of, cond_true, cond_false}
 use Rattle.axis.proofs.Beside.{beside_length, beside_seconds, beside_second, beside_firsts, beside_first}
 use Rattle.maps.specs.declared.Map.{Map}
-use Rattle.maps.specs.declared.Changed.{Changed}
+use Rattle.maps.specs.Outcomes.{Changed}
 use Rattle.maps.specs.Plain.{Plain, fresh_plain, blends}
 use Rattle.maps.specs.Values.{term, paired}
 use Rattle.maps.specs.Record.{lines_of, record_of, plain, good}

@@ -13,9 +13,10 @@ use Rattle.mesh.specs.declared.Table.{Table}
 use Rattle.mesh.specs.Sound.{table}
 use Rattle.axis.proofs.Tests.{either}
 use Rattle.maps.specs.declared.Map.{Map}
-use Rattle.maps.specs.Record.{is_mark, plain}
+use Rattle.maps.specs.declared.opened.Opened.{Opened}
+use Rattle.maps.specs.Record.{is_mark, Held, plain}
 use Rattle.mesh.proofs.BlendTables.{table_blends, table_count}
-use Rattle.maps.proofs.Changing.{GoodMap, live_table}
+use Rattle.maps.proofs.Changing.{GoodMap, opened_map, live_table}
 use Rattle.files.proofs.Filing.{ready}
 use Rattle.maps.proofs.Opening.{good_passes}
 use Rattle.files.proofs.Words as Words
@@ -23,9 +24,9 @@ use Rattle.files.proofs.ReadMaps.{read_good, map_held, read_map}
 use Rattle.maps.specs.Opened.{table_of}
 use Rattle.files.proofs.Terms.{InHand}
 use Rattle.files.proofs.TableLines.{text_from_most}
-use Rattle.files.specs.declared.Written.{Written}
+use Rattle.files.specs.Calls.{Written}
 use Rattle.files.specs.Calls.{read_file, short_of, counted, answered}
-use Rattle.files.specs.Inner.{text_from, Puts}
+use Rattle.files.specs.Inner.{text_from, text_in, Puts}
 use Rattle.files.specs.Listing.{table_text, largest_text, text_of, text_number, text_written, text_after}
 
 -- an opened map's table has the map's text
@@ -72,17 +73,14 @@ module _ (bytes out : List ℕ) where
       (either (leb 1 (text_number bytes out)))
 
 -- 65,536 bytes hold every text
-all_places : {m : Map} {t : Table} → GoodMap m t → length t.blends ≡ 1024
-unfolding table
-all_places g = rw (live_table g, length-append, length-replicate) (omega (arith, g.facts.is_short))
+map_most : {m : Map} {t : Table} → GoodMap m t → Held m → length (text_from t m.values m.marks) ≤ largest_text
+map_most {m} g h =
+    let marks = (good_passes m g.is_good).are_marks in
+    let low : (i : ℕ) → get_or m.marks i 0 ≤ 1 = λ i. leb-true _ 1 (Words.all_places is_mark refl m.marks marks i) in
+    text_from_most (ready g h.full).hand h.small (λ i. omega (arith, low i))
+
+pub opened_most : (o : Opened) → Held o.map → length (text_in o) ≤ largest_text
+opened_most o h = map_most (opened_map o.opens h.full) h
 
 pub text_most : (bytes : List ℕ) → length (text_of bytes) ≤ largest_text
-text_most bytes =
-    let g = read_map bytes refl in
-    let h = map_held bytes in
-    let marks = (good_passes (read_file bytes).map (read_good bytes)).are_marks in
-    let hand : InHand (table_of (read_file bytes).map) (read_file bytes).map.values (read_file bytes).map.marks =
-    record { ok = (ready g).well_formed; places = all_places g; full = h.full.values; full_marks = h.full.marks } in
-    let low : (i : ℕ) → get_or (read_file bytes).map.marks i 0 ≤ 1 =
-    λ i. leb-true _ 1 (Words.all_places is_mark refl (read_file bytes).map.marks marks i) in
-    rw (← opened_text g) (text_from_most hand h.small (λ i. omega (arith, low i)))
+text_most bytes = let g = read_map bytes in rw (← opened_text g) (map_most g (map_held bytes))

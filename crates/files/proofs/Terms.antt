@@ -14,7 +14,7 @@ use Rattle.maps.specs.declared.Map.{Map}
 use Rattle.maps.specs.Values.{term, paired}
 use Rattle.axis.proofs.Beside.{beside_length, beside_at}
 use Rattle.axis.proofs.Members.{entry}
-use Rattle.files.specs.Inner.{WellFormed, entry_of, entries_in}
+use Rattle.files.specs.Inner.{WellFormed, entry_of, no_entry, entries_in}
 use Rattle.files.specs.File.{put, head, split_entry, TableEntry, marked_entry, value_entry, tail}
 use Rattle.files.proofs.Words.{split_long, value_long, joined_length}
 use Rattle.files.proofs.Putting.{put_then}
@@ -28,9 +28,6 @@ pub record InHand (t : Table) (values marks : List ℕ) : Type 0 where
 
 abbrev marking : Term → ℕ → TableEntry
 marking t k = record { term = t; mark = k }
-
-abbrev pub no_entry : TableEntry
-no_entry = entry_of none 0 0
 
 module _ {t : Table} {values marks : List ℕ} (h : InHand t values marks) where
   blends_length : length (blends_of t) ≡ t.count

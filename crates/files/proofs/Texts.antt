@@ -9,7 +9,8 @@ use borrow.Author.Tests.{ltb-false, lt-ltb, le-ltb, eqb-true, eq-eqb}
 use lib.Dec.{ltb, eqb}
 use lib.ListN.{length, length-append}
 use Rattle.axis.proofs.Tests.{either, false_of}
-use Rattle.files.specs.Inner.{Puts}
+use Rattle.files.specs.declared.listing.Text.{Text}
+use Rattle.files.specs.Inner.{Puts, Room, Writes}
 use Rattle.files.specs.Listing.{digits_by, digits, coordinate}
 use Rattle.files.proofs.Putting.{put_then, put_length}
 
@@ -32,20 +33,39 @@ module _ (before : List ℕ) (at : ℕ) (xs ys : List ℕ) (room : at + length (
           ends = rw (q.ends, p.ends, length-append) (omega arith);
         }
 
--- The same of three texts.
-module _ (before : List ℕ) (at : ℕ) (xs ys zs : List ℕ) (room : at + length (xs ++ ys ++ zs) ≤ length before) where
-  pub two_room : at + length (xs ++ ys) ≤ length before
-  two_room = first_room before at (xs ++ ys) zs room
+-- The same of texts that are put into lent bytes.
+module _ (before : Text) (xs ys : List ℕ) (room : Room before (xs ++ ys)) where
+  pub text_first : Room before xs
+  text_first = first_room before.out.now before.at xs ys room
 
-  module _ {first second : List ℕ} {n o : ℕ} (p : Puts before at xs first n) (q : Puts first n ys second o) where
-    two : Puts before at (xs ++ ys) second o
-    two = puts_then before at xs ys two_room p q
+  module _ {between : Text} (p : Writes before xs between) where
+    pub text_next : Room between ys
+    text_next = next_room before.out.now before.at xs ys room p.puts
 
-    pub third_room : o + length zs ≤ length second
-    third_room = next_room before at (xs ++ ys) zs room two
+    pub text_then : {after : Text} → Writes between ys after → Writes before (xs ++ ys) after
+    text_then q = record { puts = puts_then before.out.now before.at xs ys room p.puts q.puts; same = q.same ∙ p.same }
 
-    pub puts_three : {third : List ℕ} {end : ℕ} → Puts second o zs third end → Puts before at (xs ++ ys ++ zs) third end
-    puts_three = puts_then before at (xs ++ ys) zs room two
+-- Three of them.
+module _ (before : Text) (xs ys zs : List ℕ) (room : Room before (xs ++ ys ++ zs)) where
+  front : Room before (xs ++ ys)
+  front = text_first before (xs ++ ys) zs room
+
+  pub first_of_three : Room before xs
+  first_of_three = text_first before xs ys front
+
+  module _ {first : Text} (p : Writes before xs first) where
+    pub second_of_three : Room first ys
+    second_of_three = text_next before xs ys front p
+
+    module _ {second : Text} (q : Writes first ys second) where
+      two : Writes before (xs ++ ys) second
+      two = text_then before xs ys front p q
+
+      pub third_of_three : Room second zs
+      third_of_three = text_next before (xs ++ ys) zs room two
+
+      pub writes_three : {third : Text} → Writes second zs third → Writes before (xs ++ ys ++ zs) third
+      writes_three = text_then before (xs ++ ys) zs room two
 
 -- more of a bound than a number needs gives no more digits
 enough : (f g n : ℕ) → n ≤ f → n ≤ g → digits_by f n ≡ digits_by g n

@@ -8,6 +8,8 @@ use mathlib.Core.List.{List}
 use borrow.Author.Tests.{leb-true, le-leb}
 use lib.Dec.{leb}
 use lib.ListN.{length, take, drop}
+use Rattle.std.specs.Prelude.{Some, None}
+use Rattle.std.proofs.lemmas.Option.{none-some, cond_some}
 use Rattle.axis.proofs.Tests.{either, and_both, false_of}
 use Rattle.files.specs.File.{word_at}
 use Rattle.files.specs.Calls.{whole, payload_number, payload_at}
@@ -36,23 +38,21 @@ module _ (bytes : List ℕ) (at : ℕ) where
   unfolding whole
   whole_of w = rw (le-leb (at + 2) (length bytes) w.start, le-leb 2 (word_at bytes at) w.size, le-leb _ _ w.end)
 
-  -- the length of the record, 0 where none is whole
-  pub size_none : (Whole bytes at → ⊥) → 0 ≡ cond (whole bytes at) (word_at bytes at) 0
+  -- the length of the record, none where none is whole
+  pub size_none : (Whole bytes at → ⊥) → None ≡ cond (whole bytes at) (Some (word_at bytes at)) None
   size_none f = let e : whole bytes at ≡ false = false_of _ (λ t. f (whole_says t)) in rw e
 
-  pub size_whole : Whole bytes at → (size : ℕ) → size ≡ word_at bytes at → size ≡ cond (whole bytes at) (word_at bytes at) 0
-  size_whole w size e = rw (whole_of w) e
+  pub size_whole : Whole bytes at → {size : ℕ} → size ≡ word_at bytes at → Some size ≡ cond (whole bytes at) (Some (word_at bytes at)) None
+  size_whole w e = rw (whole_of w, e)
 
-  pub no_size : (size : ℕ) → size ≡ cond (whole bytes at) (word_at bytes at) 0 → size ≡ 0 → whole bytes at ≡ false
-  no_size size e z =
-      false_of _ (λ t. let s : size ≡ word_at bytes at = rw t at e in let w = whole_says t in omega (arith, w.size))
+  pub no_size : None ≡ cond (whole bytes at) (Some (word_at bytes at)) None → whole bytes at ≡ false
+  no_size e = false_of _ (λ t. none-some _ (rw t at e))
 
-  pub some_size : (size : ℕ) → size ≡ cond (whole bytes at) (word_at bytes at) 0 → (size ≡ 0 → ⊥) → Sized bytes at size
-  some_size size e ne =
-      ⊎_elim (λ t. let s : size ≡ word_at bytes at = rw t at e in let w = whole_says t in
-      record { found = t; is = s; more = omega (arith, w.size); fits = omega (arith, w.end) })
-      (λ f. absurd (ne (rw f at e)))
-      (either (whole bytes at))
+  pub some_size : {size : ℕ} → Some size ≡ cond (whole bytes at) (Some (word_at bytes at)) None → Sized bytes at size
+  some_size e =
+      let p = cond_some _ _ _ (sym e) in
+      let w = whole_says p.0 in
+      record { found = p.0; is = sym p.1; more = omega (arith, w.size, p.1); fits = omega (arith, w.end, p.1) }
 
 -- the number of a payload tells whether a whole record is there
 module _ (bytes : List ℕ) (at n : ℕ) (is : n ≡ payload_number bytes at) where

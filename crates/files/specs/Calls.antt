@@ -2,11 +2,10 @@
 use Rattle.std.specs.Prelude.{ℕ, ◌+◌, ◌-◌, Bool, cond, ◌&&◌, not, List, [], ◌++◌, leb, ltb, eqb, length, take, drop}
 use Rattle.axis.specs.Range.{agree}
 use Rattle.maps.specs.declared.Map.{Map}
-use Rattle.maps.specs.declared.Changed.{Changed}
+use Rattle.maps.specs.Outcomes.{Changed}
 use Rattle.maps.specs.Plain.{fresh_plain}
 use Rattle.maps.specs.Record.{record_of, plain, good}
 use Rattle.maps.specs.Calls.{changed}
-use Rattle.files.specs.declared.Written.{Written}
 use Rattle.files.specs.File.{file_in, file_of, is_old, guessed, word_at}
 
 -- of two things, the one that stays after a refusal, and the one that an accepted call gives
@@ -20,6 +19,11 @@ short_of size buffer = cond (ltb (length buffer) size) 12 0
 -- "Bytes after a written file stay." A refusal "touches no lent byte": lent bytes with an answer put in front, or as they were.
 abbrev pub answered : ℕ → List ℕ → List ℕ → List ℕ
 answered number answer bytes = if_refused number bytes (answer ++ drop (length answer) bytes)
+
+-- a number, and how many bytes were written
+pub record Written : Type 0 where
+  pub number : ℕ
+  pub length : ℕ
 
 -- the number, and how many bytes the answer has; 0 on a refusal
 abbrev pub counted : ℕ → List ℕ → Written

@@ -10,7 +10,7 @@ use Rattle.maps.specs.Record.{record_of, plain}
 use Rattle.maps.specs.Histories.{Call, set, exactly, Answer, number, Outcome, outcome, by_library, outcomes, ending}
 use Rattle.maps.specs.Demand.{Start, left_by, DemandFrom, Demand3}
 use Rattle.maps.specs.ByMarks.{without_marks, but_marks}
-use Rattle.files.specs.declared.Written.{Written}
+use Rattle.files.specs.Calls.{Written}
 use Rattle.files.specs.File.{guessed}
 use Rattle.files.specs.Calls.{written, after, read_file, payload_number, payload_at}
 

@@ -1,5 +1,6 @@
 pub mod File
 pub mod Calls
+pub mod Told
 pub mod Accepted
 pub mod Inner
 pub mod FromFile

@@ -5,7 +5,7 @@ use Rattle.axis.specs.Range.{joined}
 use Rattle.maps.specs.Plain.{Plain, blends}
 use Rattle.maps.specs.Record.{plain}
 use Rattle.maps.specs.Values.{paired}
-use Rattle.files.specs.declared.Written.{Written}
+use Rattle.files.specs.Calls.{Written}
 use Rattle.files.specs.File.{TableEntry, entries_of}
 use Rattle.files.specs.Calls.{if_refused, short_of, answered, counted, read_file}
 

@@ -1,28 +1,19 @@
-// Numbers of 16 bits in bytes, and the walk from record to record.
-ghost use Rattle.std.specs.Prelude.{◌≡◌, ◌+◌, ◌≤◌, ◌<◌, length, drop, cond};
+// Numbers of 16 bits in bytes, the records that they make, and the walk from record to record.
+ghost use Rattle.std.specs.Prelude.{◌≡◌, Some, None, ◌+◌, ◌*◌, ◌≤◌, ◌<◌, length, drop, cond};
 ghost use Rattle.axis.specs.Range.{joined};
 ghost use Rattle.files.specs.Inner.{begins};
-ghost use Rattle.files.specs.File.{word, word_at, put, put_words};
+ghost use Rattle.files.specs.File.{word, word_at, entry, put, put_words};
 ghost use Rattle.files.specs.Calls.{whole, payload_number, payload_at};
+ghost use Rattle.files.specs.Told.{number_in, part_in};
+
+use maps::Refusal;
 
 // The number at a byte place.
-pub(crate) fn word_at(bytes: &[u8], at: usize) -> usize
+pub(crate) fn word_at(bytes: &[u8], at: usize) -> u16
     requires { at + 2 ≤ length bytes.now }
-    ensures { (result ≡ word_at bytes.now at) × (result < 65536) }
+    ensures { result ≡ word_at bytes.now at }
 {
-    wide(bytes[at]) + 256 * wide(bytes[at + 1])
-}
-
-pub(crate) fn wide(x: u8) -> usize
-    ensures { (result ≡ x) × (result < 256) }
-{
-    x as usize
-}
-
-pub(crate) fn litres(x: u16) -> usize
-    ensures { (result ≡ x) × (result < 65536) }
-{
-    x as usize
+    u16::from_le_bytes([bytes[at], bytes[at + 1]])
 }
 
 // Whether a number stands at a byte place.
@@ -30,92 +21,72 @@ fn has_word(bytes: &[u8], at: usize, n: usize) -> bool
     requires { at + 2 ≤ length bytes.now }
     ensures { result ≡ begins (drop at bytes.now) (word n) }
 {
-    if wide(bytes[at]) != n % 256 {
-        return false;
-    }
-    wide(bytes[at + 1]) == n / 256 % 256
+    usize::from(bytes[at]) == n % 256 && usize::from(bytes[at + 1]) == n / 256 % 256
 }
 
 // Whether numbers stand in a row from a byte place on.
-pub(crate) fn has_words(bytes: &[u8], at: usize, words: &[usize]) -> bool
+fn has_words(bytes: &[u8], at: usize, words: &[usize]) -> bool
     requires { at ≤ length bytes.now }
     ensures { result ≡ begins (drop at bytes.now) (joined word words.now) }
 {
-    let count = words.len();
-    if (bytes.len() - at) / 2 < count {
+    if (bytes.len() - at) / 2 < words.len() {
         return false;
     }
-    let mut i = 0;
-    while i < count {
-        let n = words[i];
+    for (i, &n) in words.iter().enumerate() {
         if !has_word(bytes, at + 2 * i, n) {
             return false;
         }
-        i += 1;
     }
     true
-}
-
-// Puts a number at a byte place.
-fn put_word(bytes: &mut [u8], at: usize, n: usize)
-    requires { at + 2 ≤ length bytes.old }
-    ensures { bytes.new ≡ put bytes.old at (word n) }
-{
-    bytes[at] = (n % 256) as u8;
-    bytes[at + 1] = (n / 256 % 256) as u8;
 }
 
 // Puts numbers in a row from a byte place on, where they fit.
 pub fn put_words(bytes: &mut [u8], at: usize, words: &[usize])
     ensures { bytes.new ≡ put_words bytes.old at words.now }
 {
-    let count = words.len();
-    if bytes.len() < at {
+    if bytes.len() < at || (bytes.len() - at) / 2 < words.len() {
         return;
     }
-    if (bytes.len() - at) / 2 < count {
-        return;
-    }
-    let mut i = 0;
-    while i < count {
-        let n = words[i];
-        put_word(bytes, at + 2 * i, n);
-        i += 1;
+    for (i, &n) in words.iter().enumerate() {
+        bytes[at + 2 * i] = (n % 256) as u8;
+        bytes[at + 2 * i + 1] = (n / 256 % 256) as u8;
     }
 }
 
-// The length of the whole record at a byte place; 0 where none is there.
-fn size_at(bytes: &[u8], at: usize) -> usize
-    ensures { result ≡ cond (whole bytes.now at) (word_at bytes.now at) 0 }
+// Whether a record of a kind with a payload stands at a byte place.
+pub(crate) fn has_entry(bytes: &[u8], at: usize, kind: usize, payload: &[usize]) -> bool
+    requires { (at ≤ length bytes.now) × (length payload.now ≤ 4) }
+    ensures { result ≡ begins (drop at bytes.now) (entry kind payload.now) }
 {
-    let length = bytes.len();
-    if length < 2 {
-        return 0;
-    }
-    if length - 2 < at {
-        return 0;
-    }
-    let size = word_at(bytes, at);
-    if size < 2 {
-        return 0;
-    }
-    if length - 2 - at < size {
-        return 0;
-    }
-    size
+    let front = [2 + 2 * payload.len(), kind];
+    has_words(bytes, at, &front) && has_words(bytes, at + 4, payload)
 }
 
-// The payload of the record at a byte place: that part of the bytes; an empty part, with 11, where no whole record is there.
-pub fn payload<'a>(bytes: &'a [u8], at: usize, number: &mut usize) -> &'a [u8]
-    ensures { (result.now ≡ payload_at bytes.now at) × (number.new ≡ payload_number bytes.now at) }
+// Puts a record of a kind with a payload.
+pub(crate) fn put_entry(bytes: &mut [u8], at: usize, kind: usize, payload: &[usize])
+    requires { at + (4 + 2 * length payload.now) ≤ length bytes.old }
+    ensures { bytes.new ≡ put bytes.old at (entry kind payload.now) }
 {
-    let size = size_at(bytes, at);
-    if size == 0 {
-        *number = 11;
-        return &bytes[0..0];
-    }
-    *number = 0;
+    let front = [2 + 2 * payload.len(), kind];
+    put_words(bytes, at, &front);
+    put_words(bytes, at + 4, payload);
+}
+
+// The length of the whole record at a byte place.
+fn size_at(bytes: &[u8], at: usize) -> Option<usize>
+    ensures { result ≡ cond (whole bytes.now at) (Some (word_at bytes.now at)) None }
+{
+    let room = bytes.len().checked_sub(2)?.checked_sub(at)?;
+    let size = usize::from(word_at(bytes, at));
+    if 2 <= size && size <= room { Some(size) } else { None }
+}
+
+// The payload of the record at a byte place: that part of the bytes; refused with 11 where no whole record is there.
+pub fn payload<'a>(bytes: &'a [u8], at: usize) -> Result<&'a [u8], Refusal>
+    ensures { (part_in result ≡ payload_at bytes.now at) × (number_in result ≡ payload_number bytes.now at) }
+{
+    let size = size_at(bytes, at).ok_or(Refusal::NoFile)?;
     let from = at + 4;
     let to = at + 2 + size;
-    &bytes[from..to]
+    Ok(&bytes[from..to])
 }

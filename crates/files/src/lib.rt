@@ -4,24 +4,22 @@
 
 pub mod bytes;
 mod compare;
+mod entries;
 pub mod listing;
-mod put;
 mod take;
 
 ghost use Rattle.std.specs.Prelude.{◌≡◌};
-ghost use Rattle.maps.specs.Plain.{fresh_plain};
-ghost use Rattle.maps.specs.Record.{record_of};
-ghost use Rattle.maps.specs.Calls.{changed};
-ghost use Rattle.maps.specs.Opened.{with_table, Opens};
+ghost use Rattle.maps.specs.Told.{made, made_opened};
 ghost use Rattle.files.specs.File.{value_size};
 ghost use Rattle.files.specs.Calls.{written, after, read_file};
+ghost use Rattle.files.specs.Told.{written_as};
 
-use crate::bytes::{litres, put_words, wide};
+use crate::bytes::put_entry;
 use crate::compare::is_file;
-use crate::put::{put_split, put_value};
+use crate::entries::{Entry, drawn, numbers};
 use crate::take::{count_splits, is_old, taken};
-use maps::opened::{Opened, fresh, open};
-use maps::{Changed, Map};
+use maps::opened::Opened;
+use maps::{Map, Refusal};
 use mesh::Table;
 
 // The bytes of a record of each kind, its length and kind among them, of a value with its mark and, in an old file, without; of the head and the tail
@@ -40,135 +38,68 @@ pub(crate) const ENDS: usize = HEAD + TAIL;
 
 pub const LARGEST_FILE: usize = ENDS + SPLIT * Map::MOST_SPLITS + VALUE * Table::MOST_BLENDS;
 
-// A number, and how many bytes were written.
-#[derive(Clone, Copy)]
-pub struct Written {
-    pub number: usize,
-    pub length: usize,
-}
-
-// Writes a map's file into a lent buffer: refused with 2 or 12.
-pub fn write(map: Map, buffer: &mut [u8]) -> Written
-    ensures { (result ≡ written map buffer.old) × (buffer.new ≡ after map buffer.old) }
+// Writes a map's file into a lent buffer, and tells how many bytes it has: refused with 2 or 12.
+pub fn write(map: &Map, buffer: &mut [u8]) -> Result<usize, Refusal>
+    ensures { (written_as result ≡ written map.now buffer.old) × (buffer.new ≡ after map.now buffer.old) }
 {
-    let opened = open(map);
-    if opened.number != 0 {
-        return Written {
-            number: 2,
-            length: 0,
-        };
-    }
-    write_opened(opened, buffer)
+    write_opened(&Opened::open(map)?, buffer)
 }
 
 // The bytes of a value's record in an old file, or in another.
 pub(crate) fn value_size(old: bool) -> usize
     ensures { result ≡ value_size old }
 {
-    if old {
-        return OLD_VALUE;
-    }
-    VALUE
+    if old { OLD_VALUE } else { VALUE }
 }
 
-// The rest of `write`, after the record is opened. It takes `o` apart itself: each array that is passed on by value is copied again.
-pub fn write_opened(o: Opened, buffer: &mut [u8]) -> Written
-    requires { Opens o }
-    ensures { (result ≡ written o.map buffer.old) × (buffer.new ≡ after o.map buffer.old) }
+// The rest of `write`, after the record is opened.
+pub fn write_opened(o: &Opened, buffer: &mut [u8]) -> Result<usize, Refusal>
+    ensures { (written_as result ≡ written o.now.map buffer.old) × (buffer.new ≡ after o.now.map buffer.old) }
 {
-    let length = ENDS + SPLIT * o.map.lines.count + VALUE * o.table.count;
+    let splits = drawn(o);
+    let length = ENDS + SPLIT * splits.len() + VALUE * o.table.count;
     if buffer.len() < length {
-        return Written {
-            number: 12,
-            length: 0,
-        };
+        return Err(Refusal::ShortBuffer);
     }
-    // The borrow checker covers an element of a local's field, not of a field of a field.
-    let lines = o.map.lines;
-    let values = o.map.values;
-    let marks = o.map.marks;
-    let table = o.table;
-    let head = [6, 1, lines.w, lines.h];
-    put_words(buffer, 0, &head);
-    let mut i = 0;
-    while i < lines.count {
-        let split = lines.splits[i];
-        put_split(buffer, HEAD + SPLIT * i, split);
-        i += 1;
+    put_entry(buffer, 0, 1, &[o.map.lines.w, o.map.lines.h]);
+    for (i, split) in splits.iter().enumerate() {
+        put_entry(buffer, HEAD + SPLIT * i, 2, &numbers(split));
     }
-    let at = HEAD + SPLIT * lines.count;
-    let mut j = 0;
-    while j < table.count {
-        let blend = table.blends[j];
-        let value = litres(values[j]);
-        let mark = wide(marks[j]);
-        put_value(
-            buffer,
-            at + VALUE * j,
-            blend.across.m - 1,
-            blend.up.m - 1,
-            value,
-            mark,
-        );
-        j += 1;
+    let at = HEAD + SPLIT * splits.len();
+    for j in 0..o.table.count {
+        Entry::at(o, j).put(buffer, at + VALUE * j);
     }
-    let end = at + VALUE * table.count;
-    let last = [2, 4];
-    put_words(buffer, end, &last);
-    Written {
-        number: 0,
-        length: length,
-    }
-}
-
-// The fresh 1 by 1 map, opened, with 11.
-fn refused() -> Opened
-    ensures { result ≡ with_table (changed 11 (record_of (fresh_plain 1 1))) }
-{
-    let mut opened = fresh(1, 1);
-    opened.number = 11;
-    opened
+    put_entry(buffer, at + VALUE * o.table.count, 4, &[]);
+    Ok(length)
 }
 
 // The map whose file, or old file, the bytes are: refused with 11.
-pub fn read(bytes: &[u8]) -> Changed
-    ensures { result ≡ read_file bytes.now }
+pub fn read(bytes: &[u8]) -> Result<Map, Refusal>
+    ensures { made result ≡ read_file bytes.now }
 {
-    let file = read_opened(bytes);
-    let map = file.map;
-    Changed {
-        number: file.number,
-        map: map,
-    }
+    Ok(read_opened(bytes)?.map)
 }
 
 // `read`, with the map opened, so that its record is not replayed again for a call on it. The numbers at a file's places make a
 // map; the bytes are its file, in the form that their first value has, where they agree with it entry by entry.
-pub fn read_opened(bytes: &[u8]) -> Opened
-    ensures { result ≡ with_table (read_file bytes.now) }
+pub fn read_opened(bytes: &[u8]) -> Result<Opened, Refusal>
+    ensures { made_opened result ≡ read_file bytes.now }
 {
-    let length = bytes.len();
-    if length < ENDS {
-        return refused();
-    }
     let count = count_splits(bytes);
-    let used = ENDS + SPLIT * count;
-    if length < used {
-        return refused();
-    }
+    let Some(room) = bytes.len().checked_sub(ENDS + SPLIT * count) else {
+        return Err(Refusal::NoFile);
+    };
     let old = is_old(bytes, count);
-    let size = value_size(old);
-    let places = (length - used) / size;
+    let places = room / value_size(old);
     if Table::MOST_BLENDS < places {
-        return refused();
+        return Err(Refusal::NoFile);
     }
-    let map = taken(bytes, count, places, old, size);
-    let opened = open(map);
-    if opened.number != 0 {
-        return refused();
+    let map = taken(bytes, count, places, old);
+    let Ok(opened) = Opened::open(&map) else {
+        return Err(Refusal::NoFile);
+    };
+    if !is_file(bytes, &opened, old) {
+        return Err(Refusal::NoFile);
     }
-    if !is_file(bytes, opened, old) {
-        return refused();
-    }
-    opened
+    Ok(opened)
 }

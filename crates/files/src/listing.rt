@@ -1,220 +1,178 @@
 // The table of a map file as text: what the table program prints.
-ghost use Rattle.std.specs.Prelude.{◌≡◌, [], ◌∷◌, ◌+◌, ◌%◌, ◌≤◌, ◌<◌, leb, length};
-ghost use Rattle.mesh.specs.Sound.{Proper};
-ghost use Rattle.maps.specs.Record.{plain};
-ghost use Rattle.maps.specs.Opened.{Opens};
-ghost use Rattle.files.specs.Inner.{WellFormed, Puts, entry_of, text_from};
-ghost use Rattle.files.specs.Calls.{short_of, counted, answered};
-ghost use Rattle.files.specs.Listing.{digits, coordinate, spaced, number_line, knots, value_line, line, table_text, text_written, text_after};
+ghost use Rattle.std.specs.Prelude.{◌≡◌, [], ◌∷◌, ◌≤◌, leb, length};
+ghost use Rattle.maps.specs.Record.{Held};
+ghost use Rattle.files.specs.Inner.{Puts, Room, Writes, told, text_in};
+ghost use Rattle.files.specs.Listing.{digits, coordinate, spaced, number_line, knots, value_line, line, text_written, text_after};
+ghost use Rattle.files.specs.Told.{written_as};
 
-use crate::bytes::{litres, wide};
-use crate::{Written, read_opened};
-use axis::{Triple, knots};
+use crate::entries::Entry;
+use crate::read_opened;
+use axis::Triple;
+use maps::Refusal;
 use maps::opened::Opened;
-use mesh::{Blend, Table};
 
 // This many bytes hold every text, and this many every line.
 pub const LARGEST_TEXT: usize = 65536;
 
 const LONGEST_LINE: usize = 46;
 
-// The byte of a number's last digit.
-fn digit(n: usize) -> u8
-    ensures { result ≡ 48 + n % 10 }
-{
-    (48 + n % 10) as u8
+// Lent bytes, and where the next byte of a text goes.
+#[derive(Drop)]
+struct Text<'a> {
+    out: &'a mut [u8],
+    at: usize,
 }
 
-// Puts a byte. Each function here that puts a text returns the place after it.
-fn put_byte(out: &mut [u8], at: usize, byte: u8) -> usize
-    requires { at + 1 ≤ length out.old }
-    ensures { Puts out.old at (byte ∷ []) out.new result }
-{
-    out[at] = byte;
-    at + 1
-}
-
-// Puts a number in base ten.
-fn put_digits(out: &mut [u8], at: usize, n: usize) -> usize
-    requires { at + length (digits n) ≤ length out.old }
-    ensures { Puts out.old at (digits n) out.new result }
-{
-    let byte = digit(n);
-    if n < 10 {
-        return put_byte(out, at, byte);
+impl Text<'_> {
+    fn byte(&mut self, byte: u8)
+        requires { Room self.old (byte ∷ []) }
+        ensures { Writes self.old (byte ∷ []) self.new }
+    {
+        self.out[self.at] = byte;
+        self.at += 1;
     }
-    let last = put_digits(out, at, n / 10);
-    put_byte(out, last, byte)
-}
 
-// Puts a number and the end of its line.
-fn put_number_line(out: &mut [u8], at: usize, n: usize) -> usize
-    requires { at + length (number_line n) ≤ length out.old }
-    ensures { Puts out.old at (number_line n) out.new result }
-{
-    let end = put_digits(out, at, n);
-    put_byte(out, end, b'\n')
-}
-
-// Puts the coordinate of a knot.
-fn put_coordinate(out: &mut [u8], at: usize, knot: u8) -> usize
-    requires { at + length (coordinate knot) ≤ length out.old }
-    ensures { Puts out.old at (coordinate knot) out.new result }
-{
-    if knot == 0 {
-        let next = put_byte(out, at, b'-');
-        return put_byte(out, next, b'1');
+    // A number in base ten.
+    fn digits(&mut self, n: usize)
+        requires { Room self.old (digits n) }
+        ensures { Writes self.old (digits n) self.new }
+    {
+        if 10 <= n {
+            self.digits(n / 10);
+        }
+        self.byte(b'0' + (n % 10) as u8);
     }
-    put_digits(out, at, knots::wide(knot - 1))
-}
 
-// Puts the coordinate of a knot and a blank.
-fn put_spaced(out: &mut [u8], at: usize, knot: u8) -> usize
-    requires { at + length (spaced knot) ≤ length out.old }
-    ensures { Puts out.old at (spaced knot) out.new result }
-{
-    let end = put_coordinate(out, at, knot);
-    put_byte(out, end, b' ')
-}
-
-// Puts the coordinates of a triple, a blank after each.
-fn put_knots(out: &mut [u8], at: usize, triple: Triple) -> usize
-    requires { at + length (knots triple) ≤ length out.old }
-    ensures { Puts out.old at (knots triple) out.new result }
-{
-    let second = put_spaced(out, at, triple.l);
-    let third = put_spaced(out, second, triple.m);
-    put_spaced(out, third, triple.r)
-}
-
-// Puts a value, its mark and the end of their line.
-fn put_value_line(out: &mut [u8], at: usize, value: usize, mark: usize) -> usize
-    requires { at + length (value_line value mark) ≤ length out.old }
-    ensures { Puts out.old at (value_line value mark) out.new result }
-{
-    let second = put_digits(out, at, value);
-    let third = put_byte(out, second, b' ');
-    put_number_line(out, third, mark)
-}
-
-// Puts the line of a blend, its value and its mark.
-fn put_line(out: &mut [u8], at: usize, blend: Blend, value: usize, mark: usize) -> usize
-    requires { at + length (line (entry_of blend value mark)) ≤ length out.old }
-    ensures { Puts out.old at (line (entry_of blend value mark)) out.new result }
-{
-    let across = blend.across;
-    let up = blend.up;
-    let second = put_knots(out, at, across);
-    let third = put_knots(out, second, up);
-    put_value_line(out, third, value, mark)
-}
-
-// Puts the number of a table's blends, then a line for each.
-fn put_table(
-    out: &mut [u8],
-    table: Table,
-    values: [u16; Table::MOST_BLENDS],
-    marks: [u8; Table::MOST_BLENDS],
-) -> usize
-    requires { WellFormed table × (length (text_from table values marks) ≤ length out.old) }
-    ensures { Puts out.old 0 (text_from table values marks) out.new result }
-{
-    let count = table.count;
-    let mut at = put_number_line(out, 0, count);
-    let mut i = 0;
-    while i < count {
-        let blend = table.blends[i];
-        let value = litres(values[i]);
-        let mark = wide(marks[i]);
-        at = put_line(out, at, blend, value, mark);
-        i += 1;
+    // A number and the end of its line.
+    fn number_line(&mut self, n: usize)
+        requires { Room self.old (number_line n) }
+        ensures { Writes self.old (number_line n) self.new }
+    {
+        self.digits(n);
+        self.byte(b'\n');
     }
-    at
+
+    // The coordinate of a knot.
+    fn coordinate(&mut self, knot: u8)
+        requires { Room self.old (coordinate knot) }
+        ensures { Writes self.old (coordinate knot) self.new }
+    {
+        if knot == 0 {
+            self.byte(b'-');
+            self.byte(b'1');
+            return;
+        }
+        self.digits(usize::from(knot - 1));
+    }
+
+    // The coordinate of a knot and a blank.
+    fn spaced(&mut self, knot: u8)
+        requires { Room self.old (spaced knot) }
+        ensures { Writes self.old (spaced knot) self.new }
+    {
+        self.coordinate(knot);
+        self.byte(b' ');
+    }
+
+    // The coordinates of a triple, a blank after each.
+    fn knots(&mut self, triple: Triple)
+        requires { Room self.old (knots triple) }
+        ensures { Writes self.old (knots triple) self.new }
+    {
+        self.spaced(triple.l);
+        self.spaced(triple.m);
+        self.spaced(triple.r);
+    }
+
+    // A value, its mark and the end of their line.
+    fn value_line(&mut self, value: usize, mark: usize)
+        requires { Room self.old (value_line value mark) }
+        ensures { Writes self.old (value_line value mark) self.new }
+    {
+        self.digits(value);
+        self.byte(b' ');
+        self.number_line(mark);
+    }
+
+    // The line of a table entry.
+    fn line(&mut self, entry: Entry)
+        requires { Room self.old (line (told entry)) }
+        ensures { Writes self.old (line (told entry)) self.new }
+    {
+        self.knots(entry.blend.across);
+        self.knots(entry.blend.up);
+        self.value_line(usize::from(entry.value), usize::from(entry.mark));
+    }
+
+    // The number of an opened map's blends, then a line for each.
+    fn table(&mut self, o: &Opened)
+        requires { Held o.now.map × Room self.old (text_in o.now) }
+        ensures { Writes self.old (text_in o.now) self.new }
+    {
+        self.number_line(o.table.count);
+        for i in 0..o.table.count {
+            self.line(Entry::at(o, i));
+        }
+    }
 }
 
-// How many bytes the line of a blend, its value and its mark has: it is put into bytes of its own.
-fn line_size(blend: Blend, value: usize, mark: usize) -> usize
-    requires { Proper blend × (value < 65536) × (mark < 256) }
-    ensures { result ≡ length (line (entry_of blend value mark)) }
+// How many bytes the line of a table entry has: it is put into bytes of its own.
+fn line_size(entry: Entry) -> usize
+    ensures { result ≡ length (line (told entry)) }
 {
     let mut bytes = [0u8; LONGEST_LINE];
-    put_line(&mut bytes, 0, blend, value, mark)
+    let mut text = Text {
+        out: &mut bytes,
+        at: 0,
+    };
+    text.line(entry);
+    text.at
 }
 
-// How many bytes the text of a table has.
-fn text_size(
-    table: Table,
-    values: [u16; Table::MOST_BLENDS],
-    marks: [u8; Table::MOST_BLENDS],
-) -> usize
-    requires { WellFormed table }
-    ensures { result ≡ length (text_from table values marks) }
+// How many bytes the text of an opened map has.
+fn text_size(o: &Opened) -> usize
+    requires { Held o.now.map }
+    ensures { result ≡ length (text_in o.now) }
 {
-    let count = table.count;
     let mut bytes = [0u8; LONGEST_LINE];
-    let mut size = put_number_line(&mut bytes, 0, count);
-    let mut i = 0;
-    while i < count {
-        let blend = table.blends[i];
-        let value = litres(values[i]);
-        let mark = wide(marks[i]);
-        size += line_size(blend, value, mark);
-        i += 1;
+    let mut text = Text {
+        out: &mut bytes,
+        at: 0,
+    };
+    text.number_line(o.table.count);
+    let mut size = text.at;
+    for i in 0..o.table.count {
+        size += line_size(Entry::at(o, i));
     }
     size
 }
 
-// Whether so many bytes hold the text of a table. It is measured only where they may be too few.
-fn fits(
-    table: Table,
-    values: [u16; Table::MOST_BLENDS],
-    marks: [u8; Table::MOST_BLENDS],
-    room: usize,
-) -> bool
-    requires { WellFormed table }
-    ensures { result ≡ leb (length (text_from table values marks)) room }
+// Whether so many bytes hold the text of an opened map. It is measured only where they may be too few.
+fn fits(o: &Opened, room: usize) -> bool
+    requires { Held o.now.map }
+    ensures { result ≡ leb (length (text_in o.now)) room }
 {
     let enough = LARGEST_TEXT;
-    if enough <= room {
-        return true;
-    }
-    text_size(table, values, marks) <= room
+    enough <= room || text_size(o) <= room
 }
 
-// The rest of `list`, on the map that is read.
-fn list_opened(o: Opened, out: &mut [u8]) -> Written
-    requires { Opens o }
-    ensures { let text = table_text (plain o.map) in let n = short_of (length text) out.old in
-        (result ≡ counted n text) × (out.new ≡ answered n text out.old) }
+// Puts the text of an opened map in front of lent bytes, and tells how many it has.
+fn put_table(out: &mut [u8], o: &Opened) -> usize
+    requires { Held o.now.map × (length (text_in o.now) ≤ length out.old) }
+    ensures { Puts out.old 0 (text_in o.now) out.new result }
 {
-    let map = o.map;
-    let values = map.values;
-    let marks = map.marks;
-    let table = o.table;
-    if !fits(table, values, marks, out.len()) {
-        return Written {
-            number: 12,
-            length: 0,
-        };
-    }
-    let length = put_table(out, table, values, marks);
-    Written {
-        number: 0,
-        length: length,
-    }
+    let mut text = Text { out, at: 0 };
+    text.table(o);
+    text.at
 }
 
-// Writes the table of a map file as text into a lent buffer: refused with 11 or 12.
-pub fn list(bytes: &[u8], out: &mut [u8]) -> Written
-    ensures { (result ≡ text_written bytes.now out.old) ×
-        (out.new ≡ text_after bytes.now out.old) }
+// Writes the table of a map file as text into a lent buffer, and tells how many bytes it has: refused with 11 or 12.
+pub fn list(bytes: &[u8], out: &mut [u8]) -> Result<usize, Refusal>
+    ensures { (written_as result ≡ text_written bytes.now out.old) × (out.new ≡ text_after bytes.now out.old) }
 {
-    let file = read_opened(bytes);
-    if file.number != 0 {
-        return Written {
-            number: file.number,
-            length: 0,
-        };
+    let o = read_opened(bytes)?;
+    if !fits(&o, out.len()) {
+        return Err(Refusal::ShortBuffer);
     }
-    list_opened(file, out)
+    Ok(put_table(out, &o))
 }

@@ -6,7 +6,7 @@ ghost use Rattle.maps.specs.Record.{no_split, record_of};
 ghost use Rattle.files.specs.File.{head_size, split_size, value_size, ends_size, word_at, split_count, split_at, is_old, guessed};
 
 use crate::bytes::word_at;
-use crate::{HEAD, SPLIT, VALUE};
+use crate::{HEAD, SPLIT, VALUE, value_size};
 use maps::Map;
 use mesh::{Lines, Split, Table};
 
@@ -14,19 +14,13 @@ use mesh::{Lines, Split, Table};
 pub(crate) fn count_splits(bytes: &[u8]) -> usize
     ensures { result ≡ split_count bytes.now head_size most_splits }
 {
-    let length = bytes.len();
-    let mut n = 0;
-    while n < Map::MOST_SPLITS {
+    for n in 0..Map::MOST_SPLITS {
         let at = HEAD + SPLIT * n;
-        if length < at + SPLIT {
+        if bytes.len() < at + SPLIT || word_at(bytes, at + 2) != 2 {
             return n;
         }
-        if word_at(bytes, at + 2) != 2 {
-            return n;
-        }
-        n += 1;
     }
-    n
+    Map::MOST_SPLITS
 }
 
 // Whether the first record after the splits is a value without a mark, as in an old file.
@@ -43,10 +37,10 @@ fn split_at(bytes: &[u8], at: usize) -> Split
     ensures { result ≡ split_at bytes.now at }
 {
     Split {
-        direction: word_at(bytes, at + 4),
-        position: word_at(bytes, at + 6),
-        from: word_at(bytes, at + 8),
-        to: word_at(bytes, at + 10),
+        direction: usize::from(word_at(bytes, at + 4)),
+        position: usize::from(word_at(bytes, at + 6)),
+        from: usize::from(word_at(bytes, at + 8)),
+        to: usize::from(word_at(bytes, at + 10)),
     }
 }
 
@@ -62,24 +56,21 @@ fn take_splits(bytes: &[u8], count: usize) -> [Split; Map::MOST_SPLITS]
         to: 0,
     };
     let mut splits = [none; Map::MOST_SPLITS];
-    let mut i = 0;
-    while i < count {
+    for i in 0..count {
         splits[i] = split_at(bytes, HEAD + SPLIT * i);
-        i += 1;
     }
     splits
 }
 
-// The values of entries of one size that stand in a row from a place on, in an array.
-fn take_values(bytes: &[u8], at: usize, count: usize, size: usize) -> [u16; Table::MOST_BLENDS]
-    requires { (count ≤ most_blends) × (10 ≤ size) × (at + size * count ≤ length bytes.now) }
-    ensures { result ≡ each 0 count (λ i. word_at bytes.now (at + size * i + 8) ∷ []) ++ replicate (most_blends - count) 0 }
+// The values of entries of one form that stand in a row from a place on, in an array.
+fn take_values(bytes: &[u8], at: usize, count: usize, old: bool) -> [u16; Table::MOST_BLENDS]
+    requires { (count ≤ most_blends) × (at + value_size old * count ≤ length bytes.now) }
+    ensures { result ≡ each 0 count (λ i. word_at bytes.now (at + value_size old * i + 8) ∷ []) ++ replicate (most_blends - count) 0 }
 {
+    let size = value_size(old);
     let mut values = [0u16; Table::MOST_BLENDS];
-    let mut i = 0;
-    while i < count {
-        values[i] = word_at(bytes, at + size * i + 8) as u16;
-        i += 1;
+    for i in 0..count {
+        values[i] = word_at(bytes, at + size * i + 8);
     }
     values
 }
@@ -91,37 +82,29 @@ fn take_marks(bytes: &[u8], at: usize, count: usize, old: bool) -> [u8; Table::M
         replicate (most_blends - count) 0 }
 {
     let mut marks = [0u8; Table::MOST_BLENDS];
-    if old {
-        return marks;
-    }
-    let mut i = 0;
-    while i < count {
-        marks[i] = bytes[at + VALUE * i + 10];
-        i += 1;
+    if !old {
+        for i in 0..count {
+            marks[i] = bytes[at + VALUE * i + 10];
+        }
     }
     marks
 }
 
 // The map that the numbers at a file's places make.
-pub(crate) fn taken(bytes: &[u8], count: usize, places: usize, old: bool, size: usize) -> Map
-    requires { (count ≡ split_count bytes.now head_size most_splits) × (places ≡ (length bytes.now - ends_size - split_size * count) / size) ×
-        (places ≤ most_blends) × (ends_size + split_size * count ≤ length bytes.now) × (old ≡ is_old bytes.now) × (size ≡ value_size old) }
+pub(crate) fn taken(bytes: &[u8], count: usize, places: usize, old: bool) -> Map
+    requires { (count ≡ split_count bytes.now head_size most_splits) × (places ≡ (length bytes.now - ends_size - split_size * count) / value_size old) ×
+        (places ≤ most_blends) × (ends_size + split_size * count ≤ length bytes.now) × (old ≡ is_old bytes.now) }
     ensures { result ≡ record_of (guessed bytes.now) }
 {
-    let w = word_at(bytes, 4);
-    let h = word_at(bytes, 6);
-    let splits = take_splits(bytes, count);
     let at = HEAD + SPLIT * count;
-    let values = take_values(bytes, at, places, size);
-    let marks = take_marks(bytes, at, places, old);
     Map {
         lines: Lines {
-            w: w,
-            h: h,
-            count: count,
-            splits: splits,
+            w: usize::from(word_at(bytes, 4)),
+            h: usize::from(word_at(bytes, 6)),
+            count,
+            splits: take_splits(bytes, count),
         },
-        values: values,
-        marks: marks,
+        values: take_values(bytes, at, places, old),
+        marks: take_marks(bytes, at, places, old),
     }
 }

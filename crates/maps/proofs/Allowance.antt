@@ -19,7 +19,7 @@ use Rattle.mesh.specs.Replay.{Replays}
 use Rattle.mesh.proofs.Passing.{asked_given, exact_refused, given_most}
 use Rattle.mesh.proofs.Allowance.{least, exact_unsound, allowances}
 use Rattle.maps.specs.declared.Map.{Map}
-use Rattle.maps.specs.declared.Changed.{Changed}
+use Rattle.maps.specs.Outcomes.{Changed}
 use Rattle.maps.specs.Plain.{Plain}
 use Rattle.maps.specs.Values.{drawn}
 use Rattle.maps.specs.Record.{record_of, Full, plain, good}

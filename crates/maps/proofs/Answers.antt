@@ -15,7 +15,7 @@ use Rattle.mesh.specs.Lines.{mesh_of}
 use Rattle.mesh.specs.Sound.{none, ProperIn}
 use Rattle.mesh.proofs.Cuts.{proper_facts}
 use Rattle.mesh.proofs.SoundMaps.{live_proper}
-use Rattle.maps.specs.declared.Placed.{Placed}
+use Rattle.maps.specs.Outcomes.{Placed}
 use Rattle.maps.specs.Plain.{Plain, blends}
 use Rattle.maps.specs.Values.{reading_at, in_domain}
 use Rattle.maps.specs.Record.{record_of}

@@ -7,19 +7,25 @@ use mathlib.Core.List.{map}
 use borrow.Author.Tests.{leb-true, le-leb, lt-leb, le-ltb, lt-ltb}
 use lib.Dec.{ltb, leb}
 use lib.ListN.{length, get_or, take}
+use Rattle.std.specs.Prelude.{Option, Some, None, Result}
+use Rattle.std.specs.Option.{ok_or}
 use Rattle.axis.specs.Gap.{corner}
 use Rattle.axis.specs.Range.{only, turns_from}
 use Rattle.axis.proofs.Tests.{and_both, and_of, cond_true, cond_false}
 use Rattle.axis.proofs.Turns.{turns_same}
 use Rattle.mesh.specs.declared.Table.{Table}
 use Rattle.mesh.specs.Sound.{none, over_square, blends_of}
+use Rattle.mesh.specs.declared.refusal.Refusal.{Refusal}
+use Rattle.mesh.specs.declared.refusal.Refusal.TheVariants.{NoPair}
 use Rattle.maps.specs.declared.Map.{Map}
+use Rattle.maps.specs.declared.Pairs.{Pairs as Noted}
+use Rattle.maps.specs.Told.{paired}
 use Rattle.maps.specs.Plain.{blends}
 use Rattle.maps.specs.Values.{reading_at}
 use Rattle.maps.specs.Record.{plain}
 use Rattle.maps.specs.Calls.{shape, no_place, table_place, no_reading, reading_on, reading, no_weights, weight_over, weights}
 use Rattle.maps.specs.Pairs.{no_pairs, counted_pairs, pairs_along, row_pairs, column_pairs}
-use Rattle.maps.specs.Inner.{AtPoint, along_pairs}
+use Rattle.maps.specs.Inner.{AtPoint, counted, along_pairs}
 use Rattle.maps.proofs.OldTable.{old_point}
 use Rattle.maps.proofs.Walking.{in_walk}
 use Rattle.maps.proofs.Changing.{GoodMap, in_table, passed, live_blends, live_count, live_values, live_blend, live_value, live_mark}
@@ -93,3 +99,8 @@ module _ {m : Map} {t : Table} (g : GoodMap m t) where
       pairs_in low high =
           sym (by_walk row at wanted ∙ cond_true _ _ _ (le-leb _ _ le) ∙ cond_true _ _ _ (and_of _ _ (le-leb _ _ low) (le-leb _ _ high)) ∙
           ap counted_pairs (turns_same 0 (cond row m.lines.w m.lines.h) _ _ (λ k kn. ap (λ (n : ℕ). ltb n wanted) (read_along k (omega arith)))))
+
+-- The pairs that a walk noted, as an answer: "13, no such pair".
+pub paired_counted : (r : Result Noted Refusal) (pairs : Option Noted) → r ≡ ok_or pairs NoPair → paired r ≡ counted pairs
+paired_counted r (Some p) e = ap paired e
+paired_counted r None e = ap paired e

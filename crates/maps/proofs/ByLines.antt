@@ -9,7 +9,7 @@ use Rattle.mesh.specs.Lines.{Layout}
 use Rattle.mesh.specs.Splits.{asked}
 use Rattle.mesh.specs.Lengthening.{chosen}
 use Rattle.maps.specs.declared.Map.{Map}
-use Rattle.maps.specs.declared.Changed.{Changed}
+use Rattle.maps.specs.Outcomes.{Changed}
 use Rattle.maps.specs.Values.{drawn}
 use Rattle.maps.specs.Record.{record_of, plain, good}
 use Rattle.maps.specs.Calls.{changed, drawn_first, split_within}

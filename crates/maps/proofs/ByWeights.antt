@@ -29,8 +29,8 @@ use Rattle.mesh.proofs.BlendTables.{proper_most}
 use Rattle.mesh.proofs.MapView.{one_way}
 use Rattle.mesh.proofs.SoundMaps.{live_proper, weights_add_up}
 use Rattle.maps.specs.declared.Map.{Map}
-use Rattle.maps.specs.declared.Placed.{Placed}
-use Rattle.maps.specs.declared.Reading.{Reading}
+use Rattle.maps.specs.Outcomes.{Placed}
+use Rattle.maps.specs.Outcomes.{Reading}
 use Rattle.maps.specs.declared.Weight.{Weight}
 use Rattle.maps.specs.declared.values.Entry.{Entry}
 use Rattle.maps.specs.Plain.{Plain, blends}

@@ -16,7 +16,11 @@ use Rattle.mesh.proofs.BlendTables.{lines_full, table_count, table_blends}
 use Rattle.axis.specs.Range.{all}
 use Rattle.axis.proofs.Members.{entry}
 use Rattle.axis.proofs.Tests.{all_of, either, cond_true, cond_false}
+use Rattle.std.specs.Prelude.{Ok, Err}
 use Rattle.mesh.specs.declared.Split.{Split}
+use Rattle.mesh.specs.declared.refusal.Refusal.{Refusal}
+use Rattle.mesh.specs.Refusals.{number_of}
+use Rattle.mesh.proofs.Refused.{refuses}
 use Rattle.mesh.specs.declared.Table.{Table}
 use Rattle.mesh.specs.Lines.{mesh_of}
 use Rattle.mesh.specs.Sound.{none, proper, table, blends_of}
@@ -26,20 +30,19 @@ use Rattle.mesh.proofs.SoundMaps.{live_proper}
 use Rattle.mesh.proofs.Cuts.{proper_facts}
 use Rattle.mesh.proofs.AtMost.{at_most}
 use Rattle.maps.specs.declared.Map.{Map}
-use Rattle.maps.specs.declared.Changed.{Changed}
+use Rattle.maps.specs.Outcomes.{Changed}
 use Rattle.maps.specs.declared.carry.Carried.{Carried}
-use Rattle.mesh.specs.declared.Step.{Step}
-use Rattle.mesh.specs.Replay.{HasTable, refused_step, first_step, split_step}
+use Rattle.mesh.specs.Replay.{HasTable, Step, refused_step, first_step, split_step}
 use Rattle.maps.specs.declared.opened.Opened.{Opened}
 use Rattle.maps.specs.Plain.{Plain, blends}
 use Rattle.maps.specs.Values.{place_of, carried, kept_mark, drawn}
 use Rattle.maps.specs.Record.{no_split, lines_of, record_of, Full, plain, good}
 use Rattle.maps.specs.Calls.{changed, drawn_first, set_plain, set_value, split_within}
-use Rattle.maps.specs.Opened.{with_table, opened, IsTable, Opens}
+use Rattle.maps.specs.Opened.{opened, IsTable}
+use Rattle.maps.specs.Told.{opened_from}
 use Rattle.maps.specs.Inner.{with_split, in_array, InTable, Grown, carried_arrays}
 use Rattle.maps.specs.Holds.{Holds}
 use Rattle.maps.specs.contracts.Map.{the_type}
-use Rattle.maps.specs.contracts.opened.Opened as opened
 use Rattle.maps.proofs.Readings.{place_found}
 use Rattle.maps.proofs.Opening.{good_table}
 use Rattle.maps.proofs.GoodRecords.{record_good, GoodFacts, good_facts, set_holds, drawn_holds}
@@ -106,42 +109,27 @@ opened_map {m} {t} o whole =
 pub good_map : {m : Map} {t : Table} → IsTable m t → (vs : List Val) → shadow ((row the_type).own_val m vs) → GoodMap m t
 good_map {m} o vs p = opened_map o (full m vs p)
 
-pub open_map : (o : Opened) → Opens o → (vs : List Val) → shadow ((row opened.the_type).own_val o vs) → GoodMap o.map o.table
-open_map o is vs p = good_map is _ p.1.1.1.0
+-- so each opened one is
+pub good_opened : (o : Opened) → GoodMap o.map o.table
+good_opened o = opened_map o.opens o.full
 
--- What opening a record says of it.
-module _ (m : Map) (o : Opened) (e : o ≡ opened m) where
-  pub same_map : o.map ≡ m
+-- What opening a record says of it: it is good, and comes as it is; or it is not good, and is refused with 2.
+module _ (m : Map) where
+  pub opened_ok : (o : Opened) → opened_from m (Ok o) ≡ opened m → (good m ≡ true) × (o.map ≡ m)
   unfolding opened
-  same_map = ap (λ (r : Opened). r.map) e
+  opened_ok o e =
+      let n : 0 ≡ cond (good m) 0 2 = ap (λ (c : Changed). c.number) e in
+      (⊎_elim (λ y. y) (λ f. absurd (omega (arith, rw f at n))) (either (good m)), ap (λ (c : Changed). c.map) e)
 
-  number_is : o.number ≡ cond (good m) 0 2
+  pub opened_err : (r : Refusal) → opened_from m (Err r) ≡ opened m → (good m ≡ false) × (number_of r ≡ 2)
   unfolding opened
-  number_is = ap (λ (r : Opened). r.number) e
+  opened_err r e =
+      let n : number_of r ≡ cond (good m) 0 2 = ap (λ (c : Changed). c.number) e in
+      ⊎_elim (λ y. absurd (refuses r (n ∙ rw y))) (λ f. (f, n ∙ rw f)) (either (good m))
 
-  pub not_good : (o.number ≡ 0 → ⊥) → good m ≡ false
-  not_good ne = ⊎_elim (λ y. absurd (ne (number_is ∙ rw y))) (λ n. n) (either (good m))
-
-  pub is_opened : o.number ≡ 0 → Opens o
-  unfolding opened
-  is_opened z =
-      rw e
-      (record {
-        is_good = ⊎_elim (λ y. y) (λ n. absurd (omega (arith, number_is, rw n at number_is))) (either (good m));
-        is_table = refl;
-      })
-
-  pub opened_as : o.number ≡ 0 → o ≡ with_table (changed 0 m)
-  unfolding opened
-  opened_as z = e ∙ rw (sym number_is ∙ z)
-
-  pub refused_as : (o.number ≡ 0 → ⊥) → changed o.number o.map ≡ changed 2 m
-  unfolding opened
-  refused_as ne = rw (number_is, same_map, not_good ne)
-
-  -- a question to it is refused with what the call gives for a record that is not good
-  pub refused_with : {A : Type 0} (r x y : A) → (o.number ≡ 0 → ⊥) → r ≡ x → r ≡ cond (not (good m)) x y
-  refused_with r x y ne is = is ∙ sym (cond_true _ _ _ (ap not (not_good ne)))
+  -- a question to one that is not good is refused with what the call gives for it
+  pub refused_with : {A : Type 0} (x y : A) → good m ≡ false → x ≡ cond (not (good m)) x y
+  refused_with x y f = sym (cond_true _ _ _ (ap not f))
 
 module _ {m : Map} {t : Table} (g : GoodMap m t) where
   -- its table and values are those of what it holds
@@ -196,32 +184,23 @@ module _ {m : Map} {t : Table} (g : GoodMap m t) where
     pub live_mark : get_or m.marks i 0 ≡ get_or (plain m).marks i 0
     live_mark = rw (← live_marks) (sym (get_or-take t.count m.marks i 0 lt))
 
-  -- A refusal hands back the map and its table as they came.
-  pub kept : (n : ℕ) (c : Changed) → changed n m ≡ c → record { number = n; map = m; table = t } ≡ with_table c
-  kept n c is =
-      ap (λ (t : Table). record { number = n; map = m; table = t }) (live_table ∙ sym (good_table m g.is_good)) ∙ ap with_table is
-
 -- A new map that a good record may hold has its table.
-new_table : (Q : Plain) → Holds Q → (t : Table) → t ≡ table (blends Q) → (c : Changed) → changed 0 (record_of Q) ≡ c →
-    record { number = 0; map = record_of Q; table = t } ≡ with_table c
-new_table Q p t e c is =
-    let is_held_lem = good_table (record_of Q) (record_good p).0 ∙ ap (λ (P : Plain). table (blends P)) (record_good p).1 in
-    ap (λ (t : Table). record { number = 0; map = record_of Q; table = t }) (e ∙ sym is_held_lem) ∙ ap with_table is
+new_opens : (Q : Plain) → Holds Q → (t : Table) → t ≡ table (blends Q) → {m : Map} → record_of Q ≡ m → IsTable m t
+new_opens Q p t e is =
+    let held = good_table (record_of Q) (record_good p).0 ∙ ap (λ (P : Plain). table (blends P)) (record_good p).1 in
+    rw (← is) (record { is_good = (record_good p).0; is_table = e ∙ sym held })
 
 -- Setting a value:
 module _ {m : Map} {t : Table} (g : GoodMap m t) (i j v : ℕ) where
   abbrev at : ℕ
   at = place_of (blends (plain m)) (i + 1) (j + 1)
 
-  none_there : length (blends (plain m)) ≤ at → changed 9 m ≡ set_value m i j v
-  unfolding set_value
-  none_there le = sym (cond_false _ _ _ (passed g) ∙ cond_false _ _ _ (le-ltb _ _ le))
-
   -- an anchor that no blend has is refused, so one beyond the largest side;
-  pub set_none : length (blends (plain m)) ≤ at → record { number = 9; map = m; table = t } ≡ with_table (set_value m i j v)
-  set_none le = kept g 9 _ (none_there le)
+  pub set_none : length (blends (plain m)) ≤ at → changed 9 m ≡ set_value m i j v
+  unfolding set_value
+  set_none le = sym (cond_false _ _ _ (passed g) ∙ cond_false _ _ _ (le-ltb _ _ le))
 
-  pub set_beyond : (i ≤ 128 → j ≤ 128 → ⊥) → record { number = 9; map = m; table = t } ≡ with_table (set_value m i j v)
+  pub set_beyond : (i ≤ 128 → j ≤ 128 → ⊥) → changed 9 m ≡ set_value m i j v
   unfolding plain
   set_beyond off =
       set_none (⊎_elim (λ lt. absurd (inside (ltb-true _ _ lt))) (λ ge. ltb-false _ _ ge) (either (ltb at (length (blends (plain m))))))
@@ -237,17 +216,19 @@ module _ {m : Map} {t : Table} (g : GoodMap m t) (i j v : ℕ) where
           off (omega (arith, here.0, f.across)) (omega (arith, here.1, f.up))
 
   -- any other has its value set and marked.
-  pub set_some : at < length (blends (plain m)) →
-      record { number = 0; map = record { lines = m.lines; values = set m.values at v; marks = set m.marks at 1 }; table = t } ≡
-      with_table (set_value m i j v)
+  abbrev pub set_map : Map
+  set_map = record { lines = m.lines; values = set m.values at v; marks = set m.marks at 1 }
+
+  pub set_some : at < length (blends (plain m)) → (changed 0 set_map ≡ set_value m i j v) × IsTable set_map t
   unfolding set_plain set_value
   set_some lt =
       let Q = set_plain (plain m) i j v in
       let h = g.facts.holds in
       let is : record_of Q ≡ record { lines = m.lines; values = set m.values at v; marks = set m.marks at 1 } =
-      rw g.facts.is_record at (record_set (plain m) i j v (rw h.counted lt) (rw h.counted_marks lt)) in
-      ap (λ (n : Map). record { number = 0; map = n; table = t }) (sym is) ∙
-      new_table Q (set_holds g.facts.holds i j v) t (live_table g) _ (sym (cond_false _ _ _ (passed g) ∙ cond_true _ _ _ (lt-ltb _ _ lt)))
+      rw g.facts.is_record at (record_set (plain m) i j v (rw h.counted lt) (rw h.counted_marks lt)) in (
+        ap (changed 0) (sym is) ∙ sym (cond_false _ _ _ (passed g) ∙ cond_true _ _ _ (lt-ltb _ _ lt)),
+        new_opens Q (set_holds g.facts.holds i j v) t (live_table g) is,
+      )
 
 -- A step for a call: a line that it draws is one that an exact split may draw, its table is that of the map with the line, and this map is the call's; its
 -- refusal is the call's.
@@ -261,9 +242,6 @@ StepOf m r c = (r.number ≡ 0 → Draws m r c) × ((r.number ≡ 0 → ⊥) →
 
 -- What it leaves of a good record:
 module _ {m : Map} {t : Table} (g : GoodMap m t) {r : Step} {c : Changed} where
-  pub step_refused : StepOf m r c → (r.number ≡ 0 → ⊥) → record { number = r.number; map = m; table = t } ≡ with_table c
-  step_refused of ne = kept g _ _ (of.1 ne)
-
   module _ (d : Draws m r c) where
     pub step_room : m.lines.count < 60
     unfolding plain
@@ -297,8 +275,8 @@ module _ {m : Map} {t : Table} (g : GoodMap m t) {r : Step} {c : Changed} where
     drawn_stays = drawn_holds g.facts.holds r.split d.accepted
 
     pub step_drawn : (arrays : Carried) → arrays ≡ carried_arrays (blends_of t) (take t.count m.values) (take t.count m.marks) (blends_of r.table) →
-        record { number = 0; map = record { lines = with_split m.lines r.split; values = arrays.values; marks = arrays.marks }; table = r.table } ≡
-        with_table c
+        let new : Map = record { lines = with_split m.lines r.split; values = arrays.values; marks = arrays.marks } in
+        (changed 0 new ≡ c) × IsTable new r.table
     unfolding carried_arrays
     step_drawn arrays v =
         let Q = drawn (plain m) r.split in
@@ -306,7 +284,7 @@ module _ {m : Map} {t : Table} (g : GoodMap m t) {r : Step} {c : Changed} where
         let is : record_of Q ≡ record { lines = with_split m.lines r.split; values = arrays.values; marks = arrays.marks } =
         rw (v, live_blends g, live_values g, live_marks g, new_blends)
         (rw g.facts.is_record at (record_drawn (plain m) r.split (exact_says (plain m).lines r.split d.accepted).0.room)) in
-        ap (λ (n : Map). record { number = 0; map = n; table = r.table }) (sym is) ∙ new_table Q drawn_stays r.table d.is_new c d.is_drawn
+        (ap (changed 0) (sym is) ∙ d.is_drawn, new_opens Q drawn_stays r.table d.is_new is)
 
   -- and that it leaves a good one
   step_good : StepOf m r c → good c.map ≡ true

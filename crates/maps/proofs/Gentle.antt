@@ -12,7 +12,7 @@ use Rattle.mesh.specs.declared.Split.{Split}
 use Rattle.mesh.specs.declared.Blend.{Blend}
 use Rattle.mesh.specs.Sound.{none}
 use Rattle.axis.proofs.Tests.{either, and_both}
-use Rattle.maps.specs.declared.Reading.{Reading}
+use Rattle.maps.specs.Outcomes.{Reading}
 use Rattle.maps.specs.Plain.{Plain, blends}
 use Rattle.maps.specs.Values.{reading_at, in_domain, drawn}
 use Rattle.mesh.specs.Splits.{sound_with, exact_number}

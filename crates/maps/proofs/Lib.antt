@@ -29,4 +29,3 @@ pub mod Straight
 pub mod ByWeights
 pub mod ReadsTold
 pub mod Numbers
-pub mod StaysOpened

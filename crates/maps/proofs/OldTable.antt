@@ -5,11 +5,12 @@ use native.Mathlib.Numerals.{add-one}
 use mathlib.Core.Path.{◌≡◌, sym, ap, ap₂, ◌∙◌}
 use mathlib.Core.Bool.{true}
 use mathlib.Core.List.{List, [], ◌∷◌, ◌++◌, map, map-append, append_assoc}
-use lib.ListN.{length, get_or, set, take, replicate, length-map}
-use lib.Seq.{get_or-take, take-length, take-suc, length-take-le, set_at}
+use lib.ListN.{length, get_or, set, take, drop, replicate, drop_of_length-le, length-map, length-append, length-replicate}
+use lib.Seq.{drop-cons, get_or-take, take-length, take-suc, length-take-le, set_at}
+use Rattle.mesh.specs.declared.Blend.{Blend}
 use Rattle.mesh.specs.declared.Table.{Table}
 use Rattle.axis.specs.Range.{all}
-use Rattle.mesh.specs.Sound.{proper, sound, blends_of, AllProperIn}
+use Rattle.mesh.specs.Sound.{none, proper, sound, table, blends_of, AllProperIn}
 use Rattle.axis.proofs.Tests.{all_of}
 use Rattle.mesh.proofs.SoundMaps.{live_proper}
 use Rattle.maps.specs.Plain.{Plain, blends}
@@ -34,8 +35,17 @@ module _ {w h : ℕ} {t : Table} {values : List ℕ} (old : InTable w h t values
   pub blends_of_lem : blends_of t ≡ blends old.of
   blends_of_lem = rw old.is_table (table_blends (blends old.of))
 
+  pub few_blends : length (blends_of t) ≤ 1024
+  few_blends = rw blends_of_lem old.is_short
+
   pub values_of : take t.count values ≡ old.of.values
   values_of = rw count_of (sym old.are_values)
+
+  pub old_long : length t.blends ≡ 1024
+  unfolding table
+  old_long =
+      let room = length-replicate (1024 - length (blends old.of)) none in
+      rw (ap (λ (t : Table). t.blends) old.is_table) (omega (arith, length-append (blends old.of) (replicate (1024 - length (blends old.of)) none), room, old.is_short))
 
   old_proper : AllProperIn w h (blends old.of)
   old_proper = of_proper old.of w h old.across old.up old.sides.0 old.sides.2
@@ -74,6 +84,14 @@ module _ {w h : ℕ} {t : Table} {values : List ℕ} (old : InTable w h t values
     where
       counted : length old.of.values ≡ length (blends old.of)
       counted = ap length old.are_values ∙ length-take-le _ values (omega (arith, old.is_short))
+
+-- blends from the i-th on, as a loop takes them
+module _ (bs : List Blend) (i : ℕ) where
+  pub rest_turns : i < length bs → drop i bs ≡ get_or bs i none ∷ drop (i + 1) bs
+  rest_turns lt = rw add-one (drop-cons bs i none lt)
+
+  pub rest_ends : length bs ≤ i → drop i bs ≡ []
+  rest_ends le = drop_of_length-le bs le
 
 -- An array of numbers, one for each of some things, filled from the front: the numbers of the first i, then zeros.
 abbrev pub filled {ℓ} : {A : Type ℓ} → (A → ℕ) → List A → ℕ → List ℕ

@@ -1,25 +1,31 @@
 -- Opening a record: the tests of a good one, one by one, and what is then in hand.
-use Prim.Native.Nat.{ℕ}
+use Prim.Native.Nat.{ℕ, ◌-◌, ◌≤◌}
 use native.Mathlib.Omega.{arith}
 use mathlib.Core.Path.{◌≡◌, refl, sym, ap, ap₂, ◌∙◌}
 use mathlib.Core.Logic.{⊎_elim}
-use mathlib.Core.Bool.{true, ◌&&◌}
+use mathlib.Core.Bool.{Bool, true, false, ◌&&◌}
 use mathlib.Core.List.{List, [], ◌∷◌}
 use borrow.Author.Tests.{leb-true, le-leb, eqb-true, eq-eqb}
 use lib.Dec.{leb, eqb}
-use lib.ListN.{length, drop}
+use lib.ListN.{length, take, drop, length-take}
+use Rattle.std.specs.Prelude.{Option, Some, None}
+use Rattle.std.specs.List.{list_all}
+use Rattle.std.proofs.lemmas.List.{take_rest}
+use Rattle.std.proofs.lemmas.Option.{none-some, cond_some}
 use Rattle.axis.specs.Range.{all}
 use Rattle.mesh.specs.declared.Lines.{Lines}
-use Rattle.mesh.specs.declared.Found.{Found}
+use Rattle.mesh.specs.declared.Table.{Table}
 use Rattle.mesh.specs.Lines.{layout_of}
 use Rattle.mesh.specs.Sound.{table}
 use Rattle.mesh.specs.Splits.{live_of}
 use Rattle.mesh.specs.Replay.{replays, replayed}
+use Rattle.mesh.proofs.BlendTables.{table_count}
+use Rattle.mesh.proofs.Accepted.{replays_says, replays_short}
 use Rattle.axis.proofs.Tests.{either, same_test, false_of, and_both, cond_true}
 use Rattle.maps.specs.declared.Map.{Map}
 use Rattle.maps.specs.Plain.{blends}
 use Rattle.maps.specs.Record.{is_no_split, is_zero, is_mark, plain, good}
-use Rattle.maps.specs.Opened.{table_of, opened}
+use Rattle.maps.specs.Opened.{table_of}
 
 pub record Passes (m : Map) : Type 0 where
   pub accepted? : replays m.lines ≡ true
@@ -43,14 +49,9 @@ module _ (m : Map) where
   unfolding good
   passes_good p = rw (p.accepted?, p.no_splits, p.no_values, p.are_marks, p.no_marks)
 
-  -- a record that fails a test is refused, and one that passes them all is opened
-  pub not_opened : (Passes m → ⊥) → opened m ≡ record { number = 2; map = m; table = table [] }
-  unfolding opened table_of
-  not_opened f = rw (false_of (good m) (λ e. f (good_passes e)))
-
-  pub is_opened : Passes m → opened m ≡ record { number = 0; map = m; table = table (live_of (layout_of m.lines)) }
-  unfolding opened table_of plain
-  is_opened p = rw (passes_good p)
+  -- a record that fails a test is not good
+  pub fails_good : (Passes m → ⊥) → good m ≡ false
+  fails_good f = false_of (good m) (λ e. f (good_passes e))
 
   pub good_table : good m ≡ true → table_of m ≡ table (blends (plain m))
   unfolding table_of
@@ -63,12 +64,42 @@ none_above (k ∷ xs) =
     let low = same_test (leb k 0) (eqb k 0) (λ t. eq-eqb k 0 (omega (arith, leb-true k 0 t))) (λ t. le-leb k 0 (omega (arith, eqb-true k 0 t))) in
     ap₂ ◌&&◌ low (none_above xs)
 
--- what it says that lines were replayed
-module _ (L : Lines) {r : Found} (e : r ≡ replayed L) where
-  pub replay_says : r.ok ≡ replays L
+-- what it says that lines were replayed, or not
+module _ (L : Lines) where
+  pub replay_some : {t : Table} → Some t ≡ replayed L → (replays L ≡ true) × (t ≡ table (live_of (layout_of L)))
   unfolding replayed
-  replay_says = ap (λ (x : Found). x.ok) e ∙ ⊎_elim (λ q. rw q) (λ q. rw q) (either (replays L))
+  replay_some e = let f = cond_some _ _ _ (sym e) in (f.0, sym f.1)
 
-  pub replay_table : r.ok ≡ true → r.table ≡ table (live_of (layout_of L))
+  pub replay_none : None ≡ replayed L → replays L ≡ false
   unfolding replayed
-  replay_table f = ap (λ (x : Found). x.table) (e ∙ cond_true _ _ _ (sym replay_says ∙ f))
+  replay_none e = ⊎_elim (λ y. absurd (none-some _ (e ∙ cond_true _ _ _ y))) (λ n. n) (either (replays L))
+
+-- a test of all of a list, as an iterator has it
+pub all_list : {A : Type 0} (test : A → Bool) (xs : List A) → list_all test xs ≡ all test xs
+all_list test [] = refl
+all_list test (x ∷ xs) = ap (λ (b : Bool). test x && b) (all_list test xs)
+
+-- and of the rest of an array
+pub rest_all : {A : Type 0} (test : A → Bool) (xs : List A) (n i : ℕ) → length xs ≡ n → list_all test (take (n - i) (drop i xs)) ≡ all test (drop i xs)
+rest_all test xs n i e = rw (← e) (ap (list_all test) (take_rest xs i) ∙ all_list test (drop i xs))
+
+-- lines that were replayed make a table with room
+pub lines_short : (L : Lines) → replays L ≡ true → length (live_of (layout_of L)) ≤ 1024
+lines_short L e =
+    let r = replays_says L e in
+    let few : length (layout_of L).splits ≤ 60 = omega (arith, r.2, length-take L.count L.splits) in
+    replays_short (record { across = r.0; up = r.1; few = few; all_taken = r.3 })
+
+-- what it leaves, where they were all accepted
+pub record Replayed (L : Lines) (t : Table) : Type 0 where
+  pub accepted? : replays L ≡ true
+  pub few_splits : L.count ≤ 60
+  pub is_table : t ≡ table (live_of (layout_of L))
+  pub counted : t.count ≡ length (live_of (layout_of L))
+  pub few : t.count ≤ 1024
+
+pub replay_gives : (L : Lines) {t : Table} {r : Option Table} → r ≡ Some t → r ≡ replayed L → Replayed L t
+replay_gives L is e =
+    let s = replay_some L (sym is ∙ e) in
+    let n = ap (λ (t : Table). t.count) s.1 ∙ table_count (live_of (layout_of L)) in
+    record { accepted? = s.0; few_splits = (replays_says L s.0).2; is_table = s.1; counted = n; few = rw n (lines_short L s.0) }

@@ -14,8 +14,8 @@ use Rattle.axis.proofs.Counts.{ones}
 use Rattle.axis.proofs.Distinct.{first_before}
 use Rattle.axis.proofs.Turns.{turn_mem, mem_turn, turns_ordered, stays, turns_parity, turns_same}
 use Rattle.maps.specs.declared.Map.{Map}
-use Rattle.maps.specs.declared.Pairs.{Pairs}
-use Rattle.maps.specs.declared.Reading.{Reading}
+use Rattle.maps.specs.Outcomes.{Pairs}
+use Rattle.maps.specs.Outcomes.{Reading}
 use Rattle.maps.specs.Plain.{Plain}
 use Rattle.maps.specs.Record.{plain, good}
 use Rattle.maps.specs.Calls.{reading, reading_on}

@@ -2,14 +2,18 @@
 use Prim.Native.Nat.{ℕ, suc, ◌+◌, ◌-◌, ◌*◌, ◌≤◌, ◌<◌}
 use native.Mathlib.Omega.{arith}
 use native.Mathlib.Numerals.{add-one}
-use mathlib.Core.Path.{◌≡◌, sym, ap, ap₂, ◌∙◌}
+use mathlib.Core.Path.{◌≡◌, refl, sym, ap, ap₂, ◌∙◌}
 use mathlib.Core.Logic.{⊎_elim}
-use mathlib.Core.Bool.{true, false}
+use mathlib.Core.Bool.{true, false, cond}
 use mathlib.Core.List.{List, [], ◌∷◌, Memᴰ}
-use borrow.Author.Tests.{eqb-true, ltb-true}
+use borrow.Author.Tests.{eqb-true, ltb-true, ltb-false}
 use lib.Dec.{eqb, ltb}
 use lib.ListN.{length, get_or, length-map, length-set}
 use lib.Seq.{get_or-set_same, get_or-set_other}
+use Rattle.std.specs.Prelude.{Some, None}
+use Rattle.std.specs.List.{position, position_or_len}
+use Rattle.std.proofs.lemmas.List.Recursion.{is_position_or_len}
+use Rattle.std.proofs.lemmas.Option.{none-some, cond_some}
 use Rattle.mesh.specs.declared.Split.{Split}
 use Rattle.mesh.specs.declared.Blend.{Blend}
 use Rattle.mesh.specs.Lines.{mesh_of}
@@ -223,3 +227,17 @@ module _ (P : Plain) (valued : Valued P) (m n v : ℕ) where
         let x : (get_or (blends P) i none).across.m - 1 ≡ m = omega (arith, f.0) in
         let y : (get_or (blends P) i none).up.m - 1 ≡ n = omega (arith, f.1) in
         rw (x, y) at (reading_value (set_plain P m n v) (set_valued lt) i there ∙ set_same)
+
+-- The place of an anchor, as a search finds it: a place of the table, or none.
+place_is : (bs : List Blend) (m n : ℕ) → place_of bs m n ≡ position_or_len (anchored m n) bs
+place_is bs m n = is_position_or_len (λ xs. place_of xs m n) (anchored m n) refl (λ B bs. ap (cond (anchored m n B) 0) (omega arith)) bs
+
+pub placed_some : (bs : List Blend) (m n : ℕ) {i : ℕ} → Some i ≡ position (anchored m n) bs → (place_of bs m n ≡ i) × (i < length bs)
+placed_some bs m n e =
+    let f = cond_some _ _ _ (sym e) in
+    (place_is bs m n ∙ f.1, omega (arith, ltb-true _ _ f.0, f.1))
+
+pub placed_none : (bs : List Blend) (m n : ℕ) → None ≡ position (anchored m n) bs → length bs ≤ place_of bs m n
+placed_none bs m n e =
+    ⊎_elim (λ t. absurd (none-some _ (e ∙ cond_true _ _ _ t))) (λ f. rw (place_is bs m n) (ltb-false _ _ f))
+    (either (ltb (position_or_len (anchored m n) bs) (length bs)))

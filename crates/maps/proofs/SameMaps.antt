@@ -1,7 +1,9 @@
 -- Are two maps the same: what the tests of two good records and their tables say.
-use mathlib.Core.Path.{◌≡◌, sym, ◌∙◌}
-use mathlib.Core.Bool.{Bool, true, false, and-false}
+use mathlib.Core.Path.{◌≡◌, refl, sym, ap₂, ◌∙◌}
+use mathlib.Core.Bool.{Bool, true, false, ◌&&◌, and-false}
+use mathlib.Core.List.{List, [], ◌∷◌}
 use lib.ListN.{take}
+use lib.Pointwise.{pointwise}
 use Rattle.axis.specs.Range.{agree}
 use Rattle.axis.proofs.Entries.{agree_length}
 use Rattle.mesh.specs.declared.Table.{Table}
@@ -33,3 +35,10 @@ module _ {a b : Map} {s t : Table} (p : GoodMap a s) (q : GoodMap b t) where
       let agreed = rw (live_blends p, live_blends q) at e in
       let counts : s.count ≡ t.count = live_count p ∙ agree_length same (blends (plain a)) (blends (plain b)) agreed ∙ sym (live_count q) in
       rw counts (live_values q)
+
+-- `==` of two lists agrees entry by entry
+pub equal_agree : {A : Type 0} (one other : A → A → Bool) → ((x y : A) → one x y ≡ other x y) → (xs ys : List A) → pointwise one xs ys ≡ agree other xs ys
+equal_agree one other e [] [] = refl
+equal_agree one other e [] (y ∷ ys) = refl
+equal_agree one other e (x ∷ xs) [] = refl
+equal_agree one other e (x ∷ xs) (y ∷ ys) = ap₂ ◌&&◌ (e x y) (equal_agree one other e xs ys)

@@ -17,7 +17,7 @@ use Rattle.mesh.specs.Sound.{none}
 use Rattle.mesh.specs.Weight.{Term, weight, value, Flow, flow_at, at_anchor}
 use Rattle.mesh.proofs.SoundMaps.{live_straight}
 use Rattle.maps.specs.declared.Map.{Map}
-use Rattle.maps.specs.declared.Placed.{Placed}
+use Rattle.maps.specs.Outcomes.{Placed}
 use Rattle.maps.specs.Plain.{Plain, blends}
 use Rattle.maps.specs.Values.{paired, sum_at, reading_at, drawn}
 use Rattle.maps.specs.Record.{record_of}

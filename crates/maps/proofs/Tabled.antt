@@ -10,7 +10,7 @@ use Rattle.mesh.specs.declared.Blend.{Blend}
 use Rattle.mesh.specs.Sound.{none}
 use Rattle.maps.specs.declared.Map.{Map}
 use Rattle.maps.specs.declared.Shape.{Shape}
-use Rattle.maps.specs.declared.Placed.{Placed}
+use Rattle.maps.specs.Outcomes.{Placed}
 use Rattle.maps.specs.Plain.{Plain, blends}
 use Rattle.maps.specs.Record.{record_of}
 use Rattle.maps.specs.Calls.{shape}

@@ -12,7 +12,7 @@ use Rattle.axis.proofs.Tests.{either, each_turn, each_none}
 use Rattle.mesh.specs.declared.Blend.{Blend}
 use Rattle.mesh.specs.declared.Table.{Table}
 use Rattle.mesh.specs.Sound.{over_square, blends_of}
-use Rattle.maps.specs.declared.Pairs.{Pairs}
+use Rattle.maps.specs.Outcomes.{Pairs}
 use Rattle.maps.specs.declared.values.Entry.{Entry}
 use Rattle.maps.specs.declared.values.Four.{Four}
 use Rattle.maps.specs.Pairs.{no_pairs, counted_pairs}

@@ -6,7 +6,7 @@ use Rattle.mesh.specs.declared.Split.{Split}
 use Rattle.mesh.specs.Splits.{given, exact_number}
 use Rattle.mesh.specs.Lengthening.{containing, candidate, least_of}
 use Rattle.maps.specs.declared.Map.{Map}
-use Rattle.maps.specs.declared.Changed.{Changed}
+use Rattle.maps.specs.Outcomes.{Changed}
 use Rattle.maps.specs.Values.{drawn}
 use Rattle.maps.specs.Record.{record_of, plain, good}
 use Rattle.maps.specs.Calls.{changed, drawn_first, split_within}

@@ -1,7 +1,7 @@
 -- Document 02, L3: "two good records that differ only in values take the same line or get the same number".
 use Rattle.std.specs.Prelude.{◌≡◌}
 use Rattle.maps.specs.declared.Map.{Map}
-use Rattle.maps.specs.declared.Changed.{Changed}
+use Rattle.maps.specs.Outcomes.{Changed}
 
 -- What a split call gives for two records with the same lines: the number, the lines of the map
 -- that it hands back or leaves and, where the records differ only in values, its marks. So the

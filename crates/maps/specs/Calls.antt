@@ -10,11 +10,11 @@ use Rattle.mesh.specs.Splits.{asked}
 use Rattle.mesh.specs.Lengthening.{chosen}
 use Rattle.maps.specs.declared.Map.{Map}
 use Rattle.maps.specs.declared.Shape.{Shape}
-use Rattle.maps.specs.declared.Changed.{Changed}
-use Rattle.maps.specs.declared.Placed.{Placed}
-use Rattle.maps.specs.declared.Reading.{Reading}
+use Rattle.maps.specs.Outcomes.{Changed}
+use Rattle.maps.specs.Outcomes.{Placed}
+use Rattle.maps.specs.Outcomes.{Reading}
 use Rattle.maps.specs.declared.Weight.{Weight}
-use Rattle.maps.specs.declared.Weights.{Weights}
+use Rattle.maps.specs.Outcomes.{Weights}
 use Rattle.maps.specs.Plain.{Plain, fresh_plain, blends}
 use Rattle.maps.specs.Values.{reading_at, in_domain, weight_at, over, place_of, drawn}
 use Rattle.maps.specs.Record.{record_of, plain, good}

@@ -4,11 +4,11 @@ use Rattle.mesh.specs.declared.Split.{Split}
 use Rattle.mesh.specs.Splits.{asked}
 use Rattle.mesh.specs.Lengthening.{chosen}
 use Rattle.maps.specs.declared.Map.{Map}
-use Rattle.maps.specs.declared.Placed.{Placed}
-use Rattle.maps.specs.declared.Reading.{Reading}
-use Rattle.maps.specs.declared.Weights.{Weights}
-use Rattle.maps.specs.declared.Pairs.{Pairs}
-use Rattle.maps.specs.declared.Same.{Same}
+use Rattle.maps.specs.Outcomes.{Placed}
+use Rattle.maps.specs.Outcomes.{Reading}
+use Rattle.maps.specs.Outcomes.{Weights}
+use Rattle.maps.specs.Outcomes.{Pairs}
+use Rattle.maps.specs.Outcomes.{Same}
 use Rattle.maps.specs.Plain.{Plain, blends}
 use Rattle.maps.specs.Values.{place_of, drawn}
 use Rattle.maps.specs.Record.{plain, good}

@@ -1,5 +1,5 @@
 -- What the maps' own functions work on. Only contracts of functions that the crate keeps to itself cite this file.
-use Rattle.std.specs.Prelude.{ℕ, ◌+◌, ◌-◌, ◌*◌, ◌^◌, ◌≤◌, ◌<◌, ◌≡◌, Bool, true, cond, eqb, length, get_or, take, set, replicate}
+use Rattle.std.specs.Prelude.{ℕ, ◌+◌, ◌-◌, ◌*◌, ◌^◌, ◌≤◌, ◌<◌, ◌≡◌, Bool, true, cond, eqb, length, get_or, take, set, replicate, Option, Some, None}
 use mathlib.Core.List.{List, [], ◌∷◌, ◌++◌, map, Memᴰ}
 use Rattle.axis.specs.Limits.{largest_side, most_blends}
 use Rattle.axis.specs.Fraction.{Fraction}
@@ -12,7 +12,8 @@ use Rattle.mesh.specs.declared.Blend.{Blend}
 use Rattle.mesh.specs.Sound.{sound, proper, over_square, table, blends_of}
 use Rattle.mesh.specs.Blends.{place}
 use Rattle.maps.specs.declared.Map.{Map}
-use Rattle.maps.specs.declared.Pairs.{Pairs}
+use Rattle.maps.specs.Outcomes.{Pairs}
+use Rattle.maps.specs.declared.Pairs.{Pairs as Noted}
 use Rattle.maps.specs.declared.Weight.{Weight}
 use Rattle.maps.specs.declared.carry.Carried.{Carried}
 use Rattle.maps.specs.declared.values.Sum.{Sum}
@@ -21,7 +22,7 @@ use Rattle.maps.specs.declared.values.Four.{Four}
 use Rattle.maps.specs.Plain.{Plain, blends}
 use Rattle.maps.specs.Values.{carried, kept_mark, weight_at}
 use Rattle.maps.specs.Calls.{shape}
-use Rattle.maps.specs.Pairs.{row_pairs, column_pairs}
+use Rattle.maps.specs.Pairs.{no_pairs, row_pairs, column_pairs}
 
 -- the lines with one split more
 abbrev pub with_split : Lines → Split → Lines
@@ -104,6 +105,11 @@ pub record SumOf (n : ℕ) (s : Sum) : Type 0 where
   pub low : s.bottom ≤ 16641 ^ n
   pub rest : s.top ≤ n * s.bottom
   pub most : s.whole ≤ n * (16641 * 65535)
+
+-- pairs that a walk noted, as the call gives them: "13, no such pair"
+abbrev pub counted : Option Noted → Pairs
+counted (Some p) = record { number = 0; count = p.count; first = p.first }
+counted None = no_pairs 13
 
 -- pairs with one more, whose first point is k
 abbrev pub with_pair : Pairs → ℕ → Pairs

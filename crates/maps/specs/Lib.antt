@@ -3,11 +3,13 @@ pub mod Rounding
 pub mod Values
 pub mod Record
 pub mod Holds
+pub mod Outcomes
 pub mod Calls
 pub mod Allowance
 pub mod Pairs
 pub mod PairsTold
 pub mod Opened
+pub mod Told
 pub mod Sameness
 pub mod Histories
 pub mod Numbers

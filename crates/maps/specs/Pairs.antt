@@ -2,8 +2,8 @@
 use Rattle.std.specs.Prelude.{ℕ, Bool, cond, ◌&&◌, not, List, [], ◌∷◌, ltb, leb, length}
 use Rattle.axis.specs.Range.{turns_from}
 use Rattle.maps.specs.declared.Map.{Map}
-use Rattle.maps.specs.declared.Reading.{Reading}
-use Rattle.maps.specs.declared.Pairs.{Pairs}
+use Rattle.maps.specs.Outcomes.{Reading}
+use Rattle.maps.specs.Outcomes.{Pairs}
 use Rattle.maps.specs.Plain.{Plain}
 use Rattle.maps.specs.Record.{plain, good}
 use Rattle.maps.specs.Calls.{reading_on}

@@ -1,8 +1,8 @@
 -- Document 02, L2: what the answer along a row or a column tells who goes on from it.
 use Rattle.std.specs.Prelude.{ℕ, ◌%◌, ◌≤◌, ◌<◌, ◌≡◌, true, false}
 use Rattle.axis.specs.Range.{differ, turns}
-use Rattle.maps.specs.declared.Reading.{Reading}
-use Rattle.maps.specs.declared.Pairs.{Pairs}
+use Rattle.maps.specs.Outcomes.{Reading}
+use Rattle.maps.specs.Outcomes.{Pairs}
 use Rattle.maps.specs.Pairs.{below}
 
 -- "one reading is below it and the other isn't", of the points u and u + 1

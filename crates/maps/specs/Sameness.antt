@@ -3,7 +3,7 @@ use Rattle.std.specs.Prelude.{Bool, false, cond, ◌&&◌, eqb}
 use Rattle.axis.specs.Range.{agree}
 use Rattle.mesh.specs.Blends.{same}
 use Rattle.maps.specs.declared.Map.{Map}
-use Rattle.maps.specs.declared.Same.{Same}
+use Rattle.maps.specs.Outcomes.{Same}
 use Rattle.maps.specs.Plain.{Plain, blends}
 use Rattle.maps.specs.Record.{plain, good}
 

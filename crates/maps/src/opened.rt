@@ -1,345 +1,210 @@
 // A record opened: its splits are replayed once, as exact splits, and the table of its live blends stands beside it. Every call on a map starts with
 // `open`. What goes on from an opened record is the rest of a call, after the test of the record; it is open to the crates above, so that who has
 // read a map from its file does not replay it again.
-ghost use Rattle.std.specs.Prelude.{◌≡◌, [], true, ◌<◌, leb, eqb, drop};
-ghost use Rattle.axis.specs.Range.{all};
-ghost use Rattle.mesh.specs.Sound.{table};
-ghost use Rattle.maps.specs.Record.{is_no_split};
-ghost use Rattle.maps.specs.Calls.{changed, fresh_map, set_value, table_place, reading, weights, split_within};
+ghost use Rattle.std.specs.Prelude.{◌≡◌, Ok, ◌&&◌, leb};
+ghost use Rattle.std.specs.List.{list_all};
+ghost use Rattle.maps.specs.Calls.{fresh_map, set_value, table_place, reading, weights, split_within};
 ghost use Rattle.maps.specs.Pairs.{row_pairs, column_pairs};
 ghost use Rattle.maps.specs.Sameness.{sameness};
-ghost use Rattle.maps.specs.Opened.{with_table, opened, Opens};
+ghost use Rattle.maps.specs.Record.{Full, is_no_split, is_zero};
+ghost use Rattle.maps.specs.Opened.{IsTable, opened};
 ghost use Rattle.maps.specs.Inner.{along_pairs};
 
-use crate::calls::{in_domain, no_pairs, no_place, no_weights};
-use crate::carry::carry;
-use crate::sameness::same_maps;
-use crate::values::{place_of, reading_of, shape_of, weights_of};
-use crate::walk::{along, pairs_along};
-use crate::{Changed, Map, Pairs, Placed, Reading, Same, Weights};
-use axis::Triple;
+use crate::values::{place_of, shape_of};
+use crate::walk::along;
+use crate::{Map, Pairs, Placed, Refusal, Weights};
 use mesh::replay::replay;
 use mesh::splits::split;
-use mesh::tables::fresh_table;
-use mesh::{Blend, Split, Table};
+use mesh::{Split, Table};
 
-// A number, a map, and the table of its live blends; an empty one where its record is not good.
+// A good record, and the table of its live blends. That its arrays have all their places is known of a value and not behind a reference, so it is kept too.
 #[derive(Clone, Copy)]
 pub struct Opened {
-    pub number: usize,
     pub map: Map,
     pub table: Table,
+    pub ghost opens: { IsTable map table },
+    pub ghost full: { Full map },
 }
 
-// Whether a split is zero.
-fn no_split(s: Split) -> bool
-    ensures { result ≡ is_no_split s }
+// Whether splits are all zero.
+fn no_splits(splits: &[Split]) -> bool
+    ensures { result ≡ list_all is_no_split splits.now }
 {
-    if s.direction != 0 {
-        return false;
-    }
-    if s.position != 0 {
-        return false;
-    }
-    if s.from != 0 {
-        return false;
-    }
-    s.to == 0
+    splits.iter().all(|s| *s == Split::default())
 }
 
-// Whether the splits from a place on are all zero.
-fn no_splits_from(splits: [Split; Map::MOST_SPLITS], from: usize) -> bool
-    ensures { result ≡ all is_no_split (drop from splits) }
-{
-    let mut i = from;
-    while i < Map::MOST_SPLITS {
-        let s = splits[i];
-        if !no_split(s) {
-            return false;
-        }
-        i += 1;
-    }
-    true
-}
-
-// Whether the values from a place on are all zero. It does not stop at the first that is not, so that the compiler may look at several at once.
-fn no_values_from(values: [u16; Table::MOST_BLENDS], from: usize) -> bool
-    ensures { result ≡ all (λ v. eqb v 0) (drop from values) }
+// Whether values are all zero. It does not stop at the first that is not, so that the compiler may look at several at once.
+fn no_values(values: &[u16]) -> bool
+    ensures { result ≡ list_all is_zero values.now }
 {
     let mut none = true;
-    let mut i = from;
-    while i < Table::MOST_BLENDS {
-        if values[i] != 0 {
-            none = false;
-        }
-        i += 1;
+    for value in values {
+        none &= *value == 0;
     }
     none
 }
 
-// Whether no mark from a place on is above a number; like `no_values_from`, without stopping early.
-fn no_marks_above(most: u8, marks: [u8; Table::MOST_BLENDS], from: usize) -> bool
-    ensures { result ≡ all (λ k. leb k most) (drop from marks) }
+// Whether no mark is above a number; like `no_values`, without stopping early.
+fn no_marks_above(most: u8, marks: &[u8]) -> bool
+    ensures { result ≡ list_all (λ k. leb k most) marks.now }
 {
     let mut none = true;
-    let mut i = from;
-    while i < Table::MOST_BLENDS {
-        if most < marks[i] {
-            none = false;
-        }
-        i += 1;
+    for mark in marks {
+        none &= *mark <= most;
     }
     none
-}
-
-// What a record that is not good gives, with a table without blends.
-fn not_good(map: Map) -> Opened
-    ensures { result ≡ record { number = 2; map = map; table = table [] } }
-{
-    let zero = Triple { l: 0, m: 0, r: 0 };
-    let none = Blend {
-        across: zero,
-        up: zero,
-    };
-    Opened {
-        number: 2,
-        map: map,
-        table: Table {
-            count: 0,
-            blends: [none; Table::MOST_BLENDS],
-        },
-    }
-}
-
-// Opens a record: 2 where it is not good.
-pub fn open(map: Map) -> Opened
-    ensures { result ≡ opened map }
-{
-    let lines = map.lines;
-    let found = replay(lines);
-    if !found.ok {
-        return not_good(map);
-    }
-    let splits = lines.splits;
-    if !no_splits_from(splits, lines.count) {
-        return not_good(map);
-    }
-    let table = found.table;
-    let values = map.values;
-    if !no_values_from(values, table.count) {
-        return not_good(map);
-    }
-    let marks = map.marks;
-    if !no_marks_above(1, marks, 0) {
-        return not_good(map);
-    }
-    if !no_marks_above(0, marks, table.count) {
-        return not_good(map);
-    }
-    Opened {
-        number: 0,
-        map: map,
-        table: table,
-    }
-}
-
-// The fresh map of two sides, opened without a replay: its table is that of the first four blends.
-pub fn fresh(w: usize, h: usize) -> Opened
-    ensures { result ≡ with_table (fresh_map w h) }
-{
-    let made = Map::fresh(w, h);
-    let map = made.map;
-    let lines = map.lines;
-    Opened {
-        number: made.number,
-        map: map,
-        table: fresh_table(lines.w, lines.h),
-    }
-}
-
-// The number and the map alone.
-pub(crate) fn without_table(o: Opened) -> Changed
-    ensures { result ≡ changed o.number o.map }
-{
-    let map = o.map;
-    Changed {
-        number: o.number,
-        map: map,
-    }
-}
-
-// The same map with a number.
-fn numbered(o: Opened, number: usize) -> Opened
-    ensures { result ≡ record { number = number; map = o.map; table = o.table } }
-{
-    let mut next = o;
-    next.number = number;
-    next
 }
 
 impl Opened {
-    // The rest of `Map::place`.
-    pub fn place(self, i: usize) -> Placed
-        requires { Opens self }
-        ensures { result ≡ table_place self.map i }
+    ghost use Rattle.maps.specs.Told.{changed_to, made_opened, opened_from, placed, read_off, weighed, paired, compared};
+
+    // Opens a record: 2 where it is not good.
+    pub fn open(map: &Map) -> Result<Opened, Refusal>
+        ensures { opened_from map.now result ≡ opened map.now }
     {
-        let table = self.table;
-        if table.count <= i {
-            return no_place(9);
+        let Some(table) = replay(&map.lines) else {
+            return Err(Refusal::BadRecord);
+        };
+        if !no_splits(&map.lines.splits[map.lines.count..]) {
+            return Err(Refusal::BadRecord);
         }
-        let x = table.blends[i];
-        let map = self.map;
-        Placed {
-            number: 0,
-            blend: shape_of(x),
-            value: map.values[i] as usize,
-            mark: map.marks[i] as usize,
+        if !no_values(&map.values[table.count..]) {
+            return Err(Refusal::BadRecord);
         }
+        if !no_marks_above(1, &map.marks) {
+            return Err(Refusal::BadRecord);
+        }
+        if !no_marks_above(0, &map.marks[table.count..]) {
+            return Err(Refusal::BadRecord);
+        }
+        Ok(Opened { map: *map, table })
+    }
+
+    // The fresh map of two sides, opened without a replay: its table is that of the first four blends.
+    pub fn fresh(w: usize, h: usize) -> Result<Opened, Refusal>
+        ensures { made_opened result ≡ fresh_map w h }
+    {
+        let map = Map::fresh(w, h)?;
+        Ok(Opened {
+            map,
+            table: Table::fresh(w, h),
+        })
+    }
+
+    // Whether the point (u, v) lies in the domain.
+    fn contains(&self, u: usize, v: usize) -> bool
+        ensures { result ≡ (leb u self.now.map.lines.w && leb v self.now.map.lines.h) }
+    {
+        u <= self.map.lines.w && v <= self.map.lines.h
+    }
+
+    // The rest of `Map::place`.
+    pub fn place(&self, i: usize) -> Result<Placed, Refusal>
+        ensures { placed result ≡ table_place self.now.map i }
+    {
+        if self.table.count <= i {
+            return Err(Refusal::NoAnchor);
+        }
+        Ok(Placed {
+            blend: shape_of(self.table.blends[i]),
+            value: usize::from(self.map.values[i]),
+            mark: usize::from(self.map.marks[i]),
+        })
     }
 
     // The rest of `Map::reading`.
-    pub fn reading(self, u: usize, v: usize) -> Reading
-        requires { Opens self }
-        ensures { result ≡ reading self.map u v }
+    pub fn reading(&self, u: usize, v: usize) -> Result<usize, Refusal>
+        ensures { read_off result ≡ reading self.now.map u v }
     {
-        let map = self.map;
-        let w = map.lines.w;
-        let h = map.lines.h;
-        if !in_domain(w, h, u, v) {
-            return Reading {
-                number: 10,
-                litres: 0,
-            };
+        if !self.contains(u, v) {
+            return Err(Refusal::Outside);
         }
-        let table = self.table;
-        let values = map.values;
-        Reading {
-            number: 0,
-            litres: reading_of(table, values, w, h, u, v),
-        }
+        Ok(self.reading_at(u, v))
     }
 
     // The rest of `Map::weights`.
-    pub fn weights(self, u: usize, v: usize) -> Weights
-        requires { Opens self }
-        ensures { result ≡ weights self.map u v }
+    pub fn weights(&self, u: usize, v: usize) -> Result<Weights, Refusal>
+        ensures { weighed result ≡ weights self.now.map u v }
     {
-        let map = self.map;
-        let w = map.lines.w;
-        let h = map.lines.h;
-        if !in_domain(w, h, u, v) {
-            return no_weights(10);
+        if !self.contains(u, v) {
+            return Err(Refusal::Outside);
         }
-        let table = self.table;
-        weights_of(table, w, h, u, v)
+        Ok(self.weights_at(u, v))
     }
 
     // The rest of `Map::row`, or of `Map::column`.
-    fn along(self, row: bool, at: usize, wanted: usize) -> Pairs
-        requires { Opens self }
-        ensures { result ≡ along_pairs self.map row at wanted }
+    fn along(&self, row: bool, at: usize, wanted: usize) -> Result<Pairs, Refusal>
+        ensures { paired result ≡ along_pairs self.now.map row at wanted }
     {
-        let map = self.map;
-        let w = map.lines.w;
-        let h = map.lines.h;
+        let w = self.map.lines.w;
+        let h = self.map.lines.h;
         if along(row, h, w) < at {
-            return no_pairs(10);
+            return Err(Refusal::Outside);
         }
         if wanted < 1 {
-            return no_pairs(13);
+            return Err(Refusal::NoPair);
         }
         if 65535 < wanted {
-            return no_pairs(13);
+            return Err(Refusal::NoPair);
         }
-        let table = self.table;
-        let values = map.values;
-        pairs_along(table, values, w, h, row, at, wanted)
+        self.pairs_along(row, at, wanted).ok_or(Refusal::NoPair)
     }
 
     // The rest of `Map::row`.
-    pub fn row(self, v: usize, wanted: usize) -> Pairs
-        requires { Opens self }
-        ensures { result ≡ row_pairs self.map v wanted }
+    pub fn row(&self, v: usize, wanted: usize) -> Result<Pairs, Refusal>
+        ensures { paired result ≡ row_pairs self.now.map v wanted }
     {
         self.along(true, v, wanted)
     }
 
     // The rest of `Map::column`.
-    pub fn column(self, u: usize, wanted: usize) -> Pairs
-        requires { Opens self }
-        ensures { result ≡ column_pairs self.map u wanted }
+    pub fn column(&self, u: usize, wanted: usize) -> Result<Pairs, Refusal>
+        ensures { paired result ≡ column_pairs self.now.map u wanted }
     {
         self.along(false, u, wanted)
     }
 
     // The rest of `Map::set`.
-    pub fn set(self, m: usize, n: usize, value: u16) -> Opened
-        requires { Opens self }
-        ensures { result ≡ with_table (set_value self.map m n value) }
+    pub fn set(&mut self, m: usize, n: usize, value: u16) -> Result<(), Refusal>
+        ensures { changed_to self.new.map result ≡ set_value self.old.map m n value }
     {
         // An anchor lies within the sides, so that its knots fit.
-        if Map::LARGEST_SIDE < m {
-            return numbered(self, 9);
+        if Map::LARGEST_SIDE < m || Map::LARGEST_SIDE < n {
+            return Err(Refusal::NoAnchor);
         }
-        if Map::LARGEST_SIDE < n {
-            return numbered(self, 9);
-        }
-        let table = self.table;
-        let place = place_of(table, m + 1, n + 1);
-        if table.count <= place {
-            return numbered(self, 9);
-        }
-        let mut map = self.map;
-        map.values[place] = value;
-        map.marks[place] = 1;
-        Opened {
-            number: 0,
-            map: map,
-            table: table,
-        }
+        let Some(place) = place_of(&self.table, m + 1, n + 1) else {
+            return Err(Refusal::NoAnchor);
+        };
+        self.map.values[place] = value;
+        self.map.marks[place] = 1;
+        Ok(())
     }
 
     // The rest of `Map::split`.
-    pub fn split(self, s: Split, allowance: usize) -> Opened
-        requires { Opens self }
-        ensures { result ≡ with_table (split_within self.map s allowance) }
+    pub fn split(&mut self, s: Split, allowance: usize) -> Result<(), Refusal>
+        ensures { changed_to self.new.map result ≡ split_within self.old.map s allowance }
     {
-        let step = split(self.map.lines, self.table, s, allowance);
-        if step.number != 0 {
-            return numbered(self, step.number);
-        }
-        let mut lines = self.map.lines;
-        let line = step.split;
-        let at = lines.count;
-        lines.splits[at] = line;
-        lines.count = at + 1;
-        let values = self.map.values;
-        let marks = self.map.marks;
-        let table = step.table;
-        let carried = carry(self.table, values, marks, table, lines.w, lines.h);
-        let new_values = carried.values;
-        let new_marks = carried.marks;
-        Opened {
-            number: 0,
-            map: Map {
-                lines: lines,
-                values: new_values,
-                marks: new_marks,
-            },
-            table: table,
-        }
+        let drawn = split(&self.map.lines, &self.table, s, allowance)?;
+        let carried = self.carry(drawn.table.blends());
+        let at = self.map.lines.count;
+        self.map.lines.splits[at] = drawn.line;
+        self.map.lines.count = at + 1;
+        let values = carried.values;
+        let marks = carried.marks;
+        self.map.values = values;
+        self.map.marks = marks;
+        self.table = drawn.table;
+        Ok(())
     }
 
     // The rest of `Map::same`.
-    pub fn same(self, other: Opened) -> Same
-        requires { Opens self × Opens other }
-        ensures { result ≡ sameness self.map other.map }
+    pub fn same(&self, other: &Opened) -> bool
+        ensures { compared (Ok result) ≡ sameness self.now.map other.now.map }
     {
-        let mine = self.map;
-        let theirs = other.map;
-        Same {
-            number: 0,
-            yes: same_maps(mine, self.table, theirs, other.table),
-        }
+        let count = self.table.count;
+        self.map.lines.w == other.map.lines.w
+            && self.map.lines.h == other.map.lines.h
+            && self.table.blends() == other.table.blends()
+            && self.map.values[..count] == other.map.values[..count]
     }
 }

@@ -1,5 +1,5 @@
 // Readings and weights at whole points, in whole numbers that fit 64 bits.
-ghost use Rattle.std.specs.Prelude.{◌≡◌, true, map, ℕ, ◌+◌, ◌≤◌, ◌<◌, length, take};
+ghost use Rattle.std.specs.Prelude.{◌≡◌, true, map, ℕ, ◌+◌, ◌≤◌, ◌<◌, length, take, position};
 ghost use Rattle.axis.specs.Limits.{largest_side, most_blends};
 ghost use Rattle.axis.specs.Range.{only};
 ghost use Rattle.axis.specs.Fraction.{plus, total};
@@ -7,15 +7,14 @@ ghost use Rattle.mesh.specs.Blends.{anchored};
 ghost use Rattle.mesh.specs.Sound.{proper, over_square, blends_of};
 ghost use Rattle.axis.specs.Gap.{corner};
 ghost use Rattle.maps.specs.Rounding.{rounded};
-ghost use Rattle.maps.specs.Values.{place_of, reading_at};
+ghost use Rattle.maps.specs.Values.{reading_at};
 ghost use Rattle.maps.specs.Calls.{shape, weight_over};
-ghost use Rattle.maps.specs.Inner.{AtPoint, entries, entries_over, AllListed, weight_of_blend, Light, portion, portions, fraction_of, SumOf};
+ghost use Rattle.maps.specs.Inner.{entries, entries_over, AllListed, weight_of_blend, Light, portion, portions, fraction_of, SumOf};
 
+use crate::opened::Opened;
 use crate::{Shape, Weight, Weights};
-use axis::knots;
 use axis::knots::coordinate;
-use axis::shares::{corner_of, gap_at, share_at};
-use axis::supports::spans_at;
+use axis::shares::corner_of;
 use mesh::{Blend, Table};
 
 // A blend in document 01's coordinates.
@@ -48,10 +47,10 @@ pub(crate) fn is_over(b: Blend, x: usize, y: usize) -> bool
 {
     let a = b.across;
     let u = b.up;
-    if !spans_at(a, x) {
+    if !a.spans(x) {
         return false;
     }
-    spans_at(u, y)
+    u.spans(y)
 }
 
 // A blend over that square with its weight at a corner of the square, at knots (u, v), over the product of the two gaps in which the square lies.
@@ -63,8 +62,8 @@ fn weight_at(b: Blend, x: usize, y: usize, u: usize, v: usize) -> Weight
     let c = b.up;
     Weight {
         blend: shape_of(b),
-        numerator: share_at(a, x, u) * share_at(c, y, v),
-        denominator: gap_at(a, x) * gap_at(c, y),
+        numerator: a.share_at(x, u) * c.share_at(y, v),
+        denominator: a.gap_at(x) * c.gap_at(y),
     }
 }
 
@@ -74,27 +73,18 @@ fn is_anchored(b: Blend, m: usize, n: usize) -> bool
 {
     let a = b.across;
     let u = b.up;
-    if knots::wide(a.m) != m {
+    if usize::from(a.m) != m {
         return false;
     }
-    knots::wide(u.m) == n
+    usize::from(u.m) == n
 }
 
-// The table place of the blend with the anchor at knots (m, n); the table's count where there is none.
-pub(crate) fn place_of(table: Table, m: usize, n: usize) -> usize
-    requires { table.count ≤ most_blends }
-    ensures { result ≡ place_of (blends_of table) m n }
+// The table place of the blend with the anchor at knots (m, n); none where no blend has it.
+pub(crate) fn place_of(table: &Table, m: usize, n: usize) -> Option<usize>
+    requires { table.now.count ≤ most_blends }
+    ensures { result ≡ position (anchored m n) (blends_of table.now) }
 {
-    let count = table.count;
-    let mut i = 0;
-    while i < count {
-        let x = table.blends[i];
-        if is_anchored(x, m, n) {
-            return i;
-        }
-        i += 1;
-    }
-    count
+    table.blends().iter().position(|x| is_anchored(*x, m, n))
 }
 
 // A sum of fractions: a whole number, and a rest over the product of the denominators.
@@ -136,14 +126,14 @@ pub(crate) struct Four {
     pub fourth: Entry,
 }
 
-// The four blends over the unit square whose low corner is at knots (x, y), in table order, looked for from a place near them on, and anew from the start
+// The four blends of a table over the unit square whose low corner is at knots (x, y), in table order, looked for from a place near them on, and anew from the start
 // where they do not all stand behind it. The last four found are kept, so that callers name each and index none.
-pub(crate) fn four_over(table: Table, near: usize, x: usize, y: usize) -> Four
-    requires { (table.count ≤ most_blends) × (length (only (over_square x y) (blends_of table)) ≡ 4) }
-    ensures { entries result ≡ entries_over (over_square x y) (blends_of table) 0 }
+pub(crate) fn four_over(blends: &[Blend], near: usize, x: usize, y: usize) -> Four
+    requires { (length blends.now ≤ most_blends) × (length (only (over_square x y) blends.now) ≡ 4) }
+    ensures { entries result ≡ entries_over (over_square x y) blends.now 0 }
 {
     let none = Entry {
-        blend: table.blends[0],
+        blend: blends[0],
         place: 0,
     };
     let mut four = Four {
@@ -156,12 +146,12 @@ pub(crate) fn four_over(table: Table, near: usize, x: usize, y: usize) -> Four
     let mut from = near;
     let mut i = near;
     while found < 4 {
-        if table.count <= i {
+        if blends.len() <= i {
             from = 0;
             i = 0;
             found = 0;
         }
-        let b = table.blends[i];
+        let b = blends[i];
         if is_over(b, x, y) {
             let second = four.second;
             let third = four.third;
@@ -183,15 +173,15 @@ pub(crate) fn four_over(table: Table, near: usize, x: usize, y: usize) -> Four
 // table: the weights times the values, rounded. They are added from the last to the first, as the sum over a list is. The rest of the sum is at most four
 // times its denominator, and that at most 16,641 to the fourth power, so what is divided at the end stays below 2 to the 60.
 pub(crate) fn reading_over(
-    four: Four,
+    four: &Four,
     values: &[u16],
     x: usize,
     y: usize,
     u: usize,
     v: usize,
 ) -> usize
-    requires { (length values.now ≡ most_blends) × AllListed four × (x ≤ u) × (u ≤ x + 1) × (y ≤ v) × (v ≤ y + 1) }
-    ensures { result ≡ rounded (total (portions x y u v values.now (entries four))) }
+    requires { (length values.now ≡ most_blends) × AllListed four.now × (x ≤ u) × (u ≤ x + 1) × (y ≤ v) × (v ≤ y + 1) }
+    ensures { result ≡ rounded (total (portions x y u v values.now (entries four.now))) }
 {
     let none = Sum {
         whole: 0,
@@ -209,40 +199,35 @@ pub(crate) fn reading_over(
     sum.whole + (2 * sum.top + sum.bottom) / (2 * sum.bottom)
 }
 
-// The reading at the whole point (u, v).
-pub(crate) fn reading_of(
-    table: Table,
-    values: [u16; Table::MOST_BLENDS],
-    w: usize,
-    h: usize,
-    u: usize,
-    v: usize,
-) -> usize
-    requires { AtPoint w h table u v }
-    ensures { result ≡ reading_at (blends_of table) (take table.count values) u v }
-{
-    let x = low_knot(w, u);
-    let y = low_knot(h, v);
-    let four = four_over(table, 0, x, y);
-    reading_over(four, &values, x, y, u + 1, v + 1)
-}
+impl Opened {
+    // The reading at the whole point (u, v).
+    pub(crate) fn reading_at(&self, u: usize, v: usize) -> usize
+        requires { (u ≤ self.now.map.lines.w) × (v ≤ self.now.map.lines.h) }
+        ensures { result ≡ reading_at (blends_of self.now.table) (take self.now.table.count self.now.map.values) u v }
+    {
+        let x = low_knot(self.map.lines.w, u);
+        let y = low_knot(self.map.lines.h, v);
+        let four = four_over(self.table.blends(), 0, x, y);
+        reading_over(&four, &self.map.values, x, y, u + 1, v + 1)
+    }
 
-// The weights of the four blends over the unit square at a whole point, in table order.
-pub(crate) fn weights_of(table: Table, w: usize, h: usize, u: usize, v: usize) -> Weights
-    requires { AtPoint w h table u v }
-    ensures { (result.number ≡ 0) × (result.entries ≡ map (weight_over w h u v) (only (over_square (corner w u + 1) (corner h v + 1)) (blends_of table))) }
-{
-    let x = low_knot(w, u);
-    let y = low_knot(h, v);
-    let m = u + 1;
-    let n = v + 1;
-    let four = four_over(table, 0, x, y);
-    let first = weight_at(four.first.blend, x, y, m, n);
-    let second = weight_at(four.second.blend, x, y, m, n);
-    let third = weight_at(four.third.blend, x, y, m, n);
-    let fourth = weight_at(four.fourth.blend, x, y, m, n);
-    Weights {
-        number: 0,
-        entries: [first, second, third, fourth],
+    // The weights of the four blends over the unit square at a whole point, in table order.
+    pub(crate) fn weights_at(&self, u: usize, v: usize) -> Weights
+        requires { (u ≤ self.now.map.lines.w) × (v ≤ self.now.map.lines.h) }
+        ensures { result.entries ≡ map (weight_over self.now.map.lines.w self.now.map.lines.h u v)
+            (only (over_square (corner self.now.map.lines.w u + 1) (corner self.now.map.lines.h v + 1)) (blends_of self.now.table)) }
+    {
+        let x = low_knot(self.map.lines.w, u);
+        let y = low_knot(self.map.lines.h, v);
+        let m = u + 1;
+        let n = v + 1;
+        let four = four_over(self.table.blends(), 0, x, y);
+        let first = weight_at(four.first.blend, x, y, m, n);
+        let second = weight_at(four.second.blend, x, y, m, n);
+        let third = weight_at(four.third.blend, x, y, m, n);
+        let fourth = weight_at(four.fourth.blend, x, y, m, n);
+        Weights {
+            entries: [first, second, third, fourth],
+        }
     }
 }

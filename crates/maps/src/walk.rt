@@ -7,11 +7,11 @@ ghost use Rattle.mesh.specs.Sound.{over_square, blends_of};
 ghost use Rattle.maps.specs.declared.values.Entry.{Entry};
 ghost use Rattle.maps.specs.Values.{reading_at};
 ghost use Rattle.maps.specs.Pairs.{counted_pairs};
-ghost use Rattle.maps.specs.Inner.{entries, InTable, with_pair};
+ghost use Rattle.maps.specs.Inner.{entries, with_pair, counted};
 
 use crate::Pairs;
+use crate::opened::Opened;
 use crate::values::{Four, four_over, is_over, low_knot, reading_over};
-use mesh::Table;
 
 // Of two numbers, the one that goes along a row and the one that goes up a column.
 pub(crate) fn along(row: bool, one: usize, other: usize) -> usize
@@ -24,8 +24,8 @@ pub(crate) fn along(row: bool, one: usize, other: usize) -> usize
 }
 
 // Whether four blends all lie over the unit square whose low corner is at knots (x, y).
-fn all_over(four: Four, x: usize, y: usize) -> bool
-    ensures { result ≡ all (over_square x y) (map (λ (e : Entry). e.blend) (entries four)) }
+fn all_over(four: &Four, x: usize, y: usize) -> bool
+    ensures { result ≡ all (over_square x y) (map (λ (e : Entry). e.blend) (entries four.now)) }
 {
     if !is_over(four.first.blend, x, y) {
         return false;
@@ -40,66 +40,55 @@ fn all_over(four: Four, x: usize, y: usize) -> bool
 }
 
 // The pairs with one more, from k to the next point, where one of the two lies below the wanted flow and the other does not.
-fn noted(pairs: Pairs, k: usize, here: bool, there: bool) -> Pairs
-    requires { pairs.count < largest_side }
-    ensures { result ≡ cond (differ here there) (with_pair pairs k) pairs }
+fn noted(pairs: Option<Pairs>, k: usize, here: bool, there: bool) -> Option<Pairs>
+    requires { (counted pairs).count < largest_side × ((counted pairs).number ≡ 0 → 0 < (counted pairs).count) }
+    ensures noted { counted result ≡ cond (differ here there) (with_pair (counted pairs) k) (counted pairs) }
+    ensures some { (counted result).number ≡ 0 → 0 < (counted result).count }
 {
     if here == there {
         return pairs;
     }
-    if pairs.count == 0 {
-        return Pairs {
-            number: 0,
-            count: 1,
-            first: k,
-        };
-    }
-    Pairs {
-        number: 0,
-        count: pairs.count + 1,
-        first: pairs.first,
-    }
+    Some(match pairs {
+        None => Pairs { count: 1, first: k },
+        Some(p) => Pairs {
+            count: p.count + 1,
+            first: p.first,
+        },
+    })
 }
 
-// The pairs along the row at speed `at`, or up the column at level `at`.
-pub(crate) fn pairs_along(
-    table: Table,
-    values: [u16; Table::MOST_BLENDS],
-    w: usize,
-    h: usize,
-    row: bool,
-    at: usize,
-    wanted: usize,
-) -> Pairs
-    requires { InTable w h table values × (at ≤ cond row h w) }
-    ensures { result ≡ counted_pairs (turns_from 0 (cond row w h)
-        (λ (k : ℕ). ltb (reading_at (blends_of table) (take table.count values) (cond row k at) (cond row at k)) wanted)) }
-{
-    let side = along(row, w, h);
-    let mut four = four_over(table, 0, 1, 1);
-    let mut last = false;
-    let mut pairs = Pairs {
-        number: 13,
-        count: 0,
-        first: 0,
-    };
-    let mut k = 0;
-    while k <= side {
-        let u = along(row, k, at);
-        let v = along(row, at, k);
-        let x = low_knot(w, u);
-        let y = low_knot(h, v);
-        if !all_over(four, x, y) {
-            four = four_over(table, four.first.place, x, y);
+impl Opened {
+    // The pairs along the row at speed `at`, or up the column at level `at`; none where there is no pair.
+    pub(crate) fn pairs_along(&self, row: bool, at: usize, wanted: usize) -> Option<Pairs>
+        requires { at ≤ cond row self.now.map.lines.h self.now.map.lines.w }
+        ensures { counted result ≡ counted_pairs (turns_from 0 (cond row self.now.map.lines.w self.now.map.lines.h)
+            (λ (k : ℕ). ltb (reading_at (blends_of self.now.table) (take self.now.table.count self.now.map.values) (cond row k at) (cond row at k)) wanted)) }
+    {
+        let blends = self.table.blends();
+        let w = self.map.lines.w;
+        let h = self.map.lines.h;
+        let side = along(row, w, h);
+        let mut four = four_over(blends, 0, 1, 1);
+        let mut last = false;
+        let mut pairs = None;
+        let mut k = 0;
+        while k <= side {
+            let u = along(row, k, at);
+            let v = along(row, at, k);
+            let x = low_knot(w, u);
+            let y = low_knot(h, v);
+            if !all_over(&four, x, y) {
+                four = four_over(blends, four.first.place, x, y);
+            }
+            let litres = reading_over(&four, &self.map.values, x, y, u + 1, v + 1);
+            let here = litres < wanted;
+            // The first point makes no pair.
+            if 0 < k {
+                pairs = noted(pairs, k - 1, last, here);
+            }
+            last = here;
+            k += 1;
         }
-        let litres = reading_over(four, &values, x, y, u + 1, v + 1);
-        let here = litres < wanted;
-        // The first point makes no pair.
-        if 0 < k {
-            pairs = noted(pairs, k - 1, last, here);
-        }
-        last = here;
-        k += 1;
+        pairs
     }
-    pairs
 }

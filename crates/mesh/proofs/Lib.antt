@@ -1,3 +1,4 @@
+pub mod Refused
 pub mod Bytes
 pub mod Ranges
 pub mod Cuts

@@ -4,7 +4,7 @@ use mathlib.Core.Path.{◌≡◌, ap}
 use mathlib.Core.List.{[]}
 use Rattle.axis.specs.Limits.{most_allowance}
 use Rattle.mesh.specs.declared.Split.{Split}
-use Rattle.maps.specs.declared.Changed.{Changed}
+use Rattle.maps.specs.Outcomes.{Changed}
 use Rattle.maps.specs.Calls.{split_within}
 use Rattle.maps.proofs.Allowance.{by_allowance}
 use Rattle.files.specs.Calls.{read_file}

@@ -12,7 +12,7 @@ use Rattle.mesh.specs.declared.Split.{Split}
 use Rattle.mesh.specs.declared.Lines.{Lines}
 use Rattle.mesh.specs.Lines.{layout_of}
 use Rattle.maps.specs.declared.Map.{Map}
-use Rattle.maps.specs.declared.Changed.{Changed}
+use Rattle.maps.specs.Outcomes.{Changed}
 use Rattle.maps.specs.Plain.{Plain}
 use Rattle.maps.specs.Record.{lines_of, record_of, plain}
 use Rattle.maps.specs.Histories as Maps

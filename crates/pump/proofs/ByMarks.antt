@@ -1,5 +1,5 @@
 -- Marks decide nothing but themselves over two buffers.
-use Prim.Native.Nat.{ℕ, ◌-◌}
+use Prim.Native.Nat.{ℕ}
 use native.Mathlib.Omega.{arith}
 use mathlib.Core.Path.{◌≡◌, refl, sym, ap, ap₂, subst, ◌∙◌}
 use mathlib.Core.Logic.{⊎_elim}
@@ -11,7 +11,7 @@ use lib.Seq.{take-append_seam, drop-append_seam}
 use Rattle.axis.proofs.Tests.{either, and_both}
 use Rattle.mesh.specs.Lines.{allowed_side}
 use Rattle.maps.specs.declared.Map.{Map}
-use Rattle.maps.specs.declared.Changed.{Changed}
+use Rattle.maps.specs.Outcomes.{Changed}
 use Rattle.maps.specs.Plain.{Plain, fresh_plain, blends}
 use Rattle.maps.specs.Record.{record_of}
 use Rattle.maps.specs.Histories as Maps

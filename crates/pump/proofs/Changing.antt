@@ -2,31 +2,25 @@
 use Prim.Native.Nat.{ℕ}
 use mathlib.Core.Path.{◌≡◌}
 use mathlib.Core.List.{List}
-use Rattle.maps.specs.declared.Map.{Map}
-use Rattle.maps.specs.declared.Changed.{Changed}
-use Rattle.maps.specs.declared.opened.Opened.{Opened}
-use Rattle.maps.specs.Calls.{changed}
-use Rattle.maps.specs.Opened.{with_table}
-use Rattle.files.specs.Calls.{write_number, read_file}
-use Rattle.pump.specs.Border.{first_of, new_number, new_bytes, new_used, lent, change_number, change_bytes, change_used}
-use Rattle.pump.proofs.Refusals.{stays, two_refuse}
+use Rattle.std.specs.Prelude.{Result, Err, ⊤}
+use Rattle.mesh.specs.declared.refusal.Refusal.{Refusal}
+use Rattle.mesh.specs.Refusals.{number_of}
+use Rattle.maps.specs.Outcomes.{Changed}
+use Rattle.files.specs.Told.{number_in}
+use Rattle.pump.specs.Border.{new_number, new_bytes, new_used}
+use Rattle.pump.proofs.Refusals.{refused, refuses_at}
 
 -- What a call that makes a new map answers and leaves:
 abbrev pub Ends : ℕ → Changed → List ℕ → ℕ → ℕ → List ℕ → ℕ → Type 0
 Ends refused next buffer used number bytes size =
     (number ≡ new_number refused next buffer) × (bytes ≡ new_bytes refused next buffer) × (size ≡ new_used refused next buffer used)
 
--- a refusal before the file is put leaves all as it was
-pub ends_refused : (refused : ℕ) (next : Changed) (buffer : List ℕ) (used : ℕ) {number : ℕ} →
-    number ≡ first_of refused next.number 0 → (number ≡ 0 → ⊥) → Ends refused next buffer used number buffer used
-unfolding new_number new_bytes new_used
-ends_refused refused next buffer used is ne =
-    let e = two_refuse refused next.number (write_number next.map buffer) is ne in
-    (e, stays _ _ e ne, stays _ _ e ne)
+-- The bytes are no file, or the call on their map refuses: all is as it was.
+module _ {r : Result ⊤ Refusal} {e : Refusal} (is : r ≡ Err e) (next : Changed) (buffer : List ℕ) (used : ℕ) where
+  pub no_file : {number : ℕ} → number_of e ≡ number → Ends number next buffer used (number_in r) buffer used
+  unfolding new_number new_bytes new_used
+  no_file n = let at = refuses_at e n _ in let answer = refused is at buffer _ in (answer.0, answer.1, (refused is at used _).1)
 
--- on the map that was read, it is what the change of a file says
-module _ (call : Map → Changed) (buffer : List ℕ) (used : ℕ) {old next : Opened} (is : old ≡ with_table (read_file (lent buffer used)))
-    (given : next ≡ with_table (call old.map)) where
-  pub changes : {number : ℕ} {bytes : List ℕ} {size : ℕ} → Ends old.number (changed next.number next.map) buffer used number bytes size →
-      (number ≡ change_number call buffer used) × (bytes ≡ change_bytes call buffer used) × (size ≡ change_used call buffer used)
-  changes e = rw (given, is) at e
+  pub call_refuses : number_of e ≡ next.number → Ends 0 next buffer used (number_in r) buffer used
+  unfolding new_number new_bytes new_used
+  call_refuses n = let at = refuses_at e n _ in let answer = refused is at buffer _ in (answer.0, answer.1, (refused is at used _).1)

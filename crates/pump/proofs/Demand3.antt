@@ -13,7 +13,7 @@ use lib.Seq.{take-append_seam, length-take-le}
 use Rattle.axis.proofs.Tests.{either, and_both, cond_true, cond_false}
 use Rattle.mesh.specs.Lines.{allowed_side}
 use Rattle.maps.specs.Plain.{Plain, fresh_plain}
-use Rattle.maps.specs.declared.Changed.{Changed}
+use Rattle.maps.specs.Outcomes.{Changed}
 use Rattle.maps.specs.Calls.{changed, fresh_map}
 use Rattle.maps.specs.Histories as Maps
 use Rattle.maps.specs.Histories.{Call, number_of, by_machine, ending}

@@ -13,8 +13,8 @@ use lib.Seq.{take-append_seam, drop-append-add, drop-drop}
 use Rattle.axis.proofs.Tests.{either, and_both, cond_true, cond_false}
 use Rattle.mesh.specs.Lines.{allowed_side}
 use Rattle.maps.specs.declared.Map.{Map}
-use Rattle.maps.specs.declared.Changed.{Changed}
-use Rattle.maps.specs.declared.Pairs.{Pairs}
+use Rattle.maps.specs.Outcomes.{Changed}
+use Rattle.maps.specs.Outcomes.{Pairs}
 use Rattle.maps.specs.Plain.{Plain, fresh_plain}
 use Rattle.maps.specs.Values.{in_domain}
 use Rattle.maps.specs.Record.{record_of}

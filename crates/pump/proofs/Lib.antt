@@ -1,5 +1,4 @@
 pub mod Refusals
-pub mod Coordinates
 pub mod Changing
 pub mod Histories
 pub mod Demand3

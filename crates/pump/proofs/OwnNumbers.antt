@@ -12,7 +12,7 @@ use Rattle.axis.specs.Range.{all, any, OneOf}
 use Rattle.axis.proofs.Tests.{either, by_test, true_not_false, and_both, all_at, any_at}
 use Rattle.mesh.specs.Lines.{allowed_side}
 use Rattle.maps.specs.declared.Map.{Map}
-use Rattle.maps.specs.declared.Changed.{Changed}
+use Rattle.maps.specs.Outcomes.{Changed}
 use Rattle.maps.specs.Plain.{Plain, fresh_plain}
 use Rattle.maps.specs.Record.{record_of}
 use Rattle.maps.specs.Calls.{changed, fresh_map, set_value, split_within, table_place, reading, weights}

@@ -3,18 +3,16 @@ use Rattle.std.specs.Prelude.{ℕ, ◌+◌, cond, List, [], ◌∷◌, ◌++◌,
 use Rattle.axis.specs.Range.{joined}
 use Rattle.mesh.specs.declared.Split.{Split}
 use Rattle.maps.specs.declared.Map.{Map}
-use Rattle.maps.specs.declared.Changed.{Changed}
+use Rattle.maps.specs.Outcomes.{Changed}
 use Rattle.maps.specs.declared.Shape.{Shape}
-use Rattle.maps.specs.declared.Placed.{Placed}
+use Rattle.maps.specs.Outcomes.{Placed}
 use Rattle.maps.specs.declared.Weight.{Weight}
-use Rattle.maps.specs.declared.Weights.{Weights}
-use Rattle.maps.specs.declared.Pairs.{Pairs}
+use Rattle.maps.specs.Outcomes.{Weights}
+use Rattle.maps.specs.Outcomes.{Pairs}
 use Rattle.maps.specs.Record.{plain}
-use Rattle.maps.specs.Calls.{changed, fresh_map, set_value, split_within, table_place, reading, weights}
+use Rattle.maps.specs.Calls.{changed, fresh_map, set_value, table_place, reading, weights}
 use Rattle.maps.specs.Sameness.{sameness}
 use Rattle.files.specs.File.{word, file_of}
-use Rattle.pump.specs.declared.changes.Change.{Change}
-use Rattle.pump.specs.declared.changes.Change.TheVariants.{Set, Draw}
 use Rattle.files.specs.Calls.{if_refused, short_of, answered, write_number, read_file, whole, payload_at}
 
 -- the first refusal of three checks in their order; 0 where none applies
@@ -63,11 +61,6 @@ set_wide old m n value = cond (leb value 65535) (set_value old m n value) (chang
 -- a split by its direction, position, from and to
 abbrev pub split_of : ℕ → ℕ → ℕ → ℕ → Split
 split_of direction position from to = record { direction = direction; position = position; from = from; to = to }
-
--- what a change comes to on a map
-abbrev pub changed_by : Change → Map → Changed
-changed_by (Set m n value) old = set_wide old m n value
-changed_by (Draw s allowance) old = split_within old s allowance
 
 -- a coordinate as a 16-bit number: −1 as 65,535; no other is negative
 abbrev pub signed : ℤ → ℕ

@@ -3,8 +3,8 @@ use Rattle.std.specs.Prelude.{ℕ, Bool, cond, ◌&&◌, List, [], ◌∷◌, �
 use Rattle.mesh.specs.declared.Split.{Split}
 use Rattle.mesh.specs.Lines.{allowed_side}
 use Rattle.maps.specs.declared.Map.{Map}
-use Rattle.maps.specs.declared.Changed.{Changed}
-use Rattle.maps.specs.declared.Pairs.{Pairs}
+use Rattle.maps.specs.Outcomes.{Changed}
+use Rattle.maps.specs.Outcomes.{Pairs}
 use Rattle.maps.specs.Plain.{Plain, fresh_plain}
 use Rattle.maps.specs.Record.{plain}
 use Rattle.maps.specs.Calls.{split_within, place_on, reading_on, weights_on}

@@ -1,4 +1,5 @@
 pub mod Border
+pub mod Steps
 pub mod Histories
 pub mod Demand
 pub mod ByLines

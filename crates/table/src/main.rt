@@ -6,6 +6,7 @@ ghost use Rattle.std.specs.Prelude.{◌≤◌, length, IfOk};
 
 use files::LARGEST_FILE;
 use files::listing::{LARGEST_TEXT, list};
+use maps::Refusal;
 use std::env::{Env, FillError};
 use std::io;
 use std::io::Read;
@@ -35,20 +36,17 @@ fn print_table(rt: &HostRuntime) -> io::Result<()> {
     let mut input = [0u8; LARGEST_FILE + 1];
     let n = read_full(&mut rt.stdin(), &mut input)?;
     let mut text = [0u8; LARGEST_TEXT];
-    let written = list(&input[..n], &mut text);
-    if written.number == 11 {
-        return refuse(rt);
+    match list(&input[..n], &mut text) {
+        Ok(length) => rt.write_all(&text[..length]),
+        Err(Refusal::NoFile) => refuse(rt),
+        // No table is longer than the text that is lent.
+        Err(_) => Ok(()),
     }
-    let length = written.length;
-    rt.write_all(&text[..length])
 }
 
 // Whether there is an argument behind the program's name.
 fn has_argument(rt: &HostRuntime) -> bool {
-    match rt.arg(1, &mut [0u8; 1]) {
-        Err(FillError::NotPresent) => false,
-        _ => true,
-    }
+    !matches!(rt.arg(1, &mut [0u8; 1]), Err(FillError::NotPresent))
 }
 
 fn main(rt: HostRuntime) -> io::Result<()> {

@@ -8,5 +8,5 @@ returns-then-bytes-at c = sym (words_short c.args.bytes.now c.args.at c.args.wor
 
 pub loop-i-preserved : goal.loop-i-preserved
 loop-i-preserved c =
-    let more = words_more c.args.bytes.now c.args.at c.args.words.now c.loop-i.i c.loop-i-test.true (sym c.has_word.ensures ∙ c.if-not-has_word.false) in
-    record { decides = c.loop-i.invariant.decides ∙ more; within = omega arith }
+    c.loop-i.invariant ∙
+    words_more c.args.bytes.now c.args.at c.args.words.now c.loop-i.i c.loop-i-test.true (sym c.has_word.ensures ∙ c.if-not-has_word.false)

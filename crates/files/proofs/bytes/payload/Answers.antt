@@ -1,19 +1,25 @@
--- `files::bytes::payload` meets its contract: the size that `size_at` gives is 0 just where no whole record is there.
-use Rattle.std.proofs.Common.{arith}
+-- `files::bytes::payload` meets its contract: `size_at` gives a size just where a whole record is there.
+use Rattle.std.proofs.Common.{arith, ◌∙◌, sym}
 use Rattle.files.proofs.Whole.{Sized, some_size, no_size}
 use Rattle.files.proofs.bytes.payload.Goals as goal
 
-sized : (c : goal.Else-size-eq0) → Sized c.args.bytes.now c.args.at c.size_at-size.result
-sized c = some_size _ _ _ c.size_at-size.ensures c.if-size-eq0.false
+sized : (c : goal.In_ok-size) → Sized c.args.bytes.now c.args.at c.in_ok-size.size
+sized c = some_size _ _ (sym (grind arith) ∙ c.size_at.ensures)
 
-pub returns-then-size-eq0 : goal.returns-then-size-eq0
-returns-then-size-eq0 c = let e = no_size _ _ _ c.size_at-size.ensures c.if-size-eq0.true in (rw e, rw e)
+pub overflow_add-from : goal.overflow_add-from
+overflow_add-from c = omega (arith, sized c)
 
-pub slice_bounds-result-count-2 : goal.slice_bounds-result-count-2
-slice_bounds-result-count-2 c = omega (arith, sized c)
+pub overflow_add-to : goal.overflow_add-to
+overflow_add-to c = omega (arith, sized c)
 
-pub slice_bounds-result-start-2 : goal.slice_bounds-result-start-2
-slice_bounds-result-start-2 c = omega (arith, sized c)
+pub overflow_add-to-2 : goal.overflow_add-to-2
+overflow_add-to-2 c = omega (arith, sized c)
 
-pub slice_bounds-result-end-2 : goal.slice_bounds-result-end-2
-slice_bounds-result-end-2 c = omega (arith, sized c)
+pub slice_bounds-result-count : goal.slice_bounds-result-count
+slice_bounds-result-count c = omega (arith, sized c)
+
+pub slice_bounds-result-start : goal.slice_bounds-result-start
+slice_bounds-result-start c = omega (arith, sized c)
+
+pub slice_bounds-result-end : goal.slice_bounds-result-end
+slice_bounds-result-end c = omega (arith, sized c)

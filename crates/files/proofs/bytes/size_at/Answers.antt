@@ -1,20 +1,29 @@
 -- `files::bytes::size_at` meets its contract: each refusal is one test of `whole` that fails.
-use Rattle.std.proofs.Common.{arith}
+use Rattle.std.proofs.Common.{arith, ◌∙◌}
+use mathlib.Core.Logic.{⊎_elim}
 use Rattle.files.proofs.Whole.{size_none, size_whole}
 use Rattle.files.proofs.bytes.size_at.Goals as goal
 
-pub returns-then-length-lt2 : goal.returns-then-length-lt2
-returns-then-length-lt2 c = size_none _ _ (λ w. omega (arith, w.start))
+pub returns-in_err-checked_sub : goal.returns-in_err-checked_sub
+returns-in_err-checked_sub c = c.from_residual.ensures ∙ size_none _ _ (λ w. c.in_err-checked_sub.ensures (omega (arith, w.start)))
 
-pub returns-then-length-at : goal.returns-then-length-at
-returns-then-length-at c = size_none _ _ (λ w. omega (arith, w.start))
+pub returns-in_err-room : goal.returns-in_err-room
+returns-in_err-room c =
+    c.from_residual-in_err-room.ensures ∙ size_none _ _ (λ w. c.in_err-room.ensures (omega (arith, w.start, c.in_ok-checked_sub.ensures)))
 
-pub returns-then-size-lt2 : goal.returns-then-size-lt2
-returns-then-size-lt2 c = size_none _ _ (λ w. omega (arith, w.size))
+pub returns-then-size-room : goal.returns-then-size-room
+returns-then-size-room c =
+    let is = c.from-size.ensures ∙ c.word_at.ensures in
+    size_whole c.args.bytes.now c.args.at
+    (record {
+      start = omega (arith, c.in_ok-checked_sub.ensures, c.in_ok-room.ensures);
+      size = omega (arith, is);
+      end = omega (arith, is, c.in_ok-checked_sub.ensures, c.in_ok-room.ensures);
+    })
+    is
 
-pub returns-then-length-at-2 : goal.returns-then-length-at-2
-returns-then-length-at-2 c = size_none _ _ (λ w. omega (arith, w.end))
-
-pub returns : goal.returns
-returns c =
-    size_whole c.args.bytes.now c.args.at (record { start = omega arith; size = omega arith; end = omega arith }) _ c.word_at-size.ensures.0
+pub returns-else-size-ge2 : goal.returns-else-size-ge2
+returns-else-size-ge2 c =
+    let is = c.from-size.ensures ∙ c.word_at.ensures in
+    size_none _ _ (λ w.
+    ⊎_elim (λ f. omega (arith, w.end, is, f.1, c.in_ok-checked_sub.ensures, c.in_ok-room.ensures)) (λ f. omega (arith, w.size, is, f)) c.else-size-ge2.either)

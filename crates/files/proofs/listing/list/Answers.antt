@@ -1,21 +1,50 @@
--- `files::listing::list` meets its contract: no file, or the text of the map that is read.
-use Rattle.std.proofs.Common.{ℕ, ◌∙◌, sym, ap}
-use Rattle.maps.specs.declared.opened.Opened.{Opened}
-use Rattle.files.proofs.ReadMaps.{read_opens}
-use Rattle.files.proofs.TableText.{lists_refusal, lists_text}
+-- `files::listing::list` meets its contract: no file, or the text of the map that is read, where the buffer holds it.
+use Rattle.std.proofs.Common.{◌≡◌, ◌∙◌, sym, ap}
+use borrow.Author.Tests.{leb-true}
+use Rattle.std.proofs.lemmas.Result.{err_from_is_err_and}
+use Rattle.mesh.proofs.Refused.{refuses}
+use Rattle.maps.specs.declared.Map.{Map}
+use Rattle.maps.specs.Outcomes.{Changed}
+use Rattle.maps.specs.Record.{Held}
+use Rattle.maps.proofs.Changing.{GoodMap, opened_map}
+use Rattle.files.specs.Calls.{read_file}
+use Rattle.files.proofs.ReadMaps.{map_held}
+use Rattle.files.proofs.TableText.{lists_refusal, lists_text, text_short, text_put}
+use Rattle.files.proofs.listing.list.Goals.{In_ok-o}
 use Rattle.files.proofs.listing.list.Goals as goal
 
-pub returns-then-file-ne0 : goal.returns-then-file-ne0
-returns-then-file-ne0 c =
-    let is = ap (λ (o : Opened). o.number) c.read_opened-file.ensures in
-    let r = lists_refusal _ c.args.out.now (λ z. c.if-file-ne0.true (is ∙ z)) in
-    (ap (λ (n : ℕ). record { number = n; length = 0 }) is ∙ r.0, r.1)
+-- the map that is read, with its number, which is 0
+is_map : (c : In_ok-o) → c.in_ok-o.o.map ≡ (read_file c.args.bytes.now).map
+is_map c = ap (λ (x : Changed). x.map) c.in_ok-o.ensures
 
-pub list_opened-requires : goal.list_opened-requires
-list_opened-requires c = read_opens _ c.read_opened-file.ensures
+held : (c : In_ok-o) → Held c.in_ok-o.o.map
+held c = rw (is_map c) (map_held c.args.bytes.now)
+
+good_self : (c : In_ok-o) → GoodMap c.in_ok-o.o.map c.in_ok-o.o.table
+good_self c = opened_map c.in_ok-o.o.opens (held c).full
+
+pub returns-in_err-o : goal.returns-in_err-o
+returns-in_err-o c =
+    let p = err_from_is_err_and c.from_residual.result c.from_residual.ensures.1 in
+    let n = ap (λ (x : Changed). x.number) c.in_err-o.ensures in
+    rw (p.1, p.2, n) (lists_refusal c.args.bytes.now c.args.out.now (λ z. refuses _ (n ∙ z)))
+
+pub fits-requires : goal.fits-requires
+fits-requires c = held (goal.at.fits-requires c).In_ok-o
+
+pub returns-then-not-fits : goal.returns-then-not-fits
+returns-then-not-fits c =
+    let s = (goal.at.returns-then-not-fits c).In_ok-o in
+    let z = sym (ap (λ (x : Changed). x.number) c.in_ok-o.ensures) in
+    rw (is_map s, lists_text c.args.bytes.now c.args.out.now z) at
+    (text_short (good_self s) c.args.out.now (sym c.fits.ensures ∙ c.if-not-fits.true))
+
+pub put_table-requires : goal.put_table-requires
+put_table-requires c = (held (goal.at.put_table-requires c).In_ok-o, leb-true _ _ (sym c.fits.ensures ∙ c.if-not-fits.false))
 
 pub returns : goal.returns
 returns c =
-    let is = c.read_opened-file.ensures in
-    let e = lists_text c.args.bytes.now c.args.out.now (sym (ap (λ (o : Opened). o.number) is) ∙ c.if-file-ne0.false) in
-    rw (is, e) at c.list_opened.ensures
+    let s = (goal.at.returns c).In_ok-o in
+    let z = sym (ap (λ (x : Changed). x.number) c.in_ok-o.ensures) in
+    rw (is_map s, lists_text c.args.bytes.now c.args.out.now z) at
+    (text_put (good_self s) c.args.out.now (sym c.fits.ensures ∙ c.if-not-fits.false) c.put_table.ensures)

@@ -6,4 +6,4 @@ use Rattle.files.proofs.take.is_old.Goals as goal
 
 pub returns : goal.returns
 unfolding is_old
-returns c = ap (λ (n : ℕ). eqb n 3) (c.word_at.ensures.0 ∙ ap (λ (n : ℕ). word_at c.args.bytes.now (8 + 12 * n + 2)) c.requires.0)
+returns c = ap (λ (n : ℕ). eqb n 3) (c.word_at.ensures ∙ ap (λ (n : ℕ). word_at c.args.bytes.now (8 + 12 * n + 2)) c.requires.0)

@@ -1,23 +1,21 @@
 -- `maps::Map::fresh` meets its contract.
-use Rattle.std.proofs.Common.{sym, ◌∙◌}
-use Rattle.maps.specs.Calls.{fresh_map}
+use Rattle.std.proofs.Common.{◌≡◌, ◌∙◌, ◌&&◌, sym, ap}
+use Rattle.mesh.specs.Lines.{allowed_side}
+use Rattle.maps.specs.Calls.{changed, fresh_map}
 use Rattle.maps.proofs.Map.fresh.Goals as goal
-use Rattle.maps.proofs.Map.fresh.Goals.{else-allowed_side-via-then-allowed_side+else-allowed_side-2, else-allowed_side-via-else-allowed_side}
+use Rattle.maps.proofs.Map.fresh.Goals.{Joined-allows_side, then-allows_side, else-allows_side}
 
-pub returns-then-allowed_side-2 : goal.returns-then-allowed_side-2
+both : (c : Joined-allows_side) → c.if-allows_side.value ≡ (allowed_side c.args.w && allowed_side c.args.h)
+both c =
+    elim c.if-allows_side.branch [
+      | then-allows_side w ↦ w.value-is ∙ rw (sym c.allows_side.ensures ∙ w.if-allows_side.true) w.allows_side-then-allows_side.ensures
+      | else-allows_side w ↦ w.value-is ∙ w.if-allows_side.false ∙ rw (sym c.allows_side.ensures ∙ w.if-allows_side.false)
+    ]
+
+pub returns-then-not-allows_side : goal.returns-then-not-allows_side
 unfolding fresh_map
-returns-then-allowed_side-2 c =
-    rw (sym c.allowed_side.ensures ∙ c.if-allowed_side.true, sym c.allowed_side-then-allowed_side.ensures ∙ c.if-allowed_side-2.true, c.blank.ensures)
+returns-then-not-allows_side c = rw (sym (both (goal.at.returns-then-not-allows_side c).Joined-allows_side) ∙ c.if-not-allows_side.true)
 
 pub returns : goal.returns
 unfolding fresh_map
-returns c =
-    elim c.else-allowed_side.branch [
-      | else-allowed_side-via-then-allowed_side+else-allowed_side-2 w ↦
-          rw (
-            sym c.allowed_side.ensures ∙ w.if-allowed_side.true,
-            sym w.allowed_side-then-allowed_side.ensures ∙ w.if-allowed_side-2.false,
-            c.blank-2.ensures,
-          )
-      | else-allowed_side-via-else-allowed_side w ↦ rw (sym c.allowed_side.ensures ∙ w.if-allowed_side.false, c.blank-2.ensures)
-    ]
+returns c = rw (sym (both (goal.at.returns c).Joined-allows_side) ∙ c.if-not-allows_side.false) (ap (changed 0) c.blank.ensures)

@@ -17,19 +17,19 @@ four c = c.added-sum.ensures.1 3 (c.added-three.ensures.1 2 (c.added-two.ensures
 
 pub added-two-requires : goal.added-two-requires
 added-two-requires c =
-    let l : Listed c.args.four.third = c.requires.1.2 in
+    let l : Listed c.args.four.now.third = c.requires.1.2 in
     let s : SumOf 1 c.added-one.result = c.added-one.ensures.1 0 nothing in
     search rules
 
 pub added-three-requires : goal.added-three-requires
 added-three-requires c =
-    let l : Listed c.args.four.second = c.requires.1.1 in
+    let l : Listed c.args.four.now.second = c.requires.1.1 in
     let s : SumOf 2 c.added-two.result = c.added-two.ensures.1 1 (c.added-one.ensures.1 0 nothing) in
     search rules
 
 pub added-sum-requires : goal.added-sum-requires
 added-sum-requires c =
-    let l : Listed c.args.four.first = c.requires.1.0 in
+    let l : Listed c.args.four.now.first = c.requires.1.0 in
     let s : SumOf 3 c.added-three.result = c.added-three.ensures.1 2 (c.added-two.ensures.1 1 (c.added-one.ensures.1 0 nothing)) in
     (s, l.is_proper, omega arith, omega arith, omega arith, omega arith)
 
@@ -56,7 +56,7 @@ overflow_add-result-2 c =
 pub returns : goal.returns
 returns c =
     let a = c.args in
-    let f = a.four in
+    let f = a.four.now in
     let s = c.added-sum.result in
     let l = four (goal.at.returns c).After-added-sum in
     let twice : 0 < 2 * s.bottom = omega arith in

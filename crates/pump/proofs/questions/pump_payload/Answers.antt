@@ -1,24 +1,22 @@
 -- `pump_payload` meets its contract: the part that `payload` hands back begins four bytes on.
-use native.Mathlib.Omega.{arith}
-use mathlib.Core.Path.{ap, sym, ◌∙◌}
-use lib.ListN.{length}
-use Rattle.files.proofs.Whole.{Whole, whole_of, no_payload, some_payload}
+use Rattle.std.proofs.Common.{arith, refl, ap, ◌∙◌, length}
+use Rattle.mesh.proofs.Refused.{refuses}
+use Rattle.files.proofs.Whole.{whole_of, no_payload, some_payload}
 use Rattle.pump.specs.Border.{payload_from}
 use Rattle.pump.proofs.questions.pump_payload.Goals as goal
 
-pub returns-then-number-ne0 : goal.returns-then-number-ne0
-unfolding payload_from
-returns-then-number-ne0 c =
-    let part = c.payload-part.ensures in
-    let e = no_payload _ _ _ part.1 c.if-number-ne0.true in
-    (part.1, rw e, ap length part.0)
-
 pub overflow_add-from : goal.overflow_add-from
-overflow_add-from c = omega (arith, some_payload _ _ _ c.payload-part.ensures.1 c.if-number-ne0.false)
+overflow_add-from c = omega (arith, some_payload _ _ _ c.in-Ok.ensures.1 refl)
 
-pub returns : goal.returns
+pub returns-in-Ok : goal.returns-in-Ok
 unfolding payload_from
-returns c =
-    let part = c.payload-part.ensures in
-    let e = whole_of _ _ (some_payload _ _ _ part.1 c.if-number-ne0.false) in
-    (sym c.if-number-ne0.false ∙ part.1, rw e, ap length part.0)
+returns-in-Ok c =
+    let part = c.in-Ok.ensures in
+    (part.1, rw (whole_of _ _ (some_payload _ _ _ part.1 refl)), ap length part.0)
+
+pub returns-in-Err : goal.returns-in-Err
+unfolding payload_from
+returns-in-Err c =
+    let part = c.in-Err.ensures in
+    let none = no_payload _ _ _ part.1 (refuses c.in-Err.refusal) in
+    (c.number.ensures ∙ part.1, rw none, ap length part.0)

@@ -1,41 +1,55 @@
 -- `maps::opened::Opened::set` meets its contract.
-use Rattle.std.proofs.Common.{arith, ◌∙◌}
-use Rattle.maps.proofs.Changing.{GoodMap, opened_map, few, live_blends, live_count, set_none, set_beyond, set_some}
+use Rattle.std.proofs.Common.{arith, ◌∙◌, ◌≡◌, ◌+◌, ◌<◌, sym, length}
+use mathlib.Core.Logic.{⊎_elim}
+use lib.ListN.{length-set}
+use Rattle.maps.specs.Plain.{blends}
+use Rattle.maps.specs.Record.{plain}
+use Rattle.maps.specs.Values.{place_of}
+use Rattle.maps.proofs.Readings.{placed_some, placed_none}
+use Rattle.maps.proofs.Changing.{good_opened, few, live_blends, live_count, set_none, set_beyond, set_some}
 use Rattle.maps.proofs.opened.Opened.set.Goals as goal
-use Rattle.maps.proofs.opened.Opened.set.Goals.{Start}
+use Rattle.maps.proofs.opened.Opened.set.Goals.{In-Some}
 
-good_self : (c : Start) → GoodMap c.args.self.map c.args.self.table
-good_self c = opened_map c.requires (record { splits = omega arith; values = omega arith; marks = omega arith })
+-- where the anchor's blend stands
+found : (c : In-Some) → let bs = blends (plain c.args.self.now.map) in (place_of bs (c.args.m + 1) (c.args.n + 1) ≡ c.in-Some.place) × (c.in-Some.place < length bs)
+found c = placed_some _ _ _ (sym c.in-Some.is ∙ rw (live_blends (good_opened c.args.self.now)) at c.place_of.ensures)
+
+-- which is a place of the arrays
+inside : (c : In-Some) → c.in-Some.place < 1024
+inside c = let g = good_opened c.args.self.now in omega (arith, (found c).1, live_count g, few g)
 
 pub returns-then-m-gt-LARGEST_SIDE : goal.returns-then-m-gt-LARGEST_SIDE
 returns-then-m-gt-LARGEST_SIDE c =
-    c.numbered.ensures ∙ set_beyond (good_self (goal.at.returns-then-m-gt-LARGEST_SIDE c).Start) _ _ _ (λ x y. omega (arith, c.if-m-gt-LARGEST_SIDE.true))
+    set_beyond (good_opened c.args.self.now) _ _ _
+    (λ x y. ⊎_elim (λ p. omega (arith, x, p)) (λ p. omega (arith, y, p.1)) c.then-m-gt-LARGEST_SIDE.either)
 
-pub returns-then-n-gt-LARGEST_SIDE : goal.returns-then-n-gt-LARGEST_SIDE
-returns-then-n-gt-LARGEST_SIDE c =
-    c.numbered-then-n-gt-LARGEST_SIDE.ensures ∙
-    set_beyond (good_self (goal.at.returns-then-n-gt-LARGEST_SIDE c).Start) _ _ _ (λ x y. omega (arith, c.if-n-gt-LARGEST_SIDE.true))
+pub place_of-requires : goal.place_of-requires
+place_of-requires c = few (good_opened c.args.self.now)
 
-pub place_of-place-requires : goal.place_of-place-requires
-place_of-place-requires c = few (good_self (goal.at.place_of-place-requires c).Start)
+pub returns-in_default : goal.returns-in_default
+returns-in_default c =
+    let g = good_opened c.args.self.now in
+    set_none g _ _ _ (placed_none _ _ _ (sym c.in_default.is ∙ rw (live_blends g) at c.place_of.ensures))
 
-pub returns-then-table-place : goal.returns-then-table-place
-returns-then-table-place c =
-    let g = good_self (goal.at.returns-then-table-place c).Start in
-    let found = rw (live_blends g) at c.place_of-place.ensures in
-    c.numbered-then-table-place.ensures ∙ set_none g _ _ _ (omega (arith, found, live_count g))
+pub offset_bounds-self-place : goal.offset_bounds-self-place
+offset_bounds-self-place c = omega (arith, inside (goal.at.offset_bounds-self-place c).In-Some)
 
-pub offset_bounds-map-place : goal.offset_bounds-map-place
-offset_bounds-map-place c = omega (arith, few (good_self (goal.at.offset_bounds-map-place c).Start))
+pub bounds-self-place : goal.bounds-self-place
+bounds-self-place c = inside (goal.at.bounds-self-place c).In-Some
 
-pub bounds-map-place : goal.bounds-map-place
-bounds-map-place c = omega (arith, few (good_self (goal.at.bounds-map-place c).Start))
+pub bounds-self-place-2 : goal.bounds-self-place-2
+bounds-self-place-2 c = inside (goal.at.bounds-self-place-2 c).In-Some
 
-pub bounds-map-place-2 : goal.bounds-map-place-2
-bounds-map-place-2 c = omega (arith, few (good_self (goal.at.bounds-map-place-2 c).Start))
+pub invariant_of-self : goal.invariant_of-self
+invariant_of-self c =
+    let self = c.args.self.now in
+    let f = found (goal.at.invariant_of-self c).In-Some in
+    record {
+      opens = (rw f.0 at (set_some (good_opened self) c.args.m c.args.n c.args.value (rw f.0 f.1))).1;
+      full = record { splits = self.full.splits; values = rw length-set self.full.values; marks = rw length-set self.full.marks };
+    }
 
 pub returns : goal.returns
 returns c =
-    let g = good_self (goal.at.returns c).Start in
-    let found = rw (live_blends g) at c.place_of-place.ensures in
-    rw found (set_some g _ _ _ (omega (arith, found, live_count g)))
+    let f = found (goal.at.returns c).In-Some in
+    rw f.0 at (set_some (good_opened c.args.self.now) c.args.m c.args.n c.args.value (rw f.0 f.1)).0

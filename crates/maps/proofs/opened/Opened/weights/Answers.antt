@@ -1,23 +1,14 @@
 -- `maps::opened::Opened::weights` meets its contract.
-use Rattle.std.proofs.Common.{arith, ◌∙◌, sym}
-use Rattle.maps.proofs.Changing.{GoodMap, opened_map}
+use Rattle.std.proofs.Common.{◌∙◌, sym}
+use Rattle.maps.proofs.Changing.{good_opened}
 use Rattle.maps.proofs.Asking.{weights_out, at_point, weights_in}
 use Rattle.maps.proofs.opened.Opened.weights.Goals as goal
-use Rattle.maps.proofs.opened.Opened.weights.Goals.{Start}
 
-good_self : (c : Start) → GoodMap c.args.self.map c.args.self.table
-good_self c = opened_map c.requires (record { splits = omega arith; values = omega arith; marks = omega arith })
+pub returns-then-not-contains : goal.returns-then-not-contains
+returns-then-not-contains c = weights_out (good_opened c.args.self.now) _ _ (sym c.contains.ensures ∙ c.if-not-contains.true)
 
-pub returns-then-not-in_domain : goal.returns-then-not-in_domain
-returns-then-not-in_domain c =
-    c.no_weights.ensures ∙ weights_out (good_self (goal.at.returns-then-not-in_domain c).Start) _ _ (sym c.in_domain.ensures ∙ c.if-not-in_domain.true)
-
-pub weights_of-requires : goal.weights_of-requires
-weights_of-requires c = at_point (good_self (goal.at.weights_of-requires c).Start) _ _ (sym c.in_domain.ensures ∙ c.if-not-in_domain.false)
+pub weights_at-requires : goal.weights_at-requires
+weights_at-requires c = let p = at_point (good_opened c.args.self.now) _ _ (sym c.contains.ensures ∙ c.if-not-contains.false) in (p.7, p.8)
 
 pub returns : goal.returns
-returns c =
-    let n = c.weights_of.ensures.0 in
-    let es = c.weights_of.ensures.1 in
-    (λ i. record { number = n i; entries = es i }) ∙
-    weights_in (good_self (goal.at.returns c).Start) _ _ (sym c.in_domain.ensures ∙ c.if-not-in_domain.false)
+returns c = rw c.weights_at.ensures (weights_in (good_opened c.args.self.now) _ _ (sym c.contains.ensures ∙ c.if-not-contains.false))

@@ -1,0 +1,9 @@
+-- The rest is a part of the input.
+use Rattle.std.proofs.Common.{◌≤◌, length}
+use Rattle.calls.proofs.State.whole_lines.Given as goal
+
+abbrev pub invariant-loop-end : goal.invariant-loop-end
+invariant-loop-end l = length l.rest ≤ length l.input
+
+abbrev pub decreases-loop-end : goal.decreases-loop-end
+decreases-loop-end l = length l.rest

@@ -1,0 +1,44 @@
+-- `files::listing::Text::table` meets its contract.
+use Rattle.std.proofs.Common.{arith, ◌≡◌, List, ℕ, length}
+use Rattle.axis.specs.Range.{joined}
+use Rattle.files.specs.Inner.{no_entry, entries, Room}
+use Rattle.files.specs.Listing.{number_line, line}
+use Rattle.files.proofs.Terms.{entries_length}
+use Rattle.files.proofs.Filing.{opened_ready}
+use Rattle.files.proofs.Texts.{text_first, text_next, text_then}
+use Rattle.files.proofs.TableLines.{rows_none, rows_room, rows_more, rows_done}
+use Rattle.files.proofs.listing.Text.table.Goals.{Start, After-number_line}
+use Rattle.files.proofs.listing.Text.table.Goals as goal
+
+counted : (c : Start) → length (entries c.args.o.now) ≡ c.args.o.now.table.count
+counted c = entries_length (opened_ready c.args.o.now c.requires.0.full).hand
+
+abbrev lines : Start → List ℕ
+lines c = joined line (entries c.args.o.now)
+
+-- there is room for all lines after the first one
+room : (c : After-number_line) → Room c.number_line.new.self (lines (goal.at.After-number_line c).Start)
+room c = text_next c.args.self.now (number_line c.args.o.now.table.count) (lines (goal.at.After-number_line c).Start) c.requires.1 c.number_line.ensures
+
+pub number_line-requires : goal.number_line-requires
+number_line-requires c =
+    text_first c.args.self.now (number_line c.args.o.now.table.count) (lines (goal.at.number_line-requires c).Start) c.requires.1
+
+pub loop-i-init : goal.loop-i-init
+loop-i-init c = rows_none line (entries c.args.o.now) _
+
+pub line-requires : goal.line-requires
+line-requires c =
+    let p = goal.at.line-requires c in
+    rw c.at.ensures (rows_room line _ _ (room p.After-number_line) c.loop-i.invariant no_entry (rw (counted p.Start) c.loop-i-test.true))
+
+pub loop-i-preserved : goal.loop-i-preserved
+loop-i-preserved c =
+    let p = goal.at.loop-i-preserved c in
+    rows_more line _ _ (room p.After-number_line) c.loop-i.invariant no_entry (rw (counted p.Start) c.loop-i-test.true) (rw c.at.ensures at c.line.ensures)
+
+pub returns : goal.returns
+returns c =
+    let s = (goal.at.returns c).Start in
+    text_then c.args.self.now (number_line c.args.o.now.table.count) (lines s) c.requires.1 c.number_line.ensures
+    (rows_done line _ _ c.loop-i.invariant (omega (arith, counted s)))
