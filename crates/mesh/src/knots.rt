@@ -35,19 +35,10 @@ impl Blend {
     }
 
     // The support in one number.
-    fn support(self) -> usize
-        ensures { (result ≡ packed self) × (result < 4294967296) }
-    {
-        let a = self.across;
-        let u = self.up;
-        ((usize::from(a.l) * 256 + usize::from(a.r)) * 256 + usize::from(u.l)) * 256
-            + usize::from(u.r)
-    }
-
     pub(crate) fn pack(self) -> u32
         ensures { result ≡ packed self }
     {
-        self.support() as u32
+        u32::from_be_bytes([self.across.l, self.across.r, self.up.l, self.up.r])
     }
 
     // The blend with its anchor at knots (m, n) and this support.
@@ -74,7 +65,7 @@ impl Blend {
     pub(crate) fn to_note(self) -> usize
         ensures { result ≡ noted self }
     {
-        self.support() * 65536 + (usize::from(self.across.m) * 256 + usize::from(self.up.m))
+        self.pack() as usize * 65536 + (usize::from(self.across.m) * 256 + usize::from(self.up.m))
     }
 
     #[tactic(auto, unfolding(crate::specs::Carried::unnoted))]

@@ -11,9 +11,7 @@ pub(crate) fn link(links: &mut [u8], z: usize)
     ensures { Linked links.old links.new z }
 {
     for k in 0..z {
-        if z < usize::from(links[k]) {
-            links[k] = z as u8;
-        }
+        links[k] = links[k].min(z as u8);
     }
 }
 

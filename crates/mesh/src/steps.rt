@@ -13,20 +13,22 @@ pub(crate) fn covers(steps: &[u8], z: u8, b: u8, n: u8) -> bool
     requires { Rows (z + 1) steps.now × (z < 131) × (b + n ≤ 131) }
     ensures { result ≡ every b n (step_on steps.now z) }
 {
-    let from = usize::from(z) * 131 + usize::from(b);
-    steps[from..from + usize::from(n)]
-        .iter()
-        .all(|&step| step != 0)
+    let row = usize::from(z) * 131;
+    for k in b..b + n {
+        if steps[row + usize::from(k)] == 0 {
+            return false;
+        }
+    }
+    true
 }
 
 // Switches on the steps from knot `from` to knot `to` of the line at knot z.
 pub(crate) fn draw(steps: &mut [u8], z: usize, from: usize, to: usize)
-    requires { Rows (z + 1) steps.old × (z < 131) × (to ≤ 131) }
+    requires { Rows (z + 1) steps.old × (z < 131) × (from ≤ to) × (to ≤ 131) }
     ensures { Drawn steps.old steps.new z from to }
 {
-    for k in from..to {
-        steps[z * 131 + k] = 1;
-    }
+    let row = z * 131;
+    steps[row + from..row + to].fill(1);
 }
 
 impl Lines {

@@ -1,13 +1,12 @@
--- `mesh::steps::draw` meets its contract.
-use Rattle.std.proofs.Common.{arith}
-use Rattle.mesh.proofs.Drawing.{drawn_none, drawn_more, drawn_until}
+-- `mesh::steps::draw` meets its contract: the bytes of the run are set.
+use Rattle.std.proofs.Common.{rules, ◌≡◌, ◌-◌}
+use lib.ListN.{replicate}
+use Rattle.mesh.specs.Blends.{at}
+use Rattle.mesh.proofs.Drawing.{run_drawn}
 use Rattle.mesh.proofs.steps.draw.Goals as goal
 
-pub loop-k-init : goal.loop-k-init
-loop-k-init c = (omega arith, drawn_none _ _ _)
-
-pub loop-k-preserved : goal.loop-k-preserved
-loop-k-preserved c = (omega arith, drawn_more c.loop-k.invariant.1 (omega arith) (omega arith) (omega arith) c.requires.0)
-
 pub returns : goal.returns
-returns c = drawn_until c.loop-k.invariant.1 (omega arith) (omega arith)
+returns c =
+    let a = c.args in
+    let run : c.fill.new.self ≡ replicate (at a.z a.to - at a.z a.from) 1 = search (rules) in
+    run_drawn a.steps.now c.fill.new.self a.z a.from a.to c.requires.0 c.requires.1 c.requires.2 c.requires.3 run
