@@ -1,5 +1,5 @@
 -- `mesh::read::KeptIterator::next` meets its contract: the next place that holds a blend, past columns that are done.
-use Rattle.std.proofs.Common.{◌≡◌, ◌≤◌, ◌<◌, ◌∷◌, sym, ap, ◌∙◌, length, arith, rules}
+use Rattle.std.proofs.Common.{◌≡◌, ◌∷◌, sym, ap, ◌∙◌, length, arith, rules}
 use Rattle.mesh.specs.Carried.{kept_left, CanWalk}
 use Rattle.mesh.specs.Bytes.{unpacked}
 use Rattle.mesh.proofs.Reading.{column_leads, row_leads, kept_none, kept_column, kept_empty, kept_holds}
