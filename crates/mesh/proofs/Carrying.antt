@@ -1,14 +1,12 @@
 -- Drawings: what one call leaves as the next one takes it, and what is known of one by which a map is carried.
 use Prim.Native.Nat.{ℕ, ◌+◌, ◌≤◌}
-use mathlib.Core.Path.{◌≡◌, refl, sym, ap, ◌∙◌}
+use mathlib.Core.Path.{◌≡◌, ◌∙◌}
 use mathlib.Core.Bool.{true}
-use mathlib.Core.List.{◌++◌, ◌∷◌, []}
 use lib.ListN.{length}
-use Rattle.mesh.specs.Lines.{Layout, mesh_of, draws, in_range, direction, other, side}
-use Rattle.mesh.specs.declared.Direction.{Direction}
+use Rattle.mesh.specs.Lines.{Layout, mesh_of, in_range, direction, other, side}
 use Rattle.mesh.specs.Splits.{with_line}
 use Rattle.mesh.specs.Bytes.{Rows, walk}
-use Rattle.mesh.specs.Carried.{Redrawn, LinesBy, LineAdded, CarriedBy, WalksBy, TallBy, mesh_by, run_by}
+use Rattle.mesh.specs.Carried.{Redrawn, LinesBy, LineAdded, CarriedBy, WalksBy, TallBy, run_by}
 use Rattle.mesh.specs.declared.Split.{Split}
 use Rattle.mesh.specs.declared.carried.Drawing.{Drawing}
 use Rattle.mesh.proofs.Ranges.{Small}

@@ -3,37 +3,44 @@ use Prim.Native.Nat.{ℕ, suc, ◌+◌, ◌-◌, ◌≤◌, ◌<◌}
 use native.Mathlib.Omega.{arith}
 use mathlib.Core.Path.{◌≡◌, refl, sym, ap, ◌∙◌}
 use mathlib.Core.List.{List, [], ◌∷◌, ◌++◌, append_assoc, append-nil}
-use borrow.Author.Tests.{eq-eqb, ne_eqb}
+use borrow.Author.Tests.{eq-eqb, ne_eqb, le-leb, lt-leb}
 use lib.ListN.{length, get_or, set, replicate, length-append}
 use lib.Seq.{set_at}
 use Rattle.axis.specs.Range.{each}
 use Rattle.mesh.specs.Sound.{none, table}
 use Rattle.mesh.specs.Blends.{at}
 use Rattle.mesh.specs.Bytes.{kept, unpacked, walk}
-use Rattle.mesh.specs.Carried.{Walks}
+use Rattle.mesh.specs.Carried.{Walks, columns_left, places_left, kept_from}
 use Rattle.mesh.specs.declared.Blend.{Blend}
-use Rattle.axis.proofs.Tests.{each_none, each_run, each_nothing, each_past}
+use Rattle.axis.proofs.Tests.{each_none, each_run, each_nothing, each_past, cond_true, cond_false}
+use Rattle.axis.proofs.Runs.{if_at_most}
 
--- What is left to walk where a column of places begins, and within column m.
+-- Walking the places by links: what is left.
 module _ (w h : ℕ) (places : List ℕ) where
-  abbrev pub columns_left : ℕ → List Blend
-  columns_left m = each m (w + 2 - m) (λ i. each 1 (h + 2 - 1) (kept places i))
-
-  abbrev pub places_left : ℕ → ℕ → List Blend
-  places_left m n = each n (h + 2 - n) (kept places m) ++ columns_left (m + 1)
-
-  pub walk_columns : walk w h places ≡ columns_left 1
+  pub walk_columns : walk w h places ≡ columns_left w h places 1
   unfolding walk
   walk_columns =
       let a : w + 2 - 1 ≡ w + 1 = omega arith in
       let b : h + 2 - 1 ≡ h + 1 = omega arith in
       rw (a, b)
 
-  pub column_begins : (m : ℕ) → m ≤ w + 1 → columns_left m ≡ places_left m 1
+  pub column_begins : (m : ℕ) → m ≤ w + 1 → columns_left w h places m ≡ places_left w h places m 1
   column_begins m le = each_run m (w + 2) (λ i. each 1 (h + 2 - 1) (kept places i)) (omega arith)
 
-  pub columns_end : (m : ℕ) → w + 1 < m → columns_left m ≡ []
+  pub columns_end : (m : ℕ) → w + 1 < m → columns_left w h places m ≡ []
   columns_end m lt = each_none m (w + 2 - m) (λ i. each 1 (h + 2 - 1) (kept places i)) (omega arith)
+
+  kept_here : (m n : ℕ) → m ≤ w + 1 → kept_from w h places m n ≡ places_left w h places m n
+  unfolding kept_from
+  kept_here m n le = cond_true _ _ _ (le-leb m (w + 1) le)
+
+  pub kept_none : (m n : ℕ) → w + 1 < m → kept_from w h places m n ≡ []
+  unfolding kept_from
+  kept_none m n lt = cond_false _ _ _ (lt-leb m (w + 1) lt)
+
+  kept_begins : (m : ℕ) → kept_from w h places m 1 ≡ columns_left w h places m
+  kept_begins m =
+      if_at_most m (w + 1) (λ le. kept_here m 1 le ∙ sym (column_begins m le)) (λ gt. kept_none m 1 gt ∙ sym (columns_end m gt))
 
   -- by links, past columns and rows in which nothing is kept
   module _ {columns rows : List ℕ} (walks : Walks w h columns rows places) where
@@ -43,7 +50,7 @@ module _ (w h : ℕ) (places : List ℕ) where
     pub row_leads : (n : ℕ) → n ≤ h + 1 → n < get_or rows n 0
     row_leads n le = let x = walks.high in walks.over_rows.on n (omega arith)
 
-    pub column_ends : (m n : ℕ) → m ≤ w + 1 → h + 1 < n → places_left m n ≡ columns_left (get_or columns m 0)
+    pub column_ends : (m n : ℕ) → m ≤ w + 1 → h + 1 < n → places_left w h places m n ≡ columns_left w h places (get_or columns m 0)
     column_ends m n le lt =
         let x = walks.wide in
         let y = walks.high in
@@ -53,7 +60,7 @@ module _ (w h : ℕ) (places : List ℕ) where
         (λ i lo hi in_side. each_nothing 1 (h + 2 - 1) (kept places i) (λ j a b. walks.over_columns.past m i (omega arith) (omega arith) (omega arith) hi j
         (omega arith))))
 
-    place_turn : (m n : ℕ) → m ≤ w + 1 → n ≤ h + 1 → places_left m n ≡ kept places m n ++ places_left m (get_or rows n 0)
+    place_turn : (m n : ℕ) → m ≤ w + 1 → n ≤ h + 1 → places_left w h places m n ≡ kept places m n ++ places_left w h places m (get_or rows n 0)
     place_turn m n lm ln =
         let x = walks.wide in
         let y = walks.high in
@@ -65,12 +72,27 @@ module _ (w h : ℕ) (places : List ℕ) where
         )
         (append_assoc (kept places m n) _ _)
 
-    pub place_empty : (m n : ℕ) → m ≤ w + 1 → n ≤ h + 1 → get_or places (at m n) 0 ≡ 0 → places_left m n ≡ places_left m (get_or rows n 0)
+    pub place_empty : (m n : ℕ) → m ≤ w + 1 → n ≤ h + 1 → get_or places (at m n) 0 ≡ 0 → places_left w h places m n ≡ places_left w h places m (get_or rows n 0)
     place_empty m n lm ln e = place_turn m n lm ln ∙ rw (eq-eqb _ _ e)
 
     pub place_holds : (m n : ℕ) → m ≤ w + 1 → n ≤ h + 1 → (get_or places (at m n) 0 ≡ 0 → ⊥) →
-        places_left m n ≡ unpacked m n (get_or places (at m n) 0) ∷ places_left m (get_or rows n 0)
+        places_left w h places m n ≡ unpacked m n (get_or places (at m n) 0) ∷ places_left w h places m (get_or rows n 0)
     place_holds m n lm ln ne = place_turn m n lm ln ∙ rw (ne_eqb _ _ ne)
+
+    pub kept_starts : kept_from w h places 1 1 ≡ walk w h places
+    kept_starts = kept_begins 1 ∙ sym walk_columns
+
+    -- the next column; and the next place of a column, past one that is empty or one that holds a blend
+    pub kept_column : (m n : ℕ) → m ≤ w + 1 → h + 1 < n → kept_from w h places m n ≡ kept_from w h places (get_or columns m 0) 1
+    kept_column m n le lt = kept_here m n le ∙ column_ends m n le lt ∙ sym (kept_begins (get_or columns m 0))
+
+    pub kept_empty : (m n : ℕ) → m ≤ w + 1 → n ≤ h + 1 → get_or places (at m n) 0 ≡ 0 → kept_from w h places m n ≡ kept_from w h places m (get_or rows n 0)
+    kept_empty m n lm ln e = kept_here m n lm ∙ place_empty m n lm ln e ∙ sym (kept_here m (get_or rows n 0) lm)
+
+    pub kept_holds : (m n : ℕ) → m ≤ w + 1 → n ≤ h + 1 → (get_or places (at m n) 0 ≡ 0 → ⊥) →
+        kept_from w h places m n ≡ unpacked m n (get_or places (at m n) 0) ∷ kept_from w h places m (get_or rows n 0)
+    kept_holds m n lm ln ne =
+        kept_here m n lm ∙ place_holds m n lm ln ne ∙ ap (λ (bs : List Blend). unpacked m n (get_or places (at m n) 0) ∷ bs) (sym (kept_here m (get_or rows n 0) lm))
 
 -- The blends read so far stand in front of an array, and with those that are left they are the whole list.
 pub record Reading (whole left : List Blend) (count : ℕ) (blends : List Blend) : Type 0 where

@@ -1,6 +1,7 @@
 -- What is carried from split to split while splits are taken in order, and what is noted for a line over it. Only contracts of functions that the crate keeps
 -- to itself cite this file.
-use Rattle.std.specs.Prelude.{ℕ, zero, suc, ◌+◌, ◌-◌, ◌*◌, ◌/◌, ◌%◌, ◌<◌, ◌≤◌, ◌≡◌, Bool, false, cond, ◌&&◌, ◌||◌, not, List, [], ◌∷◌, ◌++◌, ltb, leb, eqb, length, get_or, set, replicate, Option, Some, None, Result, Ok, Err}
+use Rattle.std.specs.Prelude.{ℕ, zero, suc, ◌+◌, ◌-◌, ◌*◌, ◌/◌, ◌%◌, ◌<◌, ◌≤◌, ◌≡◌, Bool, false, cond, ◌&&◌, ◌||◌, not, List, [], ◌∷◌, ◌++◌, ltb, leb, eqb, length, get_or, set, replicate, Option, Some, None, Result, Ok, Err, IfSome}
+use Rattle.std.specs.Iterator.{YieldsFirst}
 use Rattle.axis.specs.Limits.{largest_side}
 use Rattle.axis.specs.Range.{each, only}
 use Rattle.axis.specs.Triple.{knot_in}
@@ -19,6 +20,7 @@ use Rattle.mesh.specs.declared.Split.{Split}
 use Rattle.mesh.specs.declared.Blend.{Blend}
 use Rattle.mesh.specs.declared.carried.Drawing.{Drawing}
 use Rattle.mesh.specs.declared.notes.Notes.{Notes}
+use Rattle.mesh.specs.declared.read.Kept.{Kept}
 use Rattle.mesh.specs.declared.refusal.Refusal.{Refusal}
 use Rattle.mesh.specs.Refusals.{number_of}
 
@@ -228,6 +230,26 @@ Carries t = (P : Layout) × CarriedBy P t
 -- Its places can be walked.
 abbrev pub WalksBy : {n : ℕ} → Drawing n → Type 0
 WalksBy t = Walks t.w t.h t.columns t.rows t.places
+
+-- The kept blends from knots (m, n) on: where a column of places begins, and within column m.
+abbrev pub columns_left : ℕ → ℕ → List ℕ → ℕ → List Blend
+columns_left w h places m = each m (w + 2 - m) (λ i. each 1 (h + 2 - 1) (kept places i))
+
+abbrev pub places_left : ℕ → ℕ → List ℕ → ℕ → ℕ → List Blend
+places_left w h places m n = each n (h + 2 - n) (kept places m) ++ columns_left w h places (m + 1)
+
+unfoldable pub kept_from : ℕ → ℕ → List ℕ → ℕ → ℕ → List Blend
+kept_from w h places m n = cond (leb m (w + 1)) (places_left w h places m n) []
+
+abbrev pub kept_left : {n : ℕ} → Kept n → List Blend
+kept_left k = kept_from k.drawing.now.w k.drawing.now.h k.drawing.now.places k.m k.n
+
+abbrev pub CanWalk : {n : ℕ} → Kept n → Type 0
+CanWalk {n} k = WalksBy k.drawing.now × ((k.drawing.now.w + 3) * 131 ≤ n) × (1 ≤ k.m) × (1 ≤ k.n)
+
+-- the next of them, with its anchor within the tables
+abbrev pub GivesKept : {n : ℕ} → Kept n → Option Blend → Kept n → Type 0
+GivesKept k r after = YieldsFirst kept_left k r after × IfSome r (λ x. (x.across.m < 131) × (x.up.m < 131))
 
 -- The notes for a split's position.
 abbrev pub NotedBy : Layout → Split → Notes → Type 0

@@ -112,17 +112,8 @@ impl<const N: usize> Drawing<N> {
             lows: [0; 131],
             highs: [0; 131],
         };
-        let mut m = 1;
-        while m <= self.w + 1 {
-            let mut n = 1;
-            while n <= self.h + 1 {
-                let c = self.places[m * 131 + n] as usize;
-                if c != 0 {
-                    notes.note(Blend::unpack(m, n, c), d, z);
-                }
-                n = usize::from(self.rows[n]);
-            }
-            m = usize::from(self.columns[m]);
+        for x in self.kept() {
+            notes.note(x, d, z);
         }
         notes
     }

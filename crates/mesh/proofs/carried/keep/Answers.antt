@@ -1,11 +1,10 @@
 -- `mesh::carried::keep` meets its contract.
-use Rattle.std.proofs.Common.{◌+◌, ◌≡◌, ◌∷◌, List, get_or, drop, arith, add-one, drop-cons}
+use Rattle.std.proofs.Common.{◌+◌, ◌≡◌, ◌∷◌, get_or, drop, add-one, drop-cons}
 use mathlib.Core.List.{Memᴰ}
 use lib.ListN.{drop_of_length-le}
 use Rattle.axis.proofs.Members.{entry}
 use Rattle.mesh.specs.Sound.{none}
 use Rattle.mesh.specs.Bytes.{keep_all}
-use Rattle.mesh.specs.declared.Blend.{Blend}
 use Rattle.mesh.proofs.carried.keep.Goals as goal
 
 pub keep_blend-requires : goal.keep_blend-requires

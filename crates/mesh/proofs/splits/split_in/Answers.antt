@@ -1,5 +1,5 @@
 -- `mesh::splits::split_in` meets its contract: one step, with the line found.
-use Rattle.std.proofs.Common.{◌≡◌, refl, sym, ◌∙◌, length, arith, rules}
+use Rattle.std.proofs.Common.{◌≡◌, refl, length, arith, rules}
 use Rattle.std.proofs.lemmas.Result.{err_from_is_err_and}
 use Rattle.mesh.proofs.Accepted.{lines_replay}
 use Rattle.mesh.proofs.Carrying.{by_walks, by_short}

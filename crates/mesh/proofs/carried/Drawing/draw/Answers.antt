@@ -4,7 +4,7 @@ use Rattle.mesh.specs.Lines.{in_range, Layout}
 use Rattle.mesh.specs.Splits.{exact_number}
 use Rattle.mesh.specs.declared.Split.{Split}
 use Rattle.mesh.proofs.Passing.{exact_says}
-use Rattle.mesh.proofs.Stepping.{lows_long, highs_long, cut_proper, cut_rows, carried_on}
+use Rattle.mesh.proofs.Stepping.{cut_proper, cut_rows, carried_on}
 use Rattle.mesh.proofs.Carrying.{by_small, by_rows, by_run, by_tall, by_sides, by_along}
 use Rattle.mesh.proofs.carried.Drawing.draw.Goals as goal
 

@@ -1,8 +1,6 @@
 -- `mesh::carried::Drawing::find` meets its contract: 3 to 7; then the search within the allowance.
 use Rattle.std.proofs.Common.{refl, ap, arith, rules}
-use Rattle.mesh.specs.Lines.{Layout}
-use Rattle.mesh.specs.Carried.{CarriedBy, Verdict}
-use Rattle.mesh.proofs.Ranges.{Small}
+use Rattle.mesh.specs.Carried.{Verdict}
 use Rattle.mesh.proofs.Passing.{given_says}
 use Rattle.mesh.proofs.Carrying.{by_small}
 use Rattle.mesh.proofs.Replaying.{searches, verdict_found, verdict_says, noted_nearest}

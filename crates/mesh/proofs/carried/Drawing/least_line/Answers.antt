@@ -1,7 +1,7 @@
 -- `mesh::carried::Drawing::least_line` meets its contract: the first line that has good ends is the one between the nearest good ends.
-use Rattle.std.proofs.Common.{◌≡◌, ◌-◌, refl, sym, ◌∙◌, arith, rules}
+use Rattle.std.proofs.Common.{refl, sym, ◌∙◌, arith, rules}
 use Rattle.axis.proofs.Tests.{true_not_false}
-use Rattle.mesh.proofs.Looking.{search_sizes, search_rows, search_starts, search_enters, search_passes, search_leaves, search_finds, search_ends}
+use Rattle.mesh.proofs.Looking.{search_sizes, search_rows, search_starts, search_enters, search_passes, search_leaves, search_finds}
 use Rattle.mesh.proofs.carried.Drawing.least_line.Goals as goal
 use Rattle.mesh.proofs.carried.Drawing.least_line.Goals.{else-line-run-via-then-line-run+else-good_ends, else-line-run-via-else-line-run}
 

@@ -1,5 +1,5 @@
 -- Nothing is found as long as the loops go on, and neither loop passes the line between the nearest good ends.
-use Rattle.std.proofs.Common.{◌≡◌, ◌+◌, ◌-◌, ◌≤◌}
+use Rattle.std.proofs.Common.{◌≡◌, ◌≤◌}
 use Rattle.std.specs.Prelude.{None}
 use Rattle.mesh.specs.Lengthening.{steps_of}
 use Rattle.mesh.specs.Carried.{SearchesBy}

@@ -1,12 +1,12 @@
 -- `mesh::carried::Drawing::look` meets its contract: the five tests, in order, each behind those before it.
-use Rattle.std.proofs.Common.{ℕ, ◌≤◌, ◌<◌, ◌≡◌, refl, sym, ap, ◌∙◌, Bool, true, false, List, [], ◌∷◌, ◌++◌, length, arith, rules}
+use Rattle.std.proofs.Common.{ℕ, ◌≤◌, ◌<◌, ◌≡◌, refl, sym, ap, ◌∙◌, Bool, true, false, length, arith, rules}
 use borrow.Author.Tests.{le-leb, lt-leb}
 use mathlib.Core.Bool.{cond, not}
 use Rattle.axis.specs.Range.{any}
 use Rattle.mesh.specs.Lines.{in_range, shares, ended, mesh_of, Layout, Mesh}
 use Rattle.mesh.specs.Blends.{is_cut}
 use Rattle.mesh.specs.Splits.{given, live_of, with_line}
-use Rattle.mesh.specs.Carried.{CarriedBy, NotedBy, mesh_by}
+use Rattle.mesh.specs.Carried.{CarriedBy, mesh_by}
 use Rattle.mesh.specs.declared.Split.{Split}
 use Rattle.mesh.specs.declared.carried.Drawing.{Drawing}
 use Rattle.mesh.proofs.Stepping.{noted_there, cuts_some}

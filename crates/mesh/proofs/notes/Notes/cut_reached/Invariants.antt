@@ -1,5 +1,5 @@
 -- What is kept, with what is left of the blends still to be cut, is the whole answer.
-use Rattle.std.proofs.Common.{ℕ, ◌-◌, ◌≤◌, ◌≡◌, List, ◌++◌, get_or}
+use Rattle.std.proofs.Common.{ℕ, ◌-◌, ◌≡◌, List, ◌++◌, get_or}
 use Rattle.axis.specs.Range.{each}
 use Rattle.mesh.specs.Lines.{Mesh}
 use Rattle.mesh.specs.declared.Direction.{Direction}
