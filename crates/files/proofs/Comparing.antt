@@ -86,9 +86,6 @@ module _ (bytes : List ℕ) (at kind : ℕ) (payload : List ℕ) where
       let apart = begins_append (drop at bytes) front (joined word payload) in
       sym (apart ∙ rw (t, drop-drop 4 at bytes))
 
-  pub front_fails : begins (drop at bytes) front ≡ false → false ≡ begins (drop at bytes) (entry kind payload)
-  front_fails f = sym (begins_append (drop at bytes) front (joined word payload) ∙ rw f)
-
 -- From a place on the bytes are to be a part of a file. They agree with it as far as `at`, and what is left of both decides.
 pub record Left (bytes : List ℕ) (from : ℕ) (part : List ℕ) (at : ℕ) (rest : List ℕ) : Type 0 where
   pub decides : agree eqb (drop from bytes) part ≡ agree eqb (drop at bytes) rest

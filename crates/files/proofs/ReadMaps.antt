@@ -16,7 +16,6 @@ use Rattle.maps.specs.Outcomes.{Changed}
 use Rattle.maps.specs.Plain.{Plain, fresh_plain}
 use Rattle.maps.specs.Record.{is_mark, lines_of, record_of, Held, plain, good}
 use Rattle.maps.specs.Opened.{table_of}
-use Rattle.maps.specs.Calls.{changed}
 use Rattle.maps.specs.Holds.{Holds}
 use Rattle.maps.proofs.Opening.{good_passes}
 use Rattle.maps.proofs.GoodRecords.{record_good, fresh_holds}

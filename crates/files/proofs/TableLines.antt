@@ -1,7 +1,7 @@
 -- A table's text: lines put in a row one by one, of at most 46 bytes each.
 use Prim.Native.Nat.{ℕ, ◌+◌, ◌*◌, ◌-◌, ◌/◌, ◌≤◌, ◌<◌}
 use native.Mathlib.Omega.{arith}
-use mathlib.Core.Path.{◌≡◌, refl, ap, ◌∙◌}
+use mathlib.Core.Path.{◌≡◌, refl, ap}
 use mathlib.Core.Bool.{true, false}
 use mathlib.Core.Logic.{⊎_elim}
 use mathlib.Core.List.{List, [], ◌∷◌, ◌++◌, Memᴰ}
@@ -19,7 +19,7 @@ use Rattle.files.specs.File.{TableEntry}
 use Rattle.files.specs.declared.listing.Text.{Text}
 use Rattle.files.specs.Inner.{no_entry, entries_in, text_from, Room, Writes}
 use Rattle.files.specs.Listing.{digits, spaced, number_line, knots, value_line, line}
-use Rattle.files.proofs.Putting.{put_none, put_length}
+use Rattle.files.proofs.Putting.{put_none}
 use Rattle.files.proofs.Terms.{InHand, entries_length, entries_at, entries_rise}
 use Rattle.axis.proofs.Members.{placed, joined_append, joined_more}
 use Rattle.files.proofs.Texts.{text_next, text_then, one_digit, more_digits, outer_coordinate, inner_coordinate}

@@ -8,9 +8,8 @@ use mathlib.Core.Bool.{true, false}
 use mathlib.Core.List.{List}
 use borrow.Author.Tests.{lt-ltb, le-ltb, leb-true, leb-false, le-leb}
 use lib.Dec.{leb}
-use lib.ListN.{length, get_or, drop, length-append, length-replicate}
+use lib.ListN.{length, get_or, drop, length-append}
 use Rattle.mesh.specs.declared.Table.{Table}
-use Rattle.mesh.specs.Sound.{table}
 use Rattle.axis.proofs.Tests.{either}
 use Rattle.maps.specs.declared.Map.{Map}
 use Rattle.maps.specs.declared.opened.Opened.{Opened}
@@ -20,9 +19,7 @@ use Rattle.maps.proofs.Changing.{GoodMap, opened_map, live_table}
 use Rattle.files.proofs.Filing.{ready}
 use Rattle.maps.proofs.Opening.{good_passes}
 use Rattle.files.proofs.Words as Words
-use Rattle.files.proofs.ReadMaps.{read_good, map_held, read_map}
-use Rattle.maps.specs.Opened.{table_of}
-use Rattle.files.proofs.Terms.{InHand}
+use Rattle.files.proofs.ReadMaps.{map_held, read_map}
 use Rattle.files.proofs.TableLines.{text_from_most}
 use Rattle.files.specs.Calls.{Written}
 use Rattle.files.specs.Calls.{read_file, short_of, counted, answered}

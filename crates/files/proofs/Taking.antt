@@ -5,7 +5,7 @@ use native.Mathlib.Numerals.{add-one}
 use native.Mathlib.Nat.{zero-add, add-zero, sub-zero}
 use mathlib.Core.Path.{◌≡◌, refl, ap, ◌∙◌}
 use mathlib.Core.Logic.{⊎_elim}
-use mathlib.Core.Bool.{Bool, true, cond, ◌&&◌}
+use mathlib.Core.Bool.{Bool, true, false, cond, ◌&&◌}
 use mathlib.Core.List.{List, [], ◌∷◌, ◌++◌, append_assoc}
 use borrow.Author.Tests.{leb-true, le-leb, eqb-true, eq-eqb}
 use lib.Dec.{leb, eqb}
@@ -17,6 +17,7 @@ use Rattle.maps.specs.declared.Map.{Map}
 use Rattle.maps.specs.Record.{no_split, lines_of, record_of}
 use Rattle.axis.proofs.Tests.{either, and_both, and_of, false_of, cond_true, cond_false}
 use Rattle.files.specs.File.{value_size, word_at, split_count, split_at, is_old, guessed}
+use Rattle.files.specs.Inner.{Stand}
 use Rattle.axis.proofs.Members.{each_length}
 
 -- Splits in a row: one more where a whole entry of kind 2 stands, no more where none does.
@@ -119,16 +120,38 @@ module _ (bytes : List ℕ) where
   guessed_marks =
       ⊎_elim (λ t. rw t (length-replicate _ 0)) (λ f. rw f (each_length 0 ((length bytes - 12 - 12 * split_count bytes 8 60) / 12) _)) (either (is_old bytes))
 
+-- an old file tells the mark 0 everywhere
+marks_told : (old : Bool) (got : ℕ → ℕ) (from k : ℕ) →
+    each from k (λ i. cond old 0 (got i) ∷ []) ≡ cond old (replicate k 0) (each from k (λ i. got i ∷ []))
+marks_told true got from zero = refl
+marks_told true got from (suc k) = ap (λ (l : List ℕ). 0 ∷ l) (marks_told true got (from + 1) k)
+marks_told false got from k = refl
+
+-- which form bytes have, where their first value is read
+pub form_told : (bytes : List ℕ) (splits n : ℕ) → splits ≡ split_count bytes 8 60 → n ≡ word_at bytes (8 + 12 * splits + 2) → eqb n 3 ≡ is_old bytes
+unfolding is_old
+form_told bytes splits n p q = ap (λ (k : ℕ). eqb k 3) (q ∙ ap (λ (k : ℕ). word_at bytes (8 + 12 * k + 2)) p)
+
+-- there is room for so many values
+pub stand_room : {bytes : List ℕ} {splits values : ℕ} {old : Bool} → Stand bytes splits old values → 12 + 12 * splits + value_size old * values ≤ length bytes
+stand_room {bytes} {splits} {values} {old} s =
+    let left = length bytes - 12 - 12 * splits in omega (arith, rw (← s.are_values) at (by old left), s.room)
+  where
+    by : (old : Bool) (n : ℕ) → value_size old * (n / value_size old) ≤ n
+    by true n = omega arith
+    by false n = omega arith
+
 -- and they are the record that the bytes tell.
 pub told_map : (bytes : List ℕ) (w h count places size : ℕ) (old : Bool) (splits : List Split) (values marks : List ℕ) →
     w ≡ word_at bytes 4 → h ≡ word_at bytes 6 → count ≡ split_count bytes 8 60 → old ≡ is_old bytes → size ≡ value_size old →
     places ≡ (length bytes - 12 - 12 * count) / size →
     splits ≡ each 0 count (λ i. split_at bytes (8 + 12 * i) ∷ []) ++ replicate (60 - count) no_split →
     values ≡ each 0 places (λ i. word_at bytes (8 + 12 * count + size * i + 8) ∷ []) ++ replicate (1024 - places) 0 →
-    marks ≡ cond old (replicate places 0) (each 0 places (λ i. get_or bytes (8 + 12 * count + value_size old * i + 10) 0 ∷ [])) ++ replicate (1024 - places) 0 →
+    marks ≡ each 0 places (λ i. cond old 0 (get_or bytes (8 + 12 * count + size * i + 10) 0) ∷ []) ++ replicate (1024 - places) 0 →
     ◌≡◌ {A = Map} (record { lines = record { w = w; h = h; count = count; splits = splits }; values = values; marks = marks }) (record_of (guessed bytes))
 unfolding guessed record_of lines_of
 told_map bytes w h count places size old splits values marks p q r o z s t u v =
     let long = guessed_values bytes in
     let long_marks = guessed_marks bytes in
-    rw (guessed_splits bytes, long, long_marks, p, q, t, u, v, s, z, o, r)
+    let are = marks_told old (λ i. get_or bytes (8 + 12 * count + size * i + 10) 0) 0 places in
+    rw (guessed_splits bytes, long, long_marks, p, q, t, u, v, are, s, z, o, r)

@@ -46,26 +46,10 @@ module _ (before : Text) (xs ys : List ℕ) (room : Room before (xs ++ ys)) wher
     text_then q = record { puts = puts_then before.out.now before.at xs ys room p.puts q.puts; same = q.same ∙ p.same }
 
 -- Three of them.
-module _ (before : Text) (xs ys zs : List ℕ) (room : Room before (xs ++ ys ++ zs)) where
-  front : Room before (xs ++ ys)
-  front = text_first before (xs ++ ys) zs room
-
-  pub first_of_three : Room before xs
-  first_of_three = text_first before xs ys front
-
-  module _ {first : Text} (p : Writes before xs first) where
-    pub second_of_three : Room first ys
-    second_of_three = text_next before xs ys front p
-
-    module _ {second : Text} (q : Writes first ys second) where
-      two : Writes before (xs ++ ys) second
-      two = text_then before xs ys front p q
-
-      pub third_of_three : Room second zs
-      third_of_three = text_next before (xs ++ ys) zs room two
-
-      pub writes_three : {third : Text} → Writes second zs third → Writes before (xs ++ ys ++ zs) third
-      writes_three = text_then before (xs ++ ys) zs room two
+pub writes_three : (before : Text) (xs ys zs : List ℕ) → Room before (xs ++ ys ++ zs) → {first second third : Text} → Writes before xs first →
+    Writes first ys second → Writes second zs third → Writes before (xs ++ ys ++ zs) third
+writes_three before xs ys zs room p q r =
+    let front = text_first before (xs ++ ys) zs room in text_then before (xs ++ ys) zs room (text_then before xs ys front p q) r
 
 -- more of a bound than a number needs gives no more digits
 enough : (f g n : ℕ) → n ≤ f → n ≤ g → digits_by f n ≡ digits_by g n

@@ -1,6 +1,6 @@
 -- What the functions that put and take a file work on. Only contracts of functions that the crate keeps to itself cite this file.
-use Rattle.std.specs.Prelude.{ℕ, ◌+◌, ◌≤◌, ◌≡◌, Bool, true, false, cond, ◌&&◌, eqb, List, [], ◌∷◌, ◌++◌, length, take}
-use Rattle.axis.specs.Limits.{most_blends}
+use Rattle.std.specs.Prelude.{ℕ, ◌+◌, ◌-◌, ◌*◌, ◌/◌, ◌≤◌, ◌≡◌, Bool, true, false, ◌&&◌, eqb, List, [], ◌∷◌, ◌++◌, length, take}
+use Rattle.axis.specs.Limits.{most_splits, most_blends}
 use Rattle.mesh.specs.declared.Blend.{Blend}
 use Rattle.mesh.specs.declared.Table.{Table}
 use Rattle.axis.specs.Range.{joined}
@@ -9,7 +9,7 @@ use Rattle.maps.specs.declared.opened.Opened.{Opened}
 use Rattle.maps.specs.Values.{term, paired}
 use Rattle.files.specs.declared.entries.Entry.{Entry}
 use Rattle.files.specs.declared.listing.Text.{Text}
-use Rattle.files.specs.File.{TableEntry, entries_of, put}
+use Rattle.files.specs.File.{head_size, split_size, value_size, ends_size, split_count, is_old, TableEntry, entries_of, put}
 use Rattle.files.specs.Listing.{number_line, line}
 
 -- whether bytes begin with others
@@ -17,6 +17,14 @@ abbrev pub begins : List ℕ → List ℕ → Bool
 begins zs [] = true
 begins [] (x ∷ xs) = false
 begins (z ∷ zs) (x ∷ xs) = eqb z x && begins zs xs
+
+-- where the numbers of a file stand, if bytes are one: so many splits, then so many values of one form
+pub record Stand (bytes : List ℕ) (splits : ℕ) (old : Bool) (values : ℕ) : Type 0 where
+  pub are_splits : splits ≡ split_count bytes head_size most_splits
+  pub is_form : old ≡ is_old bytes
+  pub are_values : values ≡ (length bytes - ends_size - split_size * splits) / value_size old
+  pub few : values ≤ most_blends
+  pub room : ends_size + split_size * splits ≤ length bytes
 
 -- a table holds as many blends as it says, and their knots rise
 pub record WellFormed (t : Table) : Type 0 where

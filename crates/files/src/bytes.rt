@@ -78,7 +78,11 @@ fn size_at(bytes: &[u8], at: usize) -> Option<usize>
 {
     let room = bytes.len().checked_sub(2)?.checked_sub(at)?;
     let size = usize::from(word_at(bytes, at));
-    if 2 <= size && size <= room { Some(size) } else { None }
+    if 2 <= size && size <= room {
+        Some(size)
+    } else {
+        None
+    }
 }
 
 // The payload of the record at a byte place: that part of the bytes; refused with 11 where no whole record is there.

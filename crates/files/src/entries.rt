@@ -10,10 +10,13 @@ use maps::opened::Opened;
 use mesh::{Blend, Split, Table};
 
 // A proof learns how long arrays are where they are lent by themselves.
-fn all_places(splits: &[Split; Map::MOST_SPLITS], values: &[u16; Table::MOST_BLENDS], marks: &[u8; Table::MOST_BLENDS])
+fn all_places(
+    splits: &[Split; Map::MOST_SPLITS],
+    values: &[u16; Table::MOST_BLENDS],
+    marks: &[u8; Table::MOST_BLENDS],
+)
     ensures { (length splits.now ≡ most_splits) × (length values.now ≡ most_blends) × (length marks.now ≡ most_blends) }
-{
-}
+{}
 
 // The splits of an opened map.
 pub(crate) fn drawn(o: &Opened) -> &[Split]
@@ -75,7 +78,11 @@ impl Entry {
         ensures { result ≡ begins (drop at bytes.now) (value_entry old (told self)) }
     {
         let numbers = self.numbers();
-        if old { has_entry(bytes, at, 3, &numbers[..3]) } else { has_entry(bytes, at, 5, &numbers) }
+        if old {
+            has_entry(bytes, at, 3, &numbers[..3])
+        } else {
+            has_entry(bytes, at, 5, &numbers)
+        }
     }
 
     // Puts it with its mark.

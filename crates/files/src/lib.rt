@@ -17,7 +17,7 @@ ghost use Rattle.files.specs.Told.{written_as};
 use crate::bytes::put_entry;
 use crate::compare::is_file;
 use crate::entries::{Entry, drawn, numbers};
-use crate::take::{count_splits, is_old, taken};
+use crate::take::Places;
 use maps::opened::Opened;
 use maps::{Map, Refusal};
 use mesh::Table;
@@ -85,20 +85,12 @@ pub fn read(bytes: &[u8]) -> Result<Map, Refusal>
 pub fn read_opened(bytes: &[u8]) -> Result<Opened, Refusal>
     ensures { made_opened result ≡ read_file bytes.now }
 {
-    let count = count_splits(bytes);
-    let Some(room) = bytes.len().checked_sub(ENDS + SPLIT * count) else {
-        return Err(Refusal::NoFile);
-    };
-    let old = is_old(bytes, count);
-    let places = room / value_size(old);
-    if Table::MOST_BLENDS < places {
-        return Err(Refusal::NoFile);
-    }
-    let map = taken(bytes, count, places, old);
+    let places = Places::of(bytes).ok_or(Refusal::NoFile)?;
+    let map = places.map();
     let Ok(opened) = Opened::open(&map) else {
         return Err(Refusal::NoFile);
     };
-    if !is_file(bytes, &opened, old) {
+    if !is_file(bytes, &opened, places.old) {
         return Err(Refusal::NoFile);
     }
     Ok(opened)

@@ -53,6 +53,7 @@ impl Text<'_> {
     }
 
     // The coordinate of a knot.
+    #[tactic(auto, using(crate::proofs::Texts::outer_coordinate, crate::proofs::Texts::inner_coordinate))]
     fn coordinate(&mut self, knot: u8)
         requires { Room self.old (coordinate knot) }
         ensures { Writes self.old (coordinate knot) self.new }
@@ -75,6 +76,7 @@ impl Text<'_> {
     }
 
     // The coordinates of a triple, a blank after each.
+    #[tactic(auto, unfolding(crate::specs::Listing::knots))]
     fn knots(&mut self, triple: Triple)
         requires { Room self.old (knots triple) }
         ensures { Writes self.old (knots triple) self.new }
@@ -85,6 +87,7 @@ impl Text<'_> {
     }
 
     // A value, its mark and the end of their line.
+    #[tactic(auto, unfolding(crate::specs::Listing::value_line))]
     fn value_line(&mut self, value: usize, mark: usize)
         requires { Room self.old (value_line value mark) }
         ensures { Writes self.old (value_line value mark) self.new }
@@ -95,6 +98,7 @@ impl Text<'_> {
     }
 
     // The line of a table entry.
+    #[tactic(auto, unfolding(crate::specs::Listing::line))]
     fn line(&mut self, entry: Entry)
         requires { Room self.old (line (told entry)) }
         ensures { Writes self.old (line (told entry)) self.new }

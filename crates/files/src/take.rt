@@ -1,17 +1,16 @@
 // The numbers at a file's places, taken out of bytes.
-ghost use Rattle.std.specs.Prelude.{◌≡◌, [], ◌∷◌, ◌++◌, cond, ◌+◌, ◌-◌, ◌*◌, ◌/◌, ◌≤◌, length, get_or, replicate};
-ghost use Rattle.axis.specs.Limits.{most_splits, most_blends};
-ghost use Rattle.axis.specs.Range.{each};
-ghost use Rattle.maps.specs.Record.{no_split, record_of};
-ghost use Rattle.files.specs.File.{head_size, split_size, value_size, ends_size, word_at, split_count, split_at, is_old, guessed};
+ghost use Rattle.std.specs.Prelude.{◌≡◌, ◌+◌, ◌≤◌, length};
+ghost use Rattle.axis.specs.Limits.{most_splits};
+ghost use Rattle.files.specs.File.{head_size, split_size, split_count, split_at};
+ghost use Rattle.files.specs.Inner.{Stand};
 
 use crate::bytes::word_at;
-use crate::{HEAD, SPLIT, VALUE, value_size};
+use crate::{ENDS, HEAD, SPLIT, value_size};
 use maps::Map;
 use mesh::{Lines, Split, Table};
 
 // How many splits stand in a row after the head.
-pub(crate) fn count_splits(bytes: &[u8]) -> usize
+fn count_splits(bytes: &[u8]) -> usize
     ensures { result ≡ split_count bytes.now head_size most_splits }
 {
     for n in 0..Map::MOST_SPLITS {
@@ -21,14 +20,6 @@ pub(crate) fn count_splits(bytes: &[u8]) -> usize
         }
     }
     Map::MOST_SPLITS
-}
-
-// Whether the first record after the splits is a value without a mark, as in an old file.
-pub(crate) fn is_old(bytes: &[u8], count: usize) -> bool
-    requires { (count ≡ split_count bytes.now head_size most_splits) × (ends_size + split_size * count ≤ length bytes.now) }
-    ensures { result ≡ is_old bytes.now }
-{
-    word_at(bytes, HEAD + SPLIT * count + 2) == 3
 }
 
 // The split at a byte place.
@@ -44,67 +35,77 @@ fn split_at(bytes: &[u8], at: usize) -> Split
     }
 }
 
-// The splits after the head, in an array.
-fn take_splits(bytes: &[u8], count: usize) -> [Split; Map::MOST_SPLITS]
-    requires { (count ≤ most_splits) × (head_size + split_size * count ≤ length bytes.now) }
-    ensures { result ≡ each 0 count (λ i. split_at bytes.now (head_size + split_size * i) ∷ []) ++ replicate (most_splits - count) no_split }
-{
-    let none = Split {
-        direction: 0,
-        position: 0,
-        from: 0,
-        to: 0,
-    };
-    let mut splits = [none; Map::MOST_SPLITS];
-    for i in 0..count {
-        splits[i] = split_at(bytes, HEAD + SPLIT * i);
-    }
-    splits
+// Bytes, and where the numbers of a file stand in them, if they are one: after the head so many splits, then so many values, with marks or, in an old file,
+// without.
+#[derive(Clone, Copy)]
+pub(crate) struct Places<'a> {
+    bytes: &'a [u8],
+    splits: usize,
+    pub(crate) old: bool,
+    values: usize,
+    ghost stand: { Stand bytes.now splits old values },
 }
 
-// The values of entries of one form that stand in a row from a place on, in an array.
-fn take_values(bytes: &[u8], at: usize, count: usize, old: bool) -> [u16; Table::MOST_BLENDS]
-    requires { (count ≤ most_blends) × (at + value_size old * count ≤ length bytes.now) }
-    ensures { result ≡ each 0 count (λ i. word_at bytes.now (at + value_size old * i + 8) ∷ []) ++ replicate (most_blends - count) 0 }
-{
-    let size = value_size(old);
-    let mut values = [0u16; Table::MOST_BLENDS];
-    for i in 0..count {
-        values[i] = word_at(bytes, at + size * i + 8);
-    }
-    values
-}
+impl<'a> Places<'a> {
+    ghost use Rattle.std.specs.Prelude.{MatchOption};
+    ghost use Rattle.maps.specs.Plain.{fresh_plain};
+    ghost use Rattle.maps.specs.Record.{record_of};
+    ghost use Rattle.maps.specs.Calls.{changed};
+    ghost use Rattle.files.specs.File.{guessed};
+    ghost use Rattle.files.specs.Calls.{read_file};
 
-// The low bytes of their marks, in an array; zeros where the file is an old one.
-fn take_marks(bytes: &[u8], at: usize, count: usize, old: bool) -> [u8; Table::MOST_BLENDS]
-    requires { (count ≤ most_blends) × (at + value_size old * count ≤ length bytes.now) }
-    ensures { result ≡ cond old (replicate count 0) (each 0 count (λ i. get_or bytes.now (at + value_size old * i + 10) 0 ∷ [])) ++
-        replicate (most_blends - count) 0 }
-{
-    let mut marks = [0u8; Table::MOST_BLENDS];
-    if !old {
-        for i in 0..count {
-            marks[i] = bytes[at + VALUE * i + 10];
+    // None where bytes of this length are no file.
+    pub(crate) fn of(bytes: &'a [u8]) -> Option<Places<'a>>
+        ensures { MatchOption result (changed 11 (record_of (fresh_plain 1 1)) ≡ read_file bytes.now) (λ p. p.bytes.now ≡ bytes.now) }
+    {
+        let splits = count_splits(bytes);
+        let room = bytes.len().checked_sub(ENDS + SPLIT * splits)?;
+        // the kind of the first record after the splits
+        let old = word_at(bytes, HEAD + SPLIT * splits + 2) == 3;
+        let values = room / value_size(old);
+        if Table::MOST_BLENDS < values {
+            return None;
         }
+        Some(Places {
+            bytes,
+            splits,
+            old,
+            values,
+        })
     }
-    marks
-}
 
-// The map that the numbers at a file's places make.
-pub(crate) fn taken(bytes: &[u8], count: usize, places: usize, old: bool) -> Map
-    requires { (count ≡ split_count bytes.now head_size most_splits) × (places ≡ (length bytes.now - ends_size - split_size * count) / value_size old) ×
-        (places ≤ most_blends) × (ends_size + split_size * count ≤ length bytes.now) × (old ≡ is_old bytes.now) }
-    ensures { result ≡ record_of (guessed bytes.now) }
-{
-    let at = HEAD + SPLIT * count;
-    Map {
-        lines: Lines {
-            w: usize::from(word_at(bytes, 4)),
-            h: usize::from(word_at(bytes, 6)),
-            count,
-            splits: take_splits(bytes, count),
-        },
-        values: take_values(bytes, at, places, old),
-        marks: take_marks(bytes, at, places, old),
+    // The map that the numbers make. Of a mark the low byte is taken.
+    pub(crate) fn map(&self) -> Map
+        ensures { result ≡ record_of (guessed self.now.bytes.now) }
+    {
+        let none = Split {
+            direction: 0,
+            position: 0,
+            from: 0,
+            to: 0,
+        };
+        let mut splits = [none; Map::MOST_SPLITS];
+        for i in 0..self.splits {
+            splits[i] = split_at(self.bytes, HEAD + SPLIT * i);
+        }
+        let start = HEAD + SPLIT * self.splits;
+        let size = value_size(self.old);
+        let mut values = [0u16; Table::MOST_BLENDS];
+        let mut marks = [0u8; Table::MOST_BLENDS];
+        for j in 0..self.values {
+            let at = start + size * j;
+            values[j] = word_at(self.bytes, at + 8);
+            marks[j] = if self.old { 0 } else { self.bytes[at + 10] };
+        }
+        Map {
+            lines: Lines {
+                w: usize::from(word_at(self.bytes, 4)),
+                h: usize::from(word_at(self.bytes, 6)),
+                count: self.splits,
+                splits,
+            },
+            values,
+            marks,
+        }
     }
 }

@@ -1,5 +1,4 @@
 -- `files::write` meets its contract: an opened record is refused, or its table is in hand and its file is put.
-use Rattle.std.proofs.Common.{◌∙◌}
 use Rattle.std.proofs.lemmas.Result.{err_from_is_err_and}
 use Rattle.maps.proofs.Changing.{opened_ok, opened_err}
 use Rattle.files.proofs.Filing.{write_bad}

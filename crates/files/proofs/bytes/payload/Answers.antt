@@ -1,6 +1,6 @@
 -- `files::bytes::payload` meets its contract: `size_at` gives a size just where a whole record is there.
 use Rattle.std.proofs.Common.{arith, ◌∙◌, sym}
-use Rattle.files.proofs.Whole.{Sized, some_size, no_size}
+use Rattle.files.proofs.Whole.{Sized, some_size}
 use Rattle.files.proofs.bytes.payload.Goals as goal
 
 sized : (c : goal.In_ok-size) → Sized c.args.bytes.now c.args.at c.in_ok-size.size

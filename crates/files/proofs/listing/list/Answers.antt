@@ -3,7 +3,6 @@ use Rattle.std.proofs.Common.{◌≡◌, ◌∙◌, sym, ap}
 use borrow.Author.Tests.{leb-true}
 use Rattle.std.proofs.lemmas.Result.{err_from_is_err_and}
 use Rattle.mesh.proofs.Refused.{refuses}
-use Rattle.maps.specs.declared.Map.{Map}
 use Rattle.maps.specs.Outcomes.{Changed}
 use Rattle.maps.specs.Record.{Held}
 use Rattle.maps.proofs.Changing.{GoodMap, opened_map}

@@ -8,8 +8,8 @@ pub returns-then-bytes-at : goal.returns-then-bytes-at
 returns-then-bytes-at c =
     counted_all _ c.loop-n.invariant (λ lt h.
     elim c.then-bytes-at.branch [
-    | then-bytes-at-via-then-bytes-at w ↦ omega (arith, h.fits, w.if-bytes-at.true)
-    | then-bytes-at-via-else-bytes-at+then-word_at-ne2 w ↦ w.if-word_at-ne2.true (w.word_at.ensures ∙ h.kind)
+      | then-bytes-at-via-then-bytes-at w ↦ omega (arith, h.fits, w.if-bytes-at.true)
+      | then-bytes-at-via-else-bytes-at+then-word_at-ne2 w ↦ w.if-word_at-ne2.true (w.word_at.ensures ∙ h.kind)
     ])
 
 pub loop-n-preserved : goal.loop-n-preserved

@@ -1,6 +1,6 @@
 -- `files::entries::Entry::at` meets its contract: an opened map's table is fit for its file.
 use Rattle.std.proofs.Common.{arith, sym}
-use Rattle.files.proofs.Terms.{InHand, entries_at, entries_rise}
+use Rattle.files.proofs.Terms.{entries_at, entries_rise}
 use Rattle.files.proofs.Filing.{opened_ready, opened_few}
 use Rattle.files.proofs.entries.Entry.at.Goals as goal
 
