@@ -1,12 +1,13 @@
 -- Drawings: what one call leaves as the next one takes it, and what is known of one by which a map is carried.
 use Prim.Native.Nat.{ℕ, ◌+◌, ◌≤◌}
+use native.Mathlib.Omega.{arith}
 use mathlib.Core.Path.{◌≡◌, ◌∙◌}
 use mathlib.Core.Bool.{true}
 use lib.ListN.{length}
 use Rattle.mesh.specs.Lines.{Layout, mesh_of, in_range, direction, other, side}
 use Rattle.mesh.specs.Splits.{with_line}
 use Rattle.mesh.specs.Bytes.{Rows, walk}
-use Rattle.mesh.specs.Carried.{Redrawn, LinesBy, LineAdded, CarriedBy, WalksBy, TallBy, run_by}
+use Rattle.mesh.specs.Carried.{Redrawn, LinesBy, LineAdded, CarriedBy, WalksBy, TallBy, RowAt, run_by}
 use Rattle.mesh.specs.declared.Split.{Split}
 use Rattle.mesh.specs.declared.carried.Drawing.{Drawing}
 use Rattle.mesh.proofs.Ranges.{Small}
@@ -44,8 +45,12 @@ module _ {n : ℕ} {P : Layout} {t : Drawing n} (now : CarriedBy P t) where
     pub by_small : Small s
     by_small = carried_small now.carried s fits
 
-    pub by_rows : Rows (s.position + 2) t.uprights × Rows (s.position + 2) t.levels × Rows (s.to + 2) t.uprights × Rows (s.to + 2) t.levels
-    by_rows = carried_rows now.carried s fits
+    -- the rows of its position and of its end
+    pub by_rows : RowAt (s.position + 1) t × RowAt (s.to + 1) t
+    by_rows =
+        let rows = carried_rows now.carried s fits in
+        let small = by_small in
+        ((omega arith, omega arith, omega arith), (omega arith, omega arith, omega arith))
 
     -- the side that it runs along
     pub by_along : run_by t (direction s.direction) ≡ side (other (direction s.direction)) P.w P.h

@@ -188,6 +188,10 @@ pub record Clear {n : ℕ} (t : Drawing n) : Type 0 where
 abbrev pub TallBy : {n : ℕ} → Drawing n → Type 0
 TallBy t = Tall t.w t.h t.uprights × Tall t.w t.h t.levels
 
+-- It has the row of knot z.
+abbrev pub RowAt : {n : ℕ} → ℕ → Drawing n → Type 0
+RowAt z t = Rows (z + 1) t.uprights × Rows (z + 1) t.levels × (z < 131)
+
 -- its lines
 abbrev pub mesh_by : {n : ℕ} → Drawing n → Mesh
 mesh_by t = bytes_mesh t.uprights t.levels

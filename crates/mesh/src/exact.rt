@@ -5,8 +5,7 @@ ghost use Rattle.axis.specs.Range.{some};
 ghost use Rattle.mesh.specs.Lines.{Layout, direction, other, start, end, shares, ended};
 ghost use Rattle.mesh.specs.Splits.{given, exact_number, with_line};
 ghost use Rattle.mesh.specs.Refusals.{number_of};
-ghost use Rattle.mesh.specs.Bytes.{Rows};
-ghost use Rattle.mesh.specs.Carried.{CarriedBy, Carries, NotedBy, mesh_by, run_by, runs_from, runs_to, looks_good, looks_sound};
+ghost use Rattle.mesh.specs.Carried.{CarriedBy, Carries, NotedBy, RowAt, mesh_by, run_by, runs_from, runs_to, looks_good, looks_sound};
 
 use crate::carried::Drawing;
 use crate::notes::Notes;
@@ -28,7 +27,7 @@ impl Direction {
 impl<const N: usize> Drawing<N> {
     // Whether the unit step from knot k, of a line of the direction at knot z, is on.
     fn on(&self, d: Direction, z: usize, k: usize) -> bool
-        requires { Rows (z + 1) self.now.uprights × Rows (z + 1) self.now.levels × (z < 131) × (k < 131) }
+        requires { RowAt z self.now × (k < 131) }
         ensures { result ≡ mesh_by self.now d z k }
     {
         match d {
@@ -39,7 +38,7 @@ impl<const N: usize> Drawing<N> {
 
     // Whether some of the n steps from knot `from` on is on.
     fn some_on(&self, d: Direction, z: usize, from: usize, n: usize) -> bool
-        requires { Rows (z + 1) self.now.uprights × Rows (z + 1) self.now.levels × (z < 131) × (from + n ≤ 131) }
+        requires { RowAt z self.now × (from + n ≤ 131) }
         ensures { result ≡ some from n (mesh_by self.now d z) }
     {
         for k in from..from + n {
@@ -52,8 +51,7 @@ impl<const N: usize> Drawing<N> {
 
     // Whether a split shares a unit step with a line at its position.
     fn shares_step(&self, s: Split) -> bool
-        requires { Rows (s.position + 2) self.now.uprights × Rows (s.position + 2) self.now.levels × (s.position < largest_side) ×
-            (s.from < s.to) × (s.to ≤ largest_side) }
+        requires { RowAt (s.position + 1) self.now × (s.from < s.to) × (s.to ≤ largest_side) }
         ensures { result ≡ shares (mesh_by self.now) s }
     {
         self.some_on(s.way(), s.position + 1, s.from + 1, s.to - s.from)
@@ -61,8 +59,7 @@ impl<const N: usize> Drawing<N> {
 
     // Whether both its ends lie on lines that cross it: on a step up to its position, or from there on.
     fn ends_on_lines(&self, s: Split) -> bool
-        requires { Rows (s.to + 2) self.now.uprights × Rows (s.to + 2) self.now.levels × (s.position < largest_side) ×
-            (s.from < s.to) × (s.to ≤ largest_side) }
+        requires { RowAt (s.to + 1) self.now × (s.position < largest_side) × (s.from < s.to) × (s.to ≤ largest_side) }
         ensures { result ≡ ended (mesh_by self.now) s }
     {
         let across = s.way().other();
@@ -72,8 +69,7 @@ impl<const N: usize> Drawing<N> {
 
     // The knots from which and to which a split's line runs once it is drawn, with the lines at its position that it touches.
     fn runs_from(&self, s: Split) -> usize
-        requires { Rows (s.position + 2) self.now.uprights × Rows (s.position + 2) self.now.levels × (s.position < largest_side) ×
-            (s.from < largest_side) }
+        requires { RowAt (s.position + 1) self.now × (s.from < largest_side) }
         ensures { result ≡ runs_from (mesh_by self.now (direction s.direction) (s.position + 1)) (start s) }
     {
         for k in (0..s.start()).rev() {
@@ -85,8 +81,8 @@ impl<const N: usize> Drawing<N> {
     }
 
     fn runs_to(&self, s: Split) -> usize
-        requires { Rows (s.position + 2) self.now.uprights × Rows (s.position + 2) self.now.levels × (s.position < largest_side) ×
-            (s.to ≤ run_by self.now (direction s.direction)) × (run_by self.now (direction s.direction) ≤ largest_side) }
+        requires { RowAt (s.position + 1) self.now × (s.to ≤ run_by self.now (direction s.direction)) ×
+            (run_by self.now (direction s.direction) ≤ largest_side) }
         ensures { (result ≡ runs_to (mesh_by self.now (direction s.direction) (s.position + 1)) (end (run_by self.now (direction s.direction)) s)
             (131 - end (run_by self.now (direction s.direction)) s)) × (result ≤ 131) }
     {
@@ -136,8 +132,7 @@ impl<const N: usize> Drawing<N> {
 
     // Whether an end of a line, at knot k, is good: the gap's, or one at which a blend before the line and one after it are alike.
     fn good_end(&self, notes: &Notes, d: Direction, z: usize, end: Side, k: usize) -> bool
-        requires { Rows (z + 1) self.now.uprights × Rows (z + 1) self.now.levels × (z < 131) × (1 ≤ k) × (k < 131) ×
-            (run_by self.now d ≤ largest_side) }
+        requires { RowAt z self.now × (1 ≤ k) × (k < 131) × (run_by self.now d ≤ largest_side) }
         ensures { result ≡ looks_good (mesh_by self.now) d z (run_by self.now d) notes.now.lows notes.now.highs end k }
     {
         let ends_gap = match end {
@@ -148,8 +143,8 @@ impl<const N: usize> Drawing<N> {
     }
 
     pub fn good_ends(&self, notes: &Notes, s: Split) -> bool
-        requires { Rows (s.position + 2) self.now.uprights × Rows (s.position + 2) self.now.levels × (s.position < largest_side) ×
-            (s.from < largest_side) × (s.to ≤ largest_side) × (run_by self.now (direction s.direction) ≤ largest_side) }
+        requires { RowAt (s.position + 1) self.now × (s.from < largest_side) × (s.to ≤ largest_side) ×
+            (run_by self.now (direction s.direction) ≤ largest_side) }
         ensures { result ≡ looks_sound (mesh_by self.now) (run_by self.now (direction s.direction)) notes.now.lows notes.now.highs s }
     {
         let d = s.way();

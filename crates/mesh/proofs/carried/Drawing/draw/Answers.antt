@@ -21,7 +21,7 @@ runs_from-from-requires g c =
     let fit = fits c.requires.0 c.args.s c.requires.3 in
     let r = by_small now c.args.s fit in
     let rows = by_rows now c.args.s fit in
-    (search rules, (rows.0, rows.1, r.position, omega arith))
+    (search rules, (rows.0, omega arith))
 
 pub runs_to-to-requires : goal.runs_to-to-requires
 runs_to-to-requires g c =
@@ -29,7 +29,7 @@ runs_to-to-requires g c =
     let fit = fits c.requires.0 c.args.s c.requires.3 in
     let rows = by_rows now c.args.s fit in
     let along = by_run now c.args.s fit in
-    (search rules, (rows.0, rows.1, (by_small now c.args.s fit).position, along.0, along.1))
+    (search rules, (rows.0, along.0, along.1))
 
 pub add_line-requires : goal.add_line-requires
 add_line-requires g c =

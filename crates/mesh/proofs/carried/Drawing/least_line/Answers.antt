@@ -31,7 +31,7 @@ good_ends-requires g c =
     let sizes = search_sizes i in
     let rows = search_rows i in
     let run = rw c.way.ensures at c.run-run.ensures in
-    (search rules, (rows.0, rows.1, sizes.0, omega arith, omega arith, sizes.3))
+    (search rules, ((omega arith, omega arith, omega arith), omega arith, omega arith, sizes.3))
 
 pub loop-from-preserved : goal.loop-from-preserved
 loop-from-preserved g c =

@@ -68,7 +68,7 @@ shares_step-requires g c =
     let fits = by_range now c.args.s c.if-not-in_range.ensures in
     let r = by_small now c.args.s fits in
     let rows = by_rows now c.args.s fits in
-    (search rules, (rows.0, rows.1, r.position, r.rises, r.to))
+    (search rules, (rows.0, r.rises, r.to))
 
 pub returns-then-shares_step : goal.returns-then-shares_step
 returns-then-shares_step g c P now =
@@ -81,7 +81,7 @@ ends_on_lines-requires g c =
     let fits = by_range now c.args.s c.if-not-in_range.ensures in
     let r = by_small now c.args.s fits in
     let rows = by_rows now c.args.s fits in
-    (search rules, (rows.2, rows.3, r.position, r.rises, r.to))
+    (search rules, (rows.1, r.position, r.rises, r.to))
 
 pub returns-then-not-ends_on_lines : goal.returns-then-not-ends_on_lines
 returns-then-not-ends_on_lines g c P now =
@@ -101,7 +101,7 @@ runs_from-requires g c =
     let fits = by_range now c.args.s c.if-not-in_range.ensures in
     let r = by_small now c.args.s fits in
     let rows = by_rows now c.args.s fits in
-    (search rules, (rows.0, rows.1, r.position, omega arith))
+    (search rules, (rows.0, omega arith))
 
 pub runs_to-requires : goal.runs_to-requires
 runs_to-requires g c =
@@ -109,7 +109,7 @@ runs_to-requires g c =
     let fits = by_range now c.args.s c.if-not-in_range.ensures in
     let rows = by_rows now c.args.s fits in
     let along = by_run now c.args.s fits in
-    (search rules, (rows.0, rows.1, (by_small now c.args.s fits).position, along.0, along.1))
+    (search rules, (rows.0, along.0, along.1))
 
 pub returns-then-not-some_reached : goal.returns-then-not-some_reached
 returns-then-not-some_reached g c P now =
