@@ -19,11 +19,13 @@ pub(crate) fn smallest() -> Opened {
 
 // A list starts on a fresh map; a side out of range is refused with 1.
 fn history(map: &mut Opened, w: usize, h: usize, out: &mut Out) {
-    let fresh = Opened::fresh(w, h);
-    if fresh.is_err() {
-        out.told(&fresh);
-    }
-    *map = fresh.unwrap_or(smallest());
+    *map = match Opened::fresh(w, h) {
+        Ok(fresh) => fresh,
+        refused => {
+            out.told(&refused);
+            smallest()
+        }
+    };
 }
 
 fn place(map: &Opened, i: usize, out: &mut Out) {

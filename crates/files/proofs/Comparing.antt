@@ -1,5 +1,5 @@
 -- Bytes compared with a file entry by entry: as long as entries agree, what is left decides.
-use Prim.Native.Nat.{ℕ, suc, ◌+◌, ◌*◌, ◌≤◌, ◌<◌}
+use Prim.Native.Nat.{ℕ, suc, ◌+◌, ◌*◌, ◌/◌, ◌%◌, ◌≤◌, ◌<◌}
 use native.Mathlib.Omega.{arith}
 use native.Mathlib.Numerals.{add-one}
 use mathlib.Core.Path.{◌≡◌, refl, sym, ap, ◌∙◌}
@@ -10,7 +10,7 @@ use lib.Dec.{eqb}
 use lib.ListN.{length, get_or, drop, length-drop, drop_of_length-le}
 use lib.Seq.{drop-cons, drop-drop}
 use Rattle.axis.specs.Range.{joined, agree}
-use Rattle.axis.proofs.Tests.{true_not_false, and_both, same_test, false_of}
+use Rattle.axis.proofs.Tests.{true_not_false, and_both, and_of, same_test, false_of}
 use Rattle.files.specs.File.{word, entry}
 use Rattle.files.specs.Inner.{begins}
 use Rattle.files.proofs.Words.{joined_length}
@@ -43,6 +43,22 @@ two_bytes bytes at le =
     let next : suc (at + 1) ≡ at + 2 = omega arith in
     let one : suc at ≡ at + 1 = omega arith in
     first ∙ rw (one, second, next)
+
+-- a number stands there just where it is read there
+pub word_stands : (bytes : List ℕ) (at n m : ℕ) → at + 2 ≤ length bytes → get_or bytes at 0 < 256 → get_or bytes (at + 1) 0 < 256 →
+    m ≡ get_or bytes at 0 + 256 * get_or bytes (at + 1) 0 → eqb m (n % 65536) ≡ begins (drop at bytes) (word n)
+word_stands bytes at n m le low high is =
+    let a = get_or bytes at 0 in
+    let b = get_or bytes (at + 1) 0 in
+    rw (two_bytes bytes at le)
+    (same_test (eqb m (n % 65536)) (eqb a (n % 256) && (eqb b (n / 256 % 256) && true))
+    (λ t.
+    let e = eqb-true m (n % 65536) t in
+    and_of _ _ (eq-eqb a (n % 256) (omega arith)) (and_of _ true (eq-eqb b (n / 256 % 256) (omega arith)) refl))
+    (λ t.
+    let p = and_both (eqb a (n % 256)) _ t in
+    let q = and_both (eqb b (n / 256 % 256)) true p.1 in
+    eq-eqb m (n % 65536) (omega (arith, is, eqb-true a _ p.0, eqb-true b _ q.0))))
 
 -- numbers in a row: there are too few bytes for them, or the first of them and the others decide
 module _ (bytes : List ℕ) (at : ℕ) (words : List ℕ) where

@@ -21,7 +21,7 @@ fn has_word(bytes: &[u8], at: usize, n: usize) -> bool
     requires { at + 2 ≤ length bytes.now }
     ensures { result ≡ begins (drop at bytes.now) (word n) }
 {
-    usize::from(bytes[at]) == n % 256 && usize::from(bytes[at + 1]) == n / 256 % 256
+    usize::from(word_at(bytes, at)) == n % 65536
 }
 
 // Whether numbers stand in a row from a byte place on.

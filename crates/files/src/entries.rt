@@ -9,7 +9,7 @@ use maps::Map;
 use maps::opened::Opened;
 use mesh::{Blend, Split, Table};
 
-// A proof learns how long arrays are where they are lent by themselves.
+// Arrays have all their places: a proof learns that where an array is lent by itself, and not behind a struct.
 fn all_places(
     splits: &[Split; Map::MOST_SPLITS],
     values: &[u16; Table::MOST_BLENDS],

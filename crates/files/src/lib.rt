@@ -38,18 +38,18 @@ pub(crate) const ENDS: usize = HEAD + TAIL;
 
 pub const LARGEST_FILE: usize = ENDS + SPLIT * Map::MOST_SPLITS + VALUE * Table::MOST_BLENDS;
 
-// Writes a map's file into a lent buffer, and tells how many bytes it has: refused with 2 or 12.
-pub fn write(map: &Map, buffer: &mut [u8]) -> Result<usize, Refusal>
-    ensures { (written_as result ≡ written map.now buffer.old) × (buffer.new ≡ after map.now buffer.old) }
-{
-    write_opened(&Opened::open(map)?, buffer)
-}
-
 // The bytes of a value's record in an old file, or in another.
 pub(crate) fn value_size(old: bool) -> usize
     ensures { result ≡ value_size old }
 {
     if old { OLD_VALUE } else { VALUE }
+}
+
+// Writes a map's file into a lent buffer, and tells how many bytes it has: refused with 2 or 12.
+pub fn write(map: &Map, buffer: &mut [u8]) -> Result<usize, Refusal>
+    ensures { (written_as result ≡ written map.now buffer.old) × (buffer.new ≡ after map.now buffer.old) }
+{
+    write_opened(&Opened::open(map)?, buffer)
 }
 
 // The rest of `write`, after the record is opened.

@@ -78,13 +78,7 @@ impl<'a> Places<'a> {
     pub(crate) fn map(&self) -> Map
         ensures { result ≡ record_of (guessed self.now.bytes.now) }
     {
-        let none = Split {
-            direction: 0,
-            position: 0,
-            from: 0,
-            to: 0,
-        };
-        let mut splits = [none; Map::MOST_SPLITS];
+        let mut splits = [Split::default(); Map::MOST_SPLITS];
         for i in 0..self.splits {
             splits[i] = split_at(self.bytes, HEAD + SPLIT * i);
         }

@@ -16,7 +16,9 @@ use maps::Refusal;
 use maps::opened::Opened;
 use mesh::Split;
 
-// The map whose file the first `used` bytes are; there is none where fewer are lent.
+// The map whose file the first `used` bytes are; there is none where fewer are lent. It is a call of its own, so that what reading needs is gone from
+// the stack before a change.
+#[inline(never)]
 fn read_lent(bytes: &[u8], used: usize) -> Result<Opened, Refusal>
     ensures { made_opened result ≡ read_file (lent bytes.now used) }
 {

@@ -1,12 +1,15 @@
 -- `files::take::Places::map` meets its contract: each field of the record has the numbers at its places.
-use Rattle.std.proofs.Common.{arith, rules, ◌∙◌}
+use Rattle.std.proofs.Common.{arith, rules, ◌≡◌, ◌∙◌}
 use Rattle.maps.specs.Record.{no_split}
 use Rattle.files.proofs.Taking.{count_few, filled_none, filled_more, filled_all, told_map}
 use Rattle.files.proofs.take.Places.map.Goals.{then-self, else-self}
 use Rattle.files.proofs.take.Places.map.Goals as goal
 
 pub loop-i-init : goal.loop-i-init
-loop-i-init c = filled_none _ no_split 60
+loop-i-init c =
+    let e = c.default-splits.ensures in
+    let none : c.default-splits.result ≡ no_split = λ i. record { direction = e.0 i; position = e.1.0 i; from = e.1.1.0 i; to = e.1.1.1 i } in
+    rw none (filled_none _ no_split 60)
 
 pub offset_bounds-splits-i : goal.offset_bounds-splits-i
 offset_bounds-splits-i c = omega (arith, count_few c.args.self.now.bytes.now 8 60, c.args.self.now.stand.are_splits)
