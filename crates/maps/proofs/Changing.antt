@@ -7,8 +7,8 @@ use mathlib.Core.Bool.{true, false, cond, not}
 use mathlib.Core.List.{List, [], ◌∷◌, ◌++◌, append_assoc}
 use borrow.Author.Tests.{eqb-true, eqb-false, ltb-true, ltb-false, le-ltb, lt-ltb}
 use lib.Dec.{ltb, eqb}
-use lib.ListN.{length, get_or, set, take, replicate, length-append, length-map, length-set}
-use lib.Seq.{get_or-take, set-append_seam, set-append_left}
+use lib.ListN.{length, get_or, set, take, replicate, length-append, length-map, length-set, length-take}
+use lib.Seq.{get_or-take, get_or-set_same, get_or-set_other, set-append_seam, set-append_left}
 use mir.Val.{Val}
 use denote.Shadow.{shadow}
 use denote.Struct.Declared.{row}
@@ -36,7 +36,7 @@ use Rattle.mesh.specs.Replay.{HasTable, Step, refused_step, first_step, split_st
 use Rattle.maps.specs.declared.opened.Opened.{Opened}
 use Rattle.maps.specs.Plain.{Plain, blends}
 use Rattle.maps.specs.Values.{place_of, carried, kept_mark, drawn}
-use Rattle.maps.specs.Record.{no_split, lines_of, record_of, Full, plain, good}
+use Rattle.maps.specs.Record.{no_split, lines_of, record_of, Full, Held, plain, good}
 use Rattle.maps.specs.Calls.{changed, drawn_first, set_plain, set_value, split_within}
 use Rattle.maps.specs.Opened.{opened, IsTable}
 use Rattle.maps.specs.Told.{opened_from}
@@ -111,7 +111,19 @@ good_map {m} o vs p = opened_map o (full m vs p)
 
 -- so each opened one is
 pub good_opened : (o : Opened) → GoodMap o.map o.table
-good_opened o = opened_map o.opens o.full
+good_opened o = opened_map o.opens o.held.full
+
+-- A record that keeps to its arrays: the blank one, one with a value set, and one with other arrays.
+set_small : (xs : List ℕ) (k v : ℕ) → k < length xs → v < 65536 → ((i : ℕ) → get_or xs i 0 < 65536) → (i : ℕ) → get_or (set xs k v) i 0 < 65536
+set_small xs k v inside small all i =
+    ⊎_elim (λ e. rw (eqb-true i k e, get_or-set_same xs k v 0 inside) small) (λ n. rw (get_or-set_other xs k i v 0 (eqb-false i k n)) (all i)) (either (eqb i k))
+
+pub held_set : {m : Map} → Held m → (k v : ℕ) → k < 1024 → v < 65536 → Held (record { lines = m.lines; values = set m.values k v; marks = set m.marks k 1 })
+held_set {m} h k v inside small =
+    record {
+      full = record { splits = h.full.splits; values = rw length-set h.full.values; marks = rw length-set h.full.marks };
+      small = set_small m.values k v (rw h.full.values inside) small h.small;
+    }
 
 -- What opening a record says of it: it is good, and comes as it is; or it is not good, and is refused with 2.
 module _ (m : Map) where
@@ -255,6 +267,9 @@ module _ {m : Map} {t : Table} (g : GoodMap m t) {r : Step} {c : Changed} where
         (at_most m.lines.w m.lines.h f.across.0 f.up.0 f.up.1 ((plain m).lines.splits ++ r.split ∷ [])
         (omega (arith, length-append (plain m).lines.splits (r.split ∷ []), f.counted_splits, step_room))
         (exact_says (plain m).lines r.split d.accepted).1)
+
+    pub new_short : length (blends_of r.table) ≤ 1024
+    new_short = omega (arith, new_few, length-take r.table.count r.table.blends)
 
     pub new_proper : all (proper m.lines.w m.lines.h) (blends_of r.table) ≡ true
     unfolding drawn plain

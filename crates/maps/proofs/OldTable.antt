@@ -35,6 +35,9 @@ module _ {w h : ℕ} {t : Table} {values : List ℕ} (old : InTable w h t values
   pub blends_of_lem : blends_of t ≡ blends old.of
   blends_of_lem = rw old.is_table (table_blends (blends old.of))
 
+  pub count_blends : length (blends_of t) ≡ t.count
+  count_blends = rw (blends_of_lem, count_of)
+
   pub few_blends : length (blends_of t) ≤ 1024
   few_blends = rw blends_of_lem old.is_short
 

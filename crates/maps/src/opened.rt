@@ -6,7 +6,7 @@ ghost use Rattle.std.specs.List.{list_all};
 ghost use Rattle.maps.specs.Calls.{fresh_map, set_value, table_place, reading, weights, split_within};
 ghost use Rattle.maps.specs.Pairs.{row_pairs, column_pairs};
 ghost use Rattle.maps.specs.Sameness.{sameness};
-ghost use Rattle.maps.specs.Record.{Full, is_no_split, is_zero};
+ghost use Rattle.maps.specs.Record.{Held, is_no_split, is_zero};
 ghost use Rattle.maps.specs.Opened.{IsTable, opened};
 ghost use Rattle.maps.specs.Inner.{along_pairs};
 
@@ -17,13 +17,13 @@ use mesh::replay::replay;
 use mesh::splits::split;
 use mesh::{Split, Table};
 
-// A good record, and the table of its live blends. That its arrays have all their places is known of a value and not behind a reference, so it is kept too.
+// A good record, and the table of its live blends. That its arrays are full and its values fit is known of a value, and not behind a reference, so it is kept.
 #[derive(Clone, Copy)]
 pub struct Opened {
     pub map: Map,
     pub table: Table,
     pub ghost opens: { IsTable map table },
-    pub ghost full: { Full map },
+    pub ghost held: { Held map },
 }
 
 // Whether splits are all zero.

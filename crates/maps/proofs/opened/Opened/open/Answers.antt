@@ -1,5 +1,5 @@
 -- `maps::opened::Opened::open` meets its contract: the lines replayed, then the unused places.
-use Rattle.std.proofs.Common.{arith, ◌≡◌, ◌∙◌, true, sym}
+use Rattle.std.proofs.Common.{arith, rules, ◌≡◌, ◌∙◌, true, sym}
 use lib.Dec.{leb}
 use lib.ListN.{drop}
 use Rattle.axis.proofs.Tests.{true_not_false}
@@ -92,7 +92,7 @@ invariant_of-result c =
     let ok = passed (goal.at.invariant_of-result c).Else-not-no_marks_above-2 in
     record {
       opens = record { is_good = ok; is_table = r.is_table ∙ sym (good_table c.args.map.now ok) };
-      full = record { splits = omega arith; values = omega arith; marks = omega arith };
+      held = record { full = record { splits = omega arith; values = omega arith; marks = omega arith }; small = λ i. search rules };
     }
 
 pub returns : goal.returns

@@ -1,12 +1,11 @@
 -- `maps::opened::Opened::set` meets its contract.
 use Rattle.std.proofs.Common.{arith, ◌∙◌, ◌≡◌, ◌+◌, ◌<◌, sym, length}
 use mathlib.Core.Logic.{⊎_elim}
-use lib.ListN.{length-set}
 use Rattle.maps.specs.Plain.{blends}
 use Rattle.maps.specs.Record.{plain}
 use Rattle.maps.specs.Values.{place_of}
 use Rattle.maps.proofs.Readings.{placed_some, placed_none}
-use Rattle.maps.proofs.Changing.{good_opened, few, live_blends, live_count, set_none, set_beyond, set_some}
+use Rattle.maps.proofs.Changing.{good_opened, few, live_blends, live_count, set_none, set_beyond, set_some, held_set}
 use Rattle.maps.proofs.opened.Opened.set.Goals as goal
 use Rattle.maps.proofs.opened.Opened.set.Goals.{In-Some}
 
@@ -43,10 +42,11 @@ bounds-self-place-2 c = inside (goal.at.bounds-self-place-2 c).In-Some
 pub invariant_of-self : goal.invariant_of-self
 invariant_of-self c =
     let self = c.args.self.now in
-    let f = found (goal.at.invariant_of-self c).In-Some in
+    let at = goal.at.invariant_of-self c in
+    let f = found at.In-Some in
     record {
       opens = (rw f.0 at (set_some (good_opened self) c.args.m c.args.n c.args.value (rw f.0 f.1))).1;
-      full = record { splits = self.full.splits; values = rw length-set self.full.values; marks = rw length-set self.full.marks };
+      held = held_set self.held _ _ (inside at.In-Some) c.ranges.value.fits;
     }
 
 pub returns : goal.returns
