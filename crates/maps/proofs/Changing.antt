@@ -3,7 +3,7 @@ use Prim.Native.Nat.{ℕ, suc, ◌+◌, ◌-◌, ◌≤◌, ◌<◌}
 use native.Mathlib.Omega.{arith}
 use mathlib.Core.Path.{◌≡◌, refl, sym, ap, ◌∙◌}
 use mathlib.Core.Logic.{⊎_elim}
-use mathlib.Core.Bool.{true, false, cond, not}
+use mathlib.Core.Bool.{Bool, true, false, cond, not}
 use mathlib.Core.List.{List, [], ◌∷◌, ◌++◌, append_assoc}
 use borrow.Author.Tests.{eqb-true, eqb-false, ltb-true, ltb-false, le-ltb, lt-ltb}
 use lib.Dec.{ltb, eqb}
@@ -16,7 +16,9 @@ use Rattle.mesh.proofs.BlendTables.{lines_full, table_count, table_blends}
 use Rattle.axis.specs.Range.{all}
 use Rattle.axis.proofs.Members.{entry}
 use Rattle.axis.proofs.Tests.{all_of, either, cond_true, cond_false}
-use Rattle.std.specs.Prelude.{Ok, Err}
+use Rattle.std.specs.Prelude.{Ok, Err, Result, ⊤}
+use Rattle.std.specs.Result.{IsErrAnd}
+use Rattle.std.proofs.lemmas.Result.{err_from_is_err_and}
 use Rattle.mesh.specs.declared.Split.{Split}
 use Rattle.mesh.specs.declared.refusal.Refusal.{Refusal}
 use Rattle.mesh.specs.Refusals.{number_of}
@@ -39,7 +41,7 @@ use Rattle.maps.specs.Values.{place_of, carried, kept_mark, drawn}
 use Rattle.maps.specs.Record.{no_split, lines_of, record_of, Full, Held, plain, good}
 use Rattle.maps.specs.Calls.{changed, drawn_first, set_plain, set_value, split_within}
 use Rattle.maps.specs.Opened.{opened, IsTable}
-use Rattle.maps.specs.Told.{opened_from}
+use Rattle.maps.specs.Told.{changed_to, opened_from}
 use Rattle.maps.specs.Inner.{with_split, in_array, InTable, Grown, carried_arrays}
 use Rattle.maps.specs.Holds.{Holds}
 use Rattle.maps.specs.contracts.Map.{the_type}
@@ -341,3 +343,48 @@ module _ {m : Map} {t : Table} (g : GoodMap m t) where
 
   pub split_good : (s : Split) (a : ℕ) → good (split_within m s a).map ≡ true
   split_good s a = step_good g (split_step_lem g s a)
+
+-- what `?` hands on where a record is not good
+pub handed_on : (m : Map) {T : Type 0} (r : Result T Refusal) (e : Refusal) → IsErrAnd r (λ y. y ≡ e) → opened_from m (Err e) ≡ opened m →
+    (good m ≡ false) × ((y : Refusal) × (r ≡ Err y) × (number_of y ≡ 2))
+handed_on m r e is refused =
+    let f = opened_err m e refused in
+    let y = err_from_is_err_and r is in
+    (f.0, (y.0, y.1, ap number_of y.2 ∙ f.1))
+
+-- A call that is refused leaves the map as it came.
+abbrev Kept : Map → Changed → Type 0
+Kept m c = (c.number ≡ 0 → ⊥) → c.map ≡ m
+
+kept_either : (m : Map) (b : Bool) (c d : Changed) → Kept m c → Kept m d → Kept m (cond b c d)
+kept_either m true c d p q = p
+kept_either m false c d p q = q
+
+pub set_kept : (m : Map) (i j v : ℕ) → Kept m (set_value m i j v)
+unfolding set_value
+set_kept m i j v =
+    let P = plain m in
+    let k = place_of (blends P) (i + 1) (j + 1) in
+    let some = changed 0 (record_of (set_plain P i j v)) in
+    kept_either m (not (good m)) (changed 2 m) (cond (ltb k (length (blends P))) some (changed 9 m)) (λ ne. refl)
+    (kept_either m (ltb k (length (blends P))) some (changed 9 m) (λ ne. absurd (ne refl)) (λ ne. refl))
+
+first_kept : (m : Map) (P : Plain) (cs : List Split) → Kept m (drawn_first m P cs)
+first_kept m P [] ne = refl
+first_kept m P (c ∷ cs) ne = absurd (ne refl)
+
+pub split_kept : (m : Map) (s : Split) (a : ℕ) → Kept m (split_within m s a)
+unfolding split_within
+split_kept m s a =
+    let P = plain m in
+    let n = asked P.lines s a in
+    let first = drawn_first m P (chosen P.lines s a) in
+    kept_either m (not (good m)) (changed 2 m) (cond (eqb n 0) first (changed n m)) (λ ne. refl)
+    (kept_either m (eqb n 0) first (changed n m) (first_kept m P (chosen P.lines s a)) (λ ne. refl))
+
+pub call_refused : {m : Map} {c : Changed} → Kept m c → (r : Result ⊤ Refusal) (e : Refusal) → IsErrAnd r (λ y. y ≡ e) → (x : Map) →
+    changed (number_of e) x ≡ c → changed_to m r ≡ c
+call_refused {m} {c} kept r e is x ends =
+    let y = err_from_is_err_and r is in
+    let same : x ≡ m = ap (λ (c : Changed). c.map) ends ∙ kept (λ z. refuses e (ap (λ (c : Changed). c.number) ends ∙ z)) in
+    rw (y.1, y.2) (rw same at ends)

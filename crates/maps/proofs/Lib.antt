@@ -19,6 +19,7 @@ pub mod OverSquare
 pub mod Reached
 pub mod Readings
 pub mod Changing
+pub mod StaysOpened
 pub mod Opening
 pub mod Rebuilding
 pub mod Squares

@@ -7,7 +7,6 @@ ghost use Rattle.maps.specs.Inner.{carried_arrays, Grown};
 
 use crate::opened::Opened;
 use crate::values::{four_over, low_knot, reading_over};
-use axis::knots::wide;
 use mesh::{Blend, Table};
 
 // The values and marks of a table's blends.
@@ -46,8 +45,8 @@ impl Opened {
                 kept[i] = marks[j];
                 j += 1;
             } else {
-                let m = wide(x.across.m);
-                let n = wide(x.up.m);
+                let m = usize::from(x.across.m);
+                let n = usize::from(x.up.m);
                 let a = low_knot(w, m - 1);
                 let b = low_knot(h, n - 1);
                 let four = four_over(old, near, a, b);

@@ -13,10 +13,8 @@ ghost use Rattle.maps.specs.Inner.{entries, entries_over, AllListed, weight_of_b
 
 use crate::opened::Opened;
 use crate::{Shape, Weight, Weights};
-use axis::knots;
 use axis::knots::coordinate;
-use axis::shares::{corner_of, gap_at, share_at};
-use axis::supports::spans_at;
+use axis::shares::corner_of;
 use mesh::{Blend, Table};
 
 // A blend in document 01's coordinates.
@@ -49,10 +47,10 @@ pub(crate) fn is_over(b: Blend, x: usize, y: usize) -> bool
 {
     let a = b.across;
     let u = b.up;
-    if !spans_at(a, x) {
+    if !a.spans(x) {
         return false;
     }
-    spans_at(u, y)
+    u.spans(y)
 }
 
 // A blend over that square with its weight at a corner of the square, at knots (u, v), over the product of the two gaps in which the square lies.
@@ -64,8 +62,8 @@ fn weight_at(b: Blend, x: usize, y: usize, u: usize, v: usize) -> Weight
     let c = b.up;
     Weight {
         blend: shape_of(b),
-        numerator: share_at(a, x, u) * share_at(c, y, v),
-        denominator: gap_at(a, x) * gap_at(c, y),
+        numerator: a.share_at(x, u) * c.share_at(y, v),
+        denominator: a.gap_at(x) * c.gap_at(y),
     }
 }
 
@@ -75,10 +73,10 @@ fn is_anchored(b: Blend, m: usize, n: usize) -> bool
 {
     let a = b.across;
     let u = b.up;
-    if knots::wide(a.m) != m {
+    if usize::from(a.m) != m {
         return false;
     }
-    knots::wide(u.m) == n
+    usize::from(u.m) == n
 }
 
 // The table place of the blend with the anchor at knots (m, n); none where no blend has it.

@@ -1,7 +1,6 @@
 -- `maps::blank` meets its contract.
 use Rattle.std.proofs.Common.{ap, replicate}
 use Rattle.mesh.specs.declared.Split.{Split}
-use Rattle.maps.specs.declared.Map.{Map}
 use Rattle.maps.specs.Plain.{fresh_plain}
 use Rattle.maps.specs.Record.{lines_of, record_of}
 use Rattle.maps.proofs.blank.Goals as goal

@@ -1,5 +1,5 @@
 -- `maps::opened::Opened::along` meets its contract: the refusals in their order, then the walk.
-use Rattle.std.proofs.Common.{arith, ◌∙◌}
+use Rattle.std.proofs.Common.{◌∙◌}
 use borrow.Author.Tests.{lt-leb}
 use lib.Dec.{leb}
 use Rattle.axis.proofs.Tests.{and_first, and_last}

@@ -9,7 +9,6 @@ use Rattle.axis.proofs.Members.{entry}
 use Rattle.axis.specs.Fraction.{total}
 use Rattle.axis.specs.Gap.{corner}
 use Rattle.mesh.specs.declared.Blend.{Blend}
-use Rattle.mesh.specs.declared.Table.{Table}
 use Rattle.mesh.specs.Blends.{place}
 use Rattle.mesh.specs.Sound.{proper, none, over_square, blends_of}
 use Rattle.mesh.proofs.Cuts.{proper_facts}
@@ -137,34 +136,34 @@ bounds-marks-j c =
     omega (arith, (met at.After-place (inside at.In-loop-i) c.if-place-next.true).0, (before at.In-loop-i).1)
 
 pub overflow_sub-m : goal.overflow_sub-m
-overflow_sub-m c = let k = inside (goal.at.overflow_sub-m c).In-loop-i in omega (arith, c.wide-m.ensures)
+overflow_sub-m c = let k = inside (goal.at.overflow_sub-m c).In-loop-i in omega (arith, c.from-m.ensures)
 
 pub low_knot-a-requires : goal.low_knot-a-requires
 low_knot-a-requires c =
     let k = inside (goal.at.low_knot-a-requires c).In-loop-i in
     let sides = (old_of c.args.self.now).sides in
-    (sides.0, sides.1, rw c.wide-m.ensures k.across)
+    (sides.0, sides.1, rw c.from-m.ensures k.across)
 
 pub overflow_sub-n : goal.overflow_sub-n
-overflow_sub-n c = let k = inside (goal.at.overflow_sub-n c).In-loop-i in omega (arith, c.wide-n.ensures)
+overflow_sub-n c = let k = inside (goal.at.overflow_sub-n c).In-loop-i in omega (arith, c.from-n.ensures)
 
 pub low_knot-b-requires : goal.low_knot-b-requires
 low_knot-b-requires c =
     let k = inside (goal.at.low_knot-b-requires c).In-loop-i in
     let sides = (old_of c.args.self.now).sides in
-    (sides.2, sides.3, rw c.wide-n.ensures k.up)
+    (sides.2, sides.3, rw c.from-n.ensures k.up)
 
 pub four_over-four-requires : goal.four_over-four-requires
 four_over-four-requires c =
     let at = goal.at.four_over-four-requires c in
     let p = point c.args.self.now (inside at.In-loop-i) in
-    ((before at.In-loop-i).1, rw (c.blends-old.ensures, c.low_knot-a.ensures.0, c.low_knot-b.ensures.0, c.wide-m.ensures, c.wide-n.ensures) p.2)
+    ((before at.In-loop-i).1, rw (c.blends-old.ensures, c.low_knot-a.ensures.0, c.low_knot-b.ensures.0, c.from-m.ensures, c.from-n.ensures) p.2)
 
 pub reading_over-requires : goal.reading_over-requires
 reading_over-requires c =
     let k = inside (goal.at.reading_over-requires c).In-loop-i in
-    let m = c.wide-m.ensures in
-    let n = c.wide-n.ensures in (
+    let m = c.from-m.ensures in
+    let n = c.from-n.ensures in (
       c.args.self.now.held.full.values,
       all_listed _ _ _ _ _ (point c.args.self.now k) _ _ c.four_over-four.result (rw c.blends-old.ensures at c.four_over-four.ensures),
       omega arith,
@@ -183,7 +182,7 @@ overflow_cast-carried c =
     let u : x.across.m - 1 ≤ old.of.lines.w = rw old.across k.across in
     let v : x.up.m - 1 ≤ old.of.lines.h = rw old.up k.up in
     let read = c.reading_over.ensures ∙
-    taken o k c.blends-old.ensures c.wide-m.ensures c.wide-n.ensures c.low_knot-a.ensures.0 c.low_knot-b.ensures.0 c.four_over-four.result
+    taken o k c.blends-old.ensures c.from-m.ensures c.from-n.ensures c.low_knot-a.ensures.0 c.low_knot-b.ensures.0 c.four_over-four.result
     c.four_over-four.ensures in
     let is : c.reading_over.result ≡ reading_at (blends old.of) old.of.values (x.across.m - 1) (x.up.m - 1) =
     rw (c.blends-old.ensures, count_blends old, blends_of_lem old, values_of old) at read in
@@ -227,7 +226,7 @@ loop-i-preserved c =
       | else-place-next w ↦
           let other = apart at.After-place w.if-place-next.false in
           let reads = w.reading_over.ensures ∙
-          taken o k c.blends-old.ensures w.wide-m.ensures w.wide-n.ensures w.low_knot-a.ensures.0 w.low_knot-b.ensures.0
+          taken o k c.blends-old.ensures w.from-m.ensures w.from-n.ensures w.low_knot-a.ensures.0 w.low_knot-b.ensures.0
           w.four_over-four.result w.four_over-four.ensures in
           let none_there = none_old _ _ g l.invariant.3 (turn t) other in
           let new_one : (xs : List ℕ) (v : ℕ) → kept_or v old xs (next t) ≡ v = λ xs v. kept_none old g.rising xs v (next t) k.up_most none_there in (

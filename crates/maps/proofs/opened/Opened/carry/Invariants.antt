@@ -1,5 +1,5 @@
 -- The values and marks of the blends passed stand in front, and zeros behind them; the old blends passed have no anchor of a new one that is left.
-use Rattle.std.proofs.Common.{◌≤◌, ◌≡◌, length, take}
+use Rattle.std.proofs.Common.{◌≤◌, ◌≡◌, take}
 use Rattle.maps.specs.Values as Values
 use Rattle.maps.specs.Values.{kept_mark}
 use Rattle.maps.proofs.OldTable.{filled}

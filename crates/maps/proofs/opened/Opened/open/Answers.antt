@@ -6,7 +6,7 @@ use Rattle.axis.proofs.Tests.{true_not_false}
 use Rattle.maps.specs.declared.Map.{Map}
 use Rattle.maps.specs.Record.{is_zero, is_mark, is_no_split, good, plain}
 use Rattle.maps.specs.Calls.{changed}
-use Rattle.maps.specs.Opened.{opened, table_of}
+use Rattle.maps.specs.Opened.{opened}
 use Rattle.maps.proofs.Opening.{Passes, fails_good, passes_good, good_table, none_above, replay_gives, replay_none, all_list, rest_all}
 use Rattle.maps.proofs.opened.Opened.open.Goals as goal
 use Rattle.maps.proofs.opened.Opened.open.Goals.{Else-not-no_marks_above-2}
@@ -63,7 +63,7 @@ slice_bounds-no_values-start c = let r = replay_gives _ c.in-Some.is c.replay.en
 pub returns-then-not-no_values : goal.returns-then-not-no_values
 returns-then-not-no_values c =
     let m = c.args.map.now in
-    let r = replay_gives _ c.in-Some.is c.replay.ensures in 
+    let r = replay_gives _ c.in-Some.is c.replay.ensures in
     let same = rest_all is_zero m.values 1024 c.in-Some.table.count (omega arith) in
     refused m (λ p. true_not_false _ (rw (← r.counted) at p.no_values) (sym same ∙ sym c.no_values.ensures ∙ c.if-not-no_values.true))
 
@@ -80,7 +80,7 @@ slice_bounds-no_marks_above-start c = let r = replay_gives _ c.in-Some.is c.repl
 pub returns-then-not-no_marks_above-2 : goal.returns-then-not-no_marks_above-2
 returns-then-not-no_marks_above-2 c =
     let m = c.args.map.now in
-    let r = replay_gives _ c.in-Some.is c.replay.ensures in 
+    let r = replay_gives _ c.in-Some.is c.replay.ensures in
     let k = c.in-Some.table.count in
     let same = rest_all (λ k. leb k 0) m.marks 1024 k (omega arith) ∙ none_above (drop k m.marks) in
     refused m (λ p. true_not_false _ (rw (← r.counted) at p.no_marks) (sym same ∙ sym c.no_marks_above-2.ensures ∙ c.if-not-no_marks_above-2.true))
@@ -88,7 +88,7 @@ returns-then-not-no_marks_above-2 c =
 pub invariant_of-result : goal.invariant_of-result
 unfolding plain
 invariant_of-result c =
-    let r = replay_gives _ c.in-Some.is c.replay.ensures in 
+    let r = replay_gives _ c.in-Some.is c.replay.ensures in
     let ok = passed (goal.at.invariant_of-result c).Else-not-no_marks_above-2 in
     record {
       opens = record { is_good = ok; is_table = r.is_table ∙ sym (good_table c.args.map.now ok) };

@@ -1,5 +1,5 @@
 -- `maps::opened::Opened::place` meets its contract.
-use Rattle.std.proofs.Common.{arith, ◌∙◌}
+use Rattle.std.proofs.Common.{arith}
 use Rattle.maps.proofs.Changing.{good_opened, few}
 use Rattle.maps.proofs.Asking.{place_none, place_some}
 use Rattle.maps.proofs.opened.Opened.place.Goals as goal

@@ -1,9 +1,8 @@
 -- `maps::opened::Opened::split` meets its contract: the step is that of the call.
-use Rattle.std.proofs.Common.{arith, rules, ◌≡◌, ◌∙◌, refl, sym, ap, subst}
+use Rattle.std.proofs.Common.{arith, rules, refl, sym, subst}
 use lib.ListN.{length-set}
 use Rattle.std.proofs.lemmas.Result.{err_from_is_err_and}
 use Rattle.mesh.specs.Replay.{Step}
-use Rattle.mesh.specs.Sound.{blends_of}
 use Rattle.mesh.proofs.Refused.{refuses}
 use Rattle.maps.specs.Calls.{split_within}
 use Rattle.maps.proofs.Changing.{good_opened, Draws, StepOf, split_step_lem, step_room, new_few, new_proper, step_grown, step_drawn, new_short}
