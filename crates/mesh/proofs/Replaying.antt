@@ -152,7 +152,8 @@ module _ {n : ℕ} {L : Lines} {i : ℕ} {t : Drawing n} (r : Replaying L i t) w
       rw (taken.across, taken.up, le-leb L.count 60 few, all_taken, now.is_w, now.is_h, carried_walk now.carried, last, take-length)
 
 -- what the search for a longer line starts from
-abbrev pub searches : {n : ℕ} {P : Layout} {t : Drawing n} {notes : Notes} {s : Split} → CarriedBy P t → NotedBy P s notes → given P s ≡ 0 → SearchesBy t notes s
+abbrev pub searches : {n : ℕ} {P : Layout} {t : Drawing n} {notes : Notes} {s : Split} →
+    CarriedBy P t → NotedBy P s notes → given P s ≡ 0 → SearchesBy t notes s
 searches {n} {P} {t} now noted e = record {
   w = P.w;
   h = P.h;
