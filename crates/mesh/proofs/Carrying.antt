@@ -6,7 +6,7 @@ use mathlib.Core.Bool.{true}
 use lib.ListN.{length}
 use Rattle.mesh.specs.Lines.{Layout, mesh_of, in_range, direction, other, side}
 use Rattle.mesh.specs.Splits.{with_line}
-use Rattle.mesh.specs.Bytes.{Rows, walk}
+use Rattle.mesh.specs.Bytes.{walk}
 use Rattle.mesh.specs.Carried.{Redrawn, LinesBy, LineAdded, CarriedBy, WalksBy, TallBy, RowAt, run_by}
 use Rattle.mesh.specs.declared.Split.{Split}
 use Rattle.mesh.specs.declared.carried.Drawing.{Drawing}

@@ -92,7 +92,8 @@ module _ (w h : ℕ) (places : List ℕ) where
     pub kept_holds : (m n : ℕ) → m ≤ w + 1 → n ≤ h + 1 → (get_or places (at m n) 0 ≡ 0 → ⊥) →
         kept_from w h places m n ≡ unpacked m n (get_or places (at m n) 0) ∷ kept_from w h places m (get_or rows n 0)
     kept_holds m n lm ln ne =
-        kept_here m n lm ∙ place_holds m n lm ln ne ∙ ap (λ (bs : List Blend). unpacked m n (get_or places (at m n) 0) ∷ bs) (sym (kept_here m (get_or rows n 0) lm))
+        kept_here m n lm ∙ place_holds m n lm ln ne ∙
+        ap (λ (bs : List Blend). unpacked m n (get_or places (at m n) 0) ∷ bs) (sym (kept_here m (get_or rows n 0) lm))
 
 -- The blends read so far stand in front of an array, and with those that are left they are the whole list.
 pub record Reading (whole left : List Blend) (count : ℕ) (blends : List Blend) : Type 0 where

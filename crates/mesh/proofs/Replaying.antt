@@ -102,15 +102,6 @@ module _ (L : Lines) where
   unfolding replayed replays
   fails e = sym (cond_false _ _ _ e)
 
-  pub out_across : allowed_side L.w ≡ false → None ≡ replayed L
-  out_across e = fails (and_first _ _ (and_first _ _ (and_first _ _ e)))
-
-  pub out_up : allowed_side L.h ≡ false → None ≡ replayed L
-  out_up e = fails (and_first _ _ (and_first _ _ (and_last (allowed_side L.w) _ e)))
-
-  pub out_count : 60 < L.count → None ≡ replayed L
-  out_count lt = fails (and_first _ _ (and_last (allowed_side L.w && allowed_side L.h) _ (lt-leb L.count 60 lt)))
-
   pub replay_none : {n : ℕ} {t : Drawing n} → CarriedBy (layout L.w L.h []) t → Replaying L 0 t
   replay_none now = record { carried = now; decides = refl }
 
@@ -161,7 +152,8 @@ module _ {n : ℕ} {L : Lines} {i : ℕ} {t : Drawing n} (r : Replaying L i t) w
       rw (taken.across, taken.up, le-leb L.count 60 few, all_taken, now.is_w, now.is_h, carried_walk now.carried, last, take-length)
 
 -- what the search for a longer line starts from
-abbrev pub searches : {n : ℕ} {P : Layout} {t : Drawing n} {notes : Notes} {s : Split} → CarriedBy P t → NotedBy P s notes → given P s ≡ 0 → SearchesBy t notes s
+abbrev pub searches : {n : ℕ} {P : Layout} {t : Drawing n} {notes : Notes} {s : Split} →
+    CarriedBy P t → NotedBy P s notes → given P s ≡ 0 → SearchesBy t notes s
 searches {n} {P} {t} now noted e = record {
   w = P.w;
   h = P.h;

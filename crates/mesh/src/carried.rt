@@ -14,7 +14,14 @@ use crate::steps::{draw_fresh, draw_split};
 use crate::tables::first_four;
 use crate::{Blend, Direction, Lines, Split, Table};
 
-// A map of `count` splits. Its tables have a row of 131 places for each knot, or for as many as its sides need.
+// The tables of a drawing have a row of 131 places for each knot of the largest side, or of a small one.
+pub(crate) const LARGE: usize = (Lines::LARGEST_SIDE + 3) * 131;
+
+pub(crate) const SMALL: usize = (SMALL_SIDE + 3) * 131;
+
+pub(crate) const SMALL_SIDE: usize = 16;
+
+// A map of `count` splits.
 #[derive(Drop)]
 pub(crate) struct Drawing<const N: usize> {
     pub w: usize,

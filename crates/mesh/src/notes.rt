@@ -72,13 +72,10 @@ impl Notes {
         ensures { places.new ≡ keep_all places.old (leaves_of (bytes_mesh uprights.now levels.now) (all_reached d from to self.now.lows self.now.highs)) }
     {
         for k in from..to {
-            let a = self.lows[k];
-            if is_reached(d, from, to, a) {
-                cut_across(uprights, levels, Blend::from_note(a), false, places);
-            }
-            let b = self.highs[k];
-            if is_reached(d, from, to, b) {
-                cut_across(uprights, levels, Blend::from_note(b), false, places);
+            for c in [self.lows[k], self.highs[k]] {
+                if is_reached(d, from, to, c) {
+                    cut_across(uprights, levels, Blend::from_note(c), false, places);
+                }
             }
         }
     }

@@ -8,7 +8,7 @@ ghost use Rattle.mesh.specs.Refusals.{number_of};
 ghost use Rattle.mesh.specs.Replay.{HasTable, stepped, split_step};
 ghost use Rattle.mesh.specs.Carried.{CarriedBy, Carries, NotedBy, SearchesBy, told_of, told_line, judged, found_by, verdict};
 
-use crate::carried::Drawing;
+use crate::carried::{Drawing, LARGE, SMALL, SMALL_SIDE};
 use crate::notes::Notes;
 use crate::{Drawn, Lines, Refusal, Split, Table};
 
@@ -75,7 +75,7 @@ fn split_in<const N: usize>(
     allowance: usize,
 ) -> Result<Drawn, Refusal>
     requires { (allowance ≤ most_allowance) × HasTable lines.now table.now × ((lines.now.w + 3) * 131 ≤ N) × ((lines.now.h + 3) * 131 ≤ N) ×
-        (N ≤ 17161) }
+        (N ≤ LARGE) }
     ensures { stepped table.now s result ≡ split_step lines.now table.now s allowance }
 {
     let mut drawing = Drawing::<N>::clear(lines.w, lines.h);
@@ -94,9 +94,9 @@ pub fn split(lines: &Lines, table: &Table, s: Split, allowance: usize) -> Result
         return Err(Refusal::OutOfRange);
     }
     // A small map has few rows of knots, so its tables are short and soon cleared.
-    if lines.w <= 16 && lines.h <= 16 {
-        split_in::<2489>(lines, table, s, allowance)
+    if lines.w <= SMALL_SIDE && lines.h <= SMALL_SIDE {
+        split_in::<SMALL>(lines, table, s, allowance)
     } else {
-        split_in::<17161>(lines, table, s, allowance)
+        split_in::<LARGE>(lines, table, s, allowance)
     }
 }

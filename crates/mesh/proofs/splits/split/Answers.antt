@@ -9,8 +9,8 @@ pub returns-then-most-allowance : goal.returns-then-most-allowance
 returns-then-most-allowance c =
     let a = c.args in split_beyond a.lines.now a.table.now a.s a.allowance (omega arith)
 
-pub split_in-requires-else-lines-le16 : goal.split_in-requires-else-lines-le16
-split_in-requires-else-lines-le16 c =
+pub split_in-requires-else-lines-le-SMALL_SIDE : goal.split_in-requires-else-lines-le-SMALL_SIDE
+split_in-requires-else-lines-le-SMALL_SIDE c =
     let L = c.args.lines.now in
     let in_range = replays_says L c.requires.accepted? in
     let a = side_says L.w in_range.0 in
