@@ -23,11 +23,10 @@ use Rattle.mesh.specs.Sound.{over_square, proper, blends_of}
 use Rattle.mesh.proofs.Cuts.{proper_facts}
 use Rattle.mesh.proofs.BlendTables.{proper_most}
 use Rattle.maps.specs.declared.values.Entry.{Entry}
-use Rattle.maps.specs.declared.values.Four.{Four}
 use Rattle.maps.specs.declared.values.Sum.{Sum}
 use Rattle.maps.specs.Rounding.{rounded}
 use Rattle.maps.specs.Values.{paired, sum_at, reading_at, weight_at}
-use Rattle.maps.specs.Inner.{AtPoint, entries_over, entries, portion, portions, fraction_of, SumOf}
+use Rattle.maps.specs.Inner.{AtPoint, entries_over, portion, portions, fraction_of, SumOf}
 use Rattle.maps.proofs.Rounding.{rounded_same}
 use Rattle.maps.proofs.ExactSums.{value_positive}
 use Rattle.maps.proofs.OverSquare.{weight_shares, weight_outside, denominator_positive, entry_in}
@@ -94,8 +93,8 @@ module _ (x y u v : ℕ) (e : End x u) (f : End y v) (values : List ℕ) where
 
 -- At a point of the domain so do those of the four that are found in the table.
 pub four_read : (w h : ℕ) (t : Table) (values : List ℕ) (u v : ℕ) → AtPoint w h t u v → length t.blends ≡ 1024 → length values ≡ 1024 →
-    (x y : ℕ) → x ≡ corner w u + 1 → y ≡ corner h v + 1 → (four : Four) → entries four ≡ entries_over (over_square x y) (blends_of t) 0 →
-    rounded (total (portions x y (u + 1) (v + 1) values (entries four))) ≡ reading_at (blends_of t) (take t.count values) u v
+    (x y : ℕ) → x ≡ corner w u + 1 → y ≡ corner h v + 1 → (four : List Entry) → four ≡ entries_over (over_square x y) (blends_of t) 0 →
+    rounded (total (portions x y (u + 1) (v + 1) values four)) ≡ reading_at (blends_of t) (take t.count values) u v
 unfolding reading_at sum_at
 four_read w h t values u v p long full x y is_x is_y four found =
     let m = length-take-le t.count t.blends (omega (arith, p.0, long)) in

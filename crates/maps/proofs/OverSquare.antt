@@ -7,8 +7,8 @@ use mathlib.Core.Logic.{⊎_elim}
 use mathlib.Core.Bool.{Bool, true, false}
 use borrow.Author.Tests.{eqb-true}
 use lib.Dec.{eqb}
-use lib.ListN.{length, take, drop, length-map, length-append, length-drop, length-take}
-use mathlib.Core.List.{List, [], ◌∷◌, ◌++◌, map, Memᴰ}
+use lib.ListN.{length, get_or, take, drop, drop_of_length-le, length-map, length-append, length-drop, length-take}
+use mathlib.Core.List.{List, [], ◌∷◌, ◌++◌, map, append-nil, Memᴰ}
 use Rattle.axis.specs.Triple.{hat, spans}
 use Rattle.axis.specs.Fraction.{SameNumber}
 use Rattle.mesh.specs.Weight.{weight}
@@ -24,8 +24,7 @@ use Rattle.axis.specs.Gap.{gap, share, corner, End}
 use Rattle.axis.proofs.Sums.{times_equal}
 use Rattle.axis.proofs.Triples.{rise_of}
 use Rattle.maps.specs.declared.values.Entry.{Entry}
-use Rattle.maps.specs.declared.values.Four.{Four}
-use Rattle.maps.specs.Inner.{AtPoint, entries_over, entries, Listed, AllListed}
+use Rattle.maps.specs.Inner.{AtPoint, entries_over, Listed, AllListed}
 use Rattle.axis.proofs.Gaps.{corner_in, gap_most, gap_positive, hat_outside_step, hat_share, share_most}
 
 -- the weight of a blend at a corner of a square, over the gaps in which the square lies: both numbers are small
@@ -111,35 +110,45 @@ module _ (test : Blend → Bool) where
   entries_behind bs k = let z : 0 + k ≡ k = omega arith in rw z at (entries_apart bs 0 k)
 
 -- The last n of four entries, with those that are left, are a whole list.
-pub record Window (whole left : List Entry) (n : ℕ) (f : Four) : Type 0 where
+pub record Window (whole left : List Entry) (n : ℕ) (f : List Entry) : Type 0 where
+  pub long : length f ≡ 4
   pub most : n ≤ 4
-  pub joins : drop (4 - n) (entries f) ++ left ≡ whole
+  pub joins : drop (4 - n) f ++ left ≡ whole
 
 module _ {whole : List Entry} where
-  pub window_left : {left : List Entry} {n : ℕ} {f : Four} → Window whole left n f → n + length left ≡ length whole
-  window_left {left} {n} {f} w = omega (arith, w.most, simp (length-append, length-drop) at (ap length w.joins))
+  pub window_left : {left : List Entry} {n : ℕ} {f : List Entry} → Window whole left n f → n + length left ≡ length whole
+  window_left {left} {n} {f} w = omega (arith, w.most, w.long, simp (length-append, length-drop) at (ap length w.joins))
 
-  pub window_more : {left : List Entry} {n : ℕ} {f : Four} {e : Entry} → n < 4 → Window whole (e ∷ left) n f →
-      Window whole left (n + 1) (record { first = f.second; second = f.third; third = f.fourth; fourth = e })
-  window_more {left} {n} {f} {e} lt w = record { most = omega arith; joins = shifted n lt ∙ w.joins }
+  pub window_none : {f : List Entry} → length f ≡ 4 → Window whole whole 0 f
+  window_none {f} long = record { long = long; most = omega arith; joins = ap (λ (es : List Entry). es ++ whole) (drop_of_length-le f {i = 4} (omega arith)) }
+
+  pub window_more : (d : Entry) {left f : List Entry} {n : ℕ} {e : Entry} → n < 4 → Window whole (e ∷ left) n f →
+      Window whole left (n + 1) (get_or f 1 d ∷ get_or f 2 d ∷ get_or f 3 d ∷ e ∷ [])
+  window_more d {left} {f} {n} {e} lt w = record { long = refl; most = omega arith; joins = shifted f n w.long lt ∙ w.joins }
     where
-      shifted : (n : ℕ) → n < 4 → drop (4 - (n + 1)) (f.second ∷ f.third ∷ f.fourth ∷ e ∷ []) ++ left ≡ drop (4 - n) (entries f) ++ e ∷ left
-      shifted zero lt = refl
-      shifted (suc zero) lt = refl
-      shifted (suc (suc zero)) lt = refl
-      shifted (suc (suc (suc zero))) lt = refl
-      shifted (suc (suc (suc (suc n)))) lt = absurd (omega arith)
+      shifted : (f : List Entry) (n : ℕ) → length f ≡ 4 → n < 4 →
+          drop (4 - (n + 1)) (get_or f 1 d ∷ get_or f 2 d ∷ get_or f 3 d ∷ e ∷ []) ++ left ≡ drop (4 - n) f ++ e ∷ left
+      shifted (a ∷ b ∷ c ∷ g ∷ []) zero long lt = refl
+      shifted (a ∷ b ∷ c ∷ g ∷ []) (suc zero) long lt = refl
+      shifted (a ∷ b ∷ c ∷ g ∷ []) (suc (suc zero)) long lt = refl
+      shifted (a ∷ b ∷ c ∷ g ∷ []) (suc (suc (suc zero))) long lt = refl
+      shifted (a ∷ b ∷ c ∷ g ∷ []) (suc (suc (suc (suc n)))) long lt = absurd (omega arith)
+      shifted [] n long lt = absurd (omega arith)
+      shifted (a ∷ []) n long lt = absurd (omega arith)
+      shifted (a ∷ b ∷ []) n long lt = absurd (omega arith)
+      shifted (a ∷ b ∷ c ∷ []) n long lt = absurd (omega arith)
+      shifted (a ∷ b ∷ c ∷ g ∷ h ∷ f) n long lt = absurd (omega arith)
 
 -- Four found from a place on are all, where there are four.
-pub window_all : (test : Blend → Bool) (bs : List Blend) (k : ℕ) (left : List Entry) (f : Four) → length (entries_over test bs 0) ≡ 4 →
-    Window (entries_over test (drop k bs) k) left 4 f → entries f ≡ entries_over test bs 0
+pub window_all : (test : Blend → Bool) (bs : List Blend) (k : ℕ) (left f : List Entry) → length (entries_over test bs 0) ≡ 4 →
+    Window (entries_over test (drop k bs) k) left 4 f → f ≡ entries_over test bs 0
 window_all test bs k left f four w = alone (entries_over test (take k bs) 0) left w.joins (entries_behind test bs k)
   where
-    alone : (before left : List Entry) → entries f ++ left ≡ entries_over test (drop k bs) k →
-        entries_over test bs 0 ≡ before ++ entries_over test (drop k bs) k → entries f ≡ entries_over test bs 0
-    alone [] [] e d = e ∙ sym d
-    alone (x ∷ before) left e d = absurd (omega (arith, four, simp length-append at (ap length e), simp length-append at (ap length d)))
-    alone [] (x ∷ left) e d = absurd (omega (arith, four, simp length-append at (ap length e), ap length d))
+    alone : (before left : List Entry) → f ++ left ≡ entries_over test (drop k bs) k →
+        entries_over test bs 0 ≡ before ++ entries_over test (drop k bs) k → f ≡ entries_over test bs 0
+    alone [] [] e d = sym (append-nil f) ∙ e ∙ sym d
+    alone (x ∷ before) left e d = absurd (omega (arith, four, w.long, simp length-append at (ap length e), simp length-append at (ap length d)))
+    alone [] (x ∷ left) e d = absurd (omega (arith, four, w.long, simp length-append at (ap length e), ap length d))
 
 -- Entries that pass a test: where all of them pass another one too, by which no more entries pass, those that pass the other are the same.
 module _ (test other : Blend → Bool) where
@@ -170,19 +179,21 @@ module _ (test other : Blend → Bool) where
       (either (test B))
 
 -- at a point of the domain each of the four that are found in the table stands in it
-pub all_listed : (w h : ℕ) (t : Table) (u v : ℕ) → AtPoint w h t u v → (x y : ℕ) (f : Four) → entries f ≡ entries_over (over_square x y) (blends_of t) 0 →
+pub all_listed : (w h : ℕ) (t : Table) (u v : ℕ) → AtPoint w h t u v → (x y : ℕ) (f : List Entry) → f ≡ entries_over (over_square x y) (blends_of t) 0 →
     AllListed f
-all_listed w h t u v p x y f e = (
-  listed _ (mathlib.Core.List.Memᴰ.head refl),
-  listed _ (mathlib.Core.List.Memᴰ.tail (mathlib.Core.List.Memᴰ.head refl)),
-  listed _ (mathlib.Core.List.Memᴰ.tail (mathlib.Core.List.Memᴰ.tail (mathlib.Core.List.Memᴰ.head refl))),
-  listed _ (mathlib.Core.List.Memᴰ.tail (mathlib.Core.List.Memᴰ.tail (mathlib.Core.List.Memᴰ.tail (mathlib.Core.List.Memᴰ.head refl)))),
-)
-  where
-    listed : (a : Entry) → Memᴰ a (entries f) → Listed a
-    listed a m =
-        let r = entry_in (over_square x y) (blends_of t) 0 a (rw e at m) in
-        record {
-          inside = omega (arith, r.0, p.0, length-take t.count t.blends);
-          is_proper = all_at (proper 128 128) (blends_of t) (proper_most w h (blends_of t) p.4 p.6 p.1) a.blend r.1;
-        }
+all_listed w h t u v p x y f e a m =
+    let r = entry_in (over_square x y) (blends_of t) 0 a (rw e at m) in
+    record {
+      inside = omega (arith, r.0, p.0, length-take t.count t.blends);
+      is_proper = all_at (proper 128 128) (blends_of t) (proper_most w h (blends_of t) p.4 p.6 p.1) a.blend r.1;
+    }
+
+-- what is made of each of four entries' blends, one by one
+pub four_mapped {ℓ} : {A : Type ℓ} (g : Blend → A) (d : Entry) (f : List Entry) → length f ≡ 4 →
+    g (get_or f 0 d).blend ∷ g (get_or f 1 d).blend ∷ g (get_or f 2 d).blend ∷ g (get_or f 3 d).blend ∷ [] ≡ map g (map (λ (e : Entry). e.blend) f)
+four_mapped g d (a ∷ b ∷ c ∷ e ∷ []) long = refl
+four_mapped g d [] long = absurd (omega arith)
+four_mapped g d (a ∷ []) long = absurd (omega arith)
+four_mapped g d (a ∷ b ∷ []) long = absurd (omega arith)
+four_mapped g d (a ∷ b ∷ c ∷ []) long = absurd (omega arith)
+four_mapped g d (a ∷ b ∷ c ∷ e ∷ h ∷ f) long = absurd (omega arith)

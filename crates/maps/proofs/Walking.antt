@@ -6,33 +6,38 @@ use mathlib.Core.Logic.{⊎_elim}
 use mathlib.Core.Bool.{Bool, true, false, cond}
 use mathlib.Core.List.{List, [], ◌∷◌, map}
 use borrow.Author.Tests.{ne_eqb}
-use lib.ListN.{length}
+use lib.ListN.{length, length-map}
 use Rattle.axis.specs.Range.{all, only, differ, turns, turns_from}
 use Rattle.axis.proofs.Tests.{either, each_turn, each_none}
+use Rattle.std.specs.List.{list_all}
+use Rattle.std.proofs.lemmas.List.Folds.{list_all-map}
 use Rattle.mesh.specs.declared.Blend.{Blend}
 use Rattle.mesh.specs.declared.Table.{Table}
 use Rattle.mesh.specs.Sound.{over_square, blends_of}
 use Rattle.maps.specs.Outcomes.{Pairs}
 use Rattle.maps.specs.declared.values.Entry.{Entry}
-use Rattle.maps.specs.declared.values.Four.{Four}
 use Rattle.maps.specs.Pairs.{no_pairs, counted_pairs}
-use Rattle.maps.specs.Inner.{entries, entries_over, with_pair}
+use Rattle.maps.specs.Inner.{entries_over, with_pair}
+use Rattle.maps.proofs.Opening.{all_list}
 use Rattle.maps.proofs.OverSquare.{entries_only, entries_stay}
 
 -- four entries of a table that are those over some square
-pub record FourOf (t : Table) (f : Four) : Type 0 where
+pub record FourOf (t : Table) (f : List Entry) : Type 0 where
+  pub long : length f ≡ 4
   pub x : ℕ
   pub y : ℕ
-  pub are : entries f ≡ entries_over (over_square x y) (blends_of t) 0
+  pub are : f ≡ entries_over (over_square x y) (blends_of t) 0
 
 -- where they all lie over another square, they are those over that one
-pub four_stay : (t : Table) (f : Four) → FourOf t f → (x y : ℕ) → all (over_square x y) (map (λ (e : Entry). e.blend) (entries f)) ≡ true →
-    length (only (over_square x y) (blends_of t)) ≡ 4 → entries f ≡ entries_over (over_square x y) (blends_of t) 0
+pub four_stay : (t : Table) (f : List Entry) → FourOf t f → (x y : ℕ) → list_all (λ (e : Entry). over_square x y e.blend) f ≡ true →
+    length (only (over_square x y) (blends_of t)) ≡ 4 → f ≡ entries_over (over_square x y) (blends_of t) 0
 four_stay t f o x y over four =
     let old = over_square o.x o.y in
-    let same : map (λ (e : Entry). e.blend) (entries f) ≡ only old (blends_of t) = ap (map (λ (e : Entry). e.blend)) o.are ∙ entries_only old (blends_of t) 0 in
+    let test = over_square x y in
+    let here = sym (all_list test (map (λ (e : Entry). e.blend) f)) ∙ list_all-map test (λ (e : Entry). e.blend) f ∙ over in
+    let same : map (λ (e : Entry). e.blend) f ≡ only old (blends_of t) = ap (map (λ (e : Entry). e.blend)) o.are ∙ entries_only old (blends_of t) 0 in
     o.are ∙
-    entries_stay old (over_square x y) (blends_of t) 0 (subst (λ (bs : List Blend). all (over_square x y) bs ≡ true) same over) (omega (arith, four, ap length same))
+    entries_stay old (over_square x y) (blends_of t) 0 (subst (λ (bs : List Blend). all (over_square x y) bs ≡ true) same here) (omega (arith, four, ap length same, o.long, length-map f (λ (e : Entry). e.blend)))
 
 -- the points of a row or a column lie in the domain
 pub in_walk : (row : Bool) (w h k at : ℕ) → k ≤ cond row w h → at ≤ cond row h w → (cond row k at ≤ w) × (cond row at k ≤ h)

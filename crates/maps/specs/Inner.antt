@@ -18,7 +18,6 @@ use Rattle.maps.specs.declared.Weight.{Weight}
 use Rattle.maps.specs.declared.carry.Carried.{Carried}
 use Rattle.maps.specs.declared.values.Sum.{Sum}
 use Rattle.maps.specs.declared.values.Entry.{Entry}
-use Rattle.maps.specs.declared.values.Four.{Four}
 use Rattle.maps.specs.Plain.{Plain, blends}
 use Rattle.maps.specs.Values.{carried, kept_mark, weight_at}
 use Rattle.maps.specs.Calls.{shape}
@@ -65,16 +64,13 @@ entries_over test (B ∷ bs) i =
     let rest = entries_over test bs (i + 1) in
     cond (test B) (record { blend = B; place = i } ∷ rest) rest
 
-abbrev pub entries : Four → List Entry
-entries f = f.first ∷ f.second ∷ f.third ∷ f.fourth ∷ []
-
 -- an entry that can be weighed: a proper blend, at a place of the array of values
 pub record Listed (e : Entry) : Type 0 where
   pub inside : e.place < most_blends
   pub is_proper : proper largest_side largest_side e.blend ≡ true
 
-abbrev pub AllListed : Four → Type 0
-AllListed f = Listed f.first × Listed f.second × Listed f.third × Listed f.fourth
+abbrev pub AllListed : List Entry → Type 0
+AllListed es = (e : Entry) → Memᴰ e es → Listed e
 
 -- a blend with its weight at a corner of a square, as `weight_over` has it at a point
 abbrev pub weight_of_blend : ℕ → ℕ → ℕ → ℕ → Blend → Weight
@@ -87,6 +83,10 @@ pub record Light (w : Weight) : Type 0 where
   pub positive : 0 < w.denominator
   pub low : w.denominator ≤ 16641
   pub most : w.numerator ≤ 16641
+
+-- a weight times a value
+abbrev pub product : Weight → ℕ → Fraction
+product w c = record { num = w.numerator * c; den = w.denominator }
 
 -- a value times that weight
 abbrev pub portion : ℕ → ℕ → ℕ → ℕ → Blend → ℕ → Fraction

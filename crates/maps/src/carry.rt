@@ -51,7 +51,7 @@ impl Opened {
                 let b = low_knot(h, n - 1);
                 let four = four_over(old, near, a, b);
                 carried[i] = reading_over(&four, values, a, b, m, n) as u16;
-                near = four.first.place;
+                near = four[0].place;
             }
         }
         Carried {

@@ -1,5 +1,5 @@
 // Readings and weights at whole points, in whole numbers that fit 64 bits.
-ghost use Rattle.std.specs.Prelude.{◌≡◌, true, map, ℕ, ◌+◌, ◌≤◌, ◌<◌, length, take, position};
+ghost use Rattle.std.specs.Prelude.{◌≡◌, true, map, ℕ, ◌+◌, ◌*◌, ◌≤◌, ◌<◌, length, take, position};
 ghost use Rattle.axis.specs.Limits.{largest_side, most_blends};
 ghost use Rattle.axis.specs.Range.{only};
 ghost use Rattle.axis.specs.Fraction.{plus, total};
@@ -9,7 +9,7 @@ ghost use Rattle.axis.specs.Gap.{corner};
 ghost use Rattle.maps.specs.Rounding.{rounded};
 ghost use Rattle.maps.specs.Values.{reading_at};
 ghost use Rattle.maps.specs.Calls.{shape, weight_over};
-ghost use Rattle.maps.specs.Inner.{entries, entries_over, AllListed, weight_of_blend, Light, portion, portions, fraction_of, SumOf};
+ghost use Rattle.maps.specs.Inner.{entries_over, AllListed, weight_of_blend, Light, product, portions, fraction_of, SumOf};
 
 use crate::opened::Opened;
 use crate::{Shape, Weight, Weights};
@@ -18,18 +18,16 @@ use axis::shares::corner_of;
 use mesh::{Blend, Table};
 
 // A blend in document 01's coordinates.
-pub(crate) fn shape_of(x: Blend) -> Shape
-    ensures { result ≡ shape x }
+pub(crate) fn shape_of(b: Blend) -> Shape
+    ensures { result ≡ shape b }
 {
-    let a = x.across;
-    let u = x.up;
     Shape {
-        l: coordinate(a.l),
-        m: coordinate(a.m),
-        r: coordinate(a.r),
-        b: coordinate(u.l),
-        n: coordinate(u.m),
-        t: coordinate(u.r),
+        l: coordinate(b.across.l),
+        m: coordinate(b.across.m),
+        r: coordinate(b.across.r),
+        b: coordinate(b.up.l),
+        n: coordinate(b.up.m),
+        t: coordinate(b.up.r),
     }
 }
 
@@ -45,12 +43,7 @@ pub(crate) fn low_knot(side: usize, u: usize) -> usize
 pub(crate) fn is_over(b: Blend, x: usize, y: usize) -> bool
     ensures { result ≡ over_square x y b }
 {
-    let a = b.across;
-    let u = b.up;
-    if !a.spans(x) {
-        return false;
-    }
-    u.spans(y)
+    b.across.spans(x) && b.up.spans(y)
 }
 
 // A blend over that square with its weight at a corner of the square, at knots (u, v), over the product of the two gaps in which the square lies.
@@ -58,12 +51,10 @@ fn weight_at(b: Blend, x: usize, y: usize, u: usize, v: usize) -> Weight
     requires { (proper largest_side largest_side b ≡ true) × (x ≤ u) × (u ≤ x + 1) × (y ≤ v) × (v ≤ y + 1) }
     ensures { (result ≡ weight_of_blend x y u v b) × Light result }
 {
-    let a = b.across;
-    let c = b.up;
     Weight {
         blend: shape_of(b),
-        numerator: a.share_at(x, u) * c.share_at(y, v),
-        denominator: a.gap_at(x) * c.gap_at(y),
+        numerator: b.across.share_at(x, u) * b.up.share_at(y, v),
+        denominator: b.across.gap_at(x) * b.up.gap_at(y),
     }
 }
 
@@ -71,12 +62,7 @@ fn weight_at(b: Blend, x: usize, y: usize, u: usize, v: usize) -> Weight
 fn is_anchored(b: Blend, m: usize, n: usize) -> bool
     ensures { result ≡ anchored m n b }
 {
-    let a = b.across;
-    let u = b.up;
-    if usize::from(a.m) != m {
-        return false;
-    }
-    usize::from(u.m) == n
+    usize::from(b.across.m) == m && usize::from(b.up.m) == n
 }
 
 // The table place of the blend with the anchor at knots (m, n); none where no blend has it.
@@ -84,7 +70,7 @@ pub(crate) fn place_of(table: &Table, m: usize, n: usize) -> Option<usize>
     requires { table.now.count ≤ most_blends }
     ensures { result ≡ position (anchored m n) (blends_of table.now) }
 {
-    table.blends().iter().position(|x| is_anchored(*x, m, n))
+    table.blends().iter().position(|b| is_anchored(*b, m, n))
 }
 
 // A sum of fractions: a whole number, and a rest over the product of the denominators.
@@ -95,19 +81,20 @@ struct Sum {
     bottom: usize,
 }
 
-// A sum with one more blend's value times its weight, a fraction which is taken apart by its own denominator first. No denominator is above
-// 129 times 129, so with at most four of them each number stays below 2 to the 64.
-fn added(s: Sum, b: Blend, value: u16, x: usize, y: usize, u: usize, v: usize) -> Sum
-    requires { SumOf 3 s × (proper largest_side largest_side b ≡ true) × (x ≤ u) × (u ≤ x + 1) × (y ≤ v) × (v ≤ y + 1) }
-    ensures { (fraction_of result ≡ plus (portion x y u v b value) (fraction_of s)) × ((n : ℕ) → SumOf n s → SumOf (n + 1) result) }
-{
-    let weight = weight_at(b, x, y, u, v);
-    let product = weight.numerator * value as usize;
-    let den = weight.denominator;
-    Sum {
-        whole: s.whole + product / den,
-        top: s.top * den + product % den * s.bottom,
-        bottom: s.bottom * den,
+impl Sum {
+    // With a value times its weight, a fraction which is taken apart by its own denominator first. No denominator is above 129 times 129, so with at most four
+    // of them each number stays below 2 to the 64.
+    fn plus(self, weight: Weight, value: u16) -> Sum
+        requires { SumOf 3 self × Light weight }
+        ensures { (fraction_of result ≡ plus (product weight value) (fraction_of self)) × ((n : ℕ) → SumOf n self → SumOf (n + 1) result) }
+    {
+        let product = weight.numerator * usize::from(value);
+        let den = weight.denominator;
+        Sum {
+            whole: self.whole + product / den,
+            top: self.top * den + product % den * self.bottom,
+            bottom: self.bottom * den,
+        }
     }
 }
 
@@ -118,30 +105,17 @@ pub(crate) struct Entry {
     pub place: usize,
 }
 
-#[derive(Clone, Copy)]
-pub(crate) struct Four {
-    pub first: Entry,
-    pub second: Entry,
-    pub third: Entry,
-    pub fourth: Entry,
-}
-
-// The four blends of a table over the unit square whose low corner is at knots (x, y), in table order, looked for from a place near them on, and anew from the start
-// where they do not all stand behind it. The last four found are kept, so that callers name each and index none.
-pub(crate) fn four_over(blends: &[Blend], near: usize, x: usize, y: usize) -> Four
+// The four blends of a table over the unit square whose low corner is at knots (x, y), in table order, looked for from a place near them on, and anew from the
+// start where they do not all stand behind it. The last four found are kept.
+pub(crate) fn four_over(blends: &[Blend], near: usize, x: usize, y: usize) -> [Entry; 4]
     requires { (length blends.now ≤ most_blends) × (length (only (over_square x y) blends.now) ≡ 4) }
-    ensures { entries result ≡ entries_over (over_square x y) blends.now 0 }
+    ensures { result ≡ entries_over (over_square x y) blends.now 0 }
 {
     let none = Entry {
         blend: blends[0],
         place: 0,
     };
-    let mut four = Four {
-        first: none,
-        second: none,
-        third: none,
-        fourth: none,
-    };
+    let mut four = [none; 4];
     let mut found: usize = 0;
     let mut from = near;
     let mut i = near;
@@ -153,15 +127,7 @@ pub(crate) fn four_over(blends: &[Blend], near: usize, x: usize, y: usize) -> Fo
         }
         let b = blends[i];
         if is_over(b, x, y) {
-            let second = four.second;
-            let third = four.third;
-            let fourth = four.fourth;
-            four = Four {
-                first: second,
-                second: third,
-                third: fourth,
-                fourth: Entry { blend: b, place: i },
-            };
+            four = [four[1], four[2], four[3], Entry { blend: b, place: i }];
             found += 1;
         }
         i += 1;
@@ -173,7 +139,7 @@ pub(crate) fn four_over(blends: &[Blend], near: usize, x: usize, y: usize) -> Fo
 // table: the weights times the values, rounded. They are added from the last to the first, as the sum over a list is. The rest of the sum is at most four
 // times its denominator, and that at most 16,641 to the fourth power, so what is divided at the end stays below 2 to the 60.
 pub(crate) fn reading_over(
-    four: &Four,
+    four: &[Entry; 4],
     values: &[u16],
     x: usize,
     y: usize,
@@ -181,21 +147,18 @@ pub(crate) fn reading_over(
     v: usize,
 ) -> usize
     requires { (length values.now ≡ most_blends) × AllListed four.now × (x ≤ u) × (u ≤ x + 1) × (y ≤ v) × (v ≤ y + 1) }
-    ensures { result ≡ rounded (total (portions x y u v values.now (entries four.now))) }
+    ensures { result ≡ rounded (total (portions x y u v values.now four.now)) }
 {
-    let none = Sum {
+    let mut sum = Sum {
         whole: 0,
         top: 0,
         bottom: 1,
     };
-    let i = four.first.place;
-    let j = four.second.place;
-    let k = four.third.place;
-    let l = four.fourth.place;
-    let one = added(none, four.fourth.blend, values[l], x, y, u, v);
-    let two = added(one, four.third.blend, values[k], x, y, u, v);
-    let three = added(two, four.second.blend, values[j], x, y, u, v);
-    let sum = added(three, four.first.blend, values[i], x, y, u, v);
+    for k in (0..4).rev() {
+        let entry = four[k];
+        let weight = weight_at(entry.blend, x, y, u, v);
+        sum = sum.plus(weight, values[entry.place]);
+    }
     sum.whole + (2 * sum.top + sum.bottom) / (2 * sum.bottom)
 }
 
@@ -222,10 +185,10 @@ impl Opened {
         let m = u + 1;
         let n = v + 1;
         let four = four_over(self.table.blends(), 0, x, y);
-        let first = weight_at(four.first.blend, x, y, m, n);
-        let second = weight_at(four.second.blend, x, y, m, n);
-        let third = weight_at(four.third.blend, x, y, m, n);
-        let fourth = weight_at(four.fourth.blend, x, y, m, n);
+        let first = weight_at(four[0].blend, x, y, m, n);
+        let second = weight_at(four[1].blend, x, y, m, n);
+        let third = weight_at(four[2].blend, x, y, m, n);
+        let fourth = weight_at(four[3].blend, x, y, m, n);
         Weights {
             entries: [first, second, third, fourth],
         }

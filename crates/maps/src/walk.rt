@@ -1,17 +1,18 @@
 // A walk along a row or up a column, from reading to reading. The four blends over one unit square mostly lie over the next one too, so the table is
 // searched only where they do not, and from the first of them on.
-ghost use Rattle.std.specs.Prelude.{◌≡◌, cond, map, ℕ, ◌≤◌, ◌<◌, ltb, take};
+ghost use Rattle.std.specs.Prelude.{◌≡◌, cond, ℕ, ◌≤◌, ◌<◌, ltb, take};
+ghost use Rattle.std.specs.List.{list_all};
 ghost use Rattle.axis.specs.Limits.{largest_side};
-ghost use Rattle.axis.specs.Range.{all, differ, turns_from};
+ghost use Rattle.axis.specs.Range.{differ, turns_from};
 ghost use Rattle.mesh.specs.Sound.{over_square, blends_of};
 ghost use Rattle.maps.specs.declared.values.Entry.{Entry};
 ghost use Rattle.maps.specs.Values.{reading_at};
 ghost use Rattle.maps.specs.Pairs.{counted_pairs};
-ghost use Rattle.maps.specs.Inner.{entries, with_pair, counted};
+ghost use Rattle.maps.specs.Inner.{with_pair, counted};
 
 use crate::Pairs;
 use crate::opened::Opened;
-use crate::values::{Four, four_over, is_over, low_knot, reading_over};
+use crate::values::{Entry, four_over, is_over, low_knot, reading_over};
 
 // Of two numbers, the one that goes along a row and the one that goes up a column.
 pub(crate) fn along(row: bool, one: usize, other: usize) -> usize
@@ -24,19 +25,10 @@ pub(crate) fn along(row: bool, one: usize, other: usize) -> usize
 }
 
 // Whether four blends all lie over the unit square whose low corner is at knots (x, y).
-fn all_over(four: &Four, x: usize, y: usize) -> bool
-    ensures { result ≡ all (over_square x y) (map (λ (e : Entry). e.blend) (entries four.now)) }
+fn all_over(four: &[Entry; 4], x: usize, y: usize) -> bool
+    ensures { result ≡ list_all (λ (e : Entry). over_square x y e.blend) four.now }
 {
-    if !is_over(four.first.blend, x, y) {
-        return false;
-    }
-    if !is_over(four.second.blend, x, y) {
-        return false;
-    }
-    if !is_over(four.third.blend, x, y) {
-        return false;
-    }
-    is_over(four.fourth.blend, x, y)
+    four.iter().all(|e| is_over(e.blend, x, y))
 }
 
 // The pairs with one more, from k to the next point, where one of the two lies below the wanted flow and the other does not.
@@ -78,7 +70,7 @@ impl Opened {
             let x = low_knot(w, u);
             let y = low_knot(h, v);
             if !all_over(&four, x, y) {
-                four = four_over(blends, four.first.place, x, y);
+                four = four_over(blends, four[0].place, x, y);
             }
             let litres = reading_over(&four, &self.map.values, x, y, u + 1, v + 1);
             let here = litres < wanted;

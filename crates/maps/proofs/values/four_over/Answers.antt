@@ -4,9 +4,9 @@ use lib.ListN.{drop}
 use Rattle.mesh.specs.declared.Blend.{Blend}
 use Rattle.mesh.specs.Sound.{none, over_square}
 use Rattle.maps.specs.Inner.{entries_over}
-use Rattle.maps.specs.declared.values.Four.{Four}
+use Rattle.maps.specs.declared.values.Entry.{Entry}
 use Rattle.maps.proofs.OldTable.{rest_turns, rest_ends}
-use Rattle.maps.proofs.OverSquare.{Window, window_left, window_more, window_all, entries_length}
+use Rattle.maps.proofs.OverSquare.{Window, window_none, window_left, window_more, window_all, entries_length}
 use Rattle.maps.proofs.values.four_over.Goals as goal
 use Rattle.maps.proofs.values.four_over.Goals.{Joined-blends-i, then-blends-i, else-blends-i, then-is_over, else-is_over}
 
@@ -15,7 +15,7 @@ some_of zero none = absurd (none refl)
 some_of (suc n) none = omega arith
 
 -- What a turn looks at: a blend of the table, which remains with those behind it, while fewer than four are found. A walk begun anew takes less than was left.
-record Looks (bs : List Blend) (x y before : ℕ) (four : Four) (found from i : ℕ) : Type 0 where
+record Looks (bs : List Blend) (x y before : ℕ) (four : List Entry) (found from i : ℕ) : Type 0 where
   few : found < 4
   there : i < length bs
   less : from * 1025 + (length bs - i) ≤ before
@@ -36,7 +36,7 @@ looks c =
           let from = some_of l.from (λ z. omega (arith, four, rw z at behind)) in
           let count = some_of (length a.blends.now) (λ z. omega (arith, rw (rest_ends a.blends.now 0 (omega (arith, z))) at four)) in
           rw (w.found-is, w.from-is, w.i-is)
-          (record { few = omega arith; there = count; less = omega (arith, from); window = record { most = omega arith; joins = refl } })
+          (record { few = omega arith; there = count; less = omega (arith, from); window = window_none l.invariant.long })
       | else-blends-i w ↦
           rw (w.found-is, w.from-is, w.i-is) (record { few = omega arith; there = omega arith; less = omega arith; window = l.invariant })
     ]
@@ -52,7 +52,7 @@ loop-found-preserved c =
     let k = looks (goal.at.loop-found-preserved c).Joined-blends-i in
     let turn = rw (rest_turns a.blends.now j.i k.there) at k.window in
     elim c.if-is_over.branch [
-      | then-is_over w ↦ rw (w.four-is, w.found-is) (window_more k.few (rw (sym c.is_over.ensures ∙ w.if-is_over.true) at turn))
+      | then-is_over w ↦ rw (w.four-is, w.found-is) (window_more _ k.few (rw (sym c.is_over.ensures ∙ w.if-is_over.true) at turn))
       | else-is_over w ↦ rw (w.four-is, w.found-is) (rw (sym c.is_over.ensures ∙ w.if-is_over.false) at turn)
     ]
 

@@ -1,68 +1,70 @@
 -- `maps::values::reading_over` meets its contract: the four parts are added one after the other.
-use Rattle.std.proofs.Common.{arith, rules, ◌≡◌, ◌+◌, ◌*◌, ◌/◌, ◌<◌, ◌≤◌, ℕ, sym, ap, ◌∙◌, get_or}
+use Rattle.std.proofs.Common.{arith, rules, ◌≡◌, ◌+◌, ◌-◌, ◌*◌, ◌/◌, ◌<◌, ◌≤◌, ℕ, zero, suc, List, ◌∷◌, sym, ap, ap₂, ◌∙◌, get_or}
 use Rattle.std.proofs.Math.Nat.{div-le_of_le-mul, mul-add-div_right}
-use Rattle.axis.specs.Fraction.{Fraction, plus}
+use lib.ListN.{drop}
+use lib.Seq.{drop-cons}
+use Rattle.axis.specs.Fraction.{Fraction, plus, total}
+use Rattle.axis.proofs.Members.{entry}
+use Rattle.mesh.specs.Sound.{none}
 use Rattle.maps.specs.declared.values.Entry.{Entry}
+use Rattle.maps.specs.declared.values.Sum.{Sum}
+use Rattle.maps.specs.declared.Weight.{Weight}
 use Rattle.maps.specs.Rounding.{rounded}
-use Rattle.maps.specs.Inner.{Listed, SumOf, portion}
+use Rattle.maps.specs.Inner.{Listed, SumOf, product, portions, fraction_of}
 use Rattle.maps.proofs.values.reading_over.Goals as goal
-use Rattle.maps.proofs.values.reading_over.Goals.{After-added-sum}
+use Rattle.maps.proofs.values.reading_over.Goals.{In-loop-k, After-loop-k}
 
-nothing : SumOf 0 (record { whole = 0; top = 0; bottom = 1 })
-nothing = record { positive = omega arith; low = omega arith; rest = omega arith; most = omega arith }
+-- a sum of at most three parts is one of three, to which a fourth may be added
+wider : (n : ℕ) (s : Sum) → n ≤ 3 → SumOf n s → SumOf 3 s
+wider zero s le sum = record { positive = sum.positive; low = omega (arith, sum.low); rest = omega (arith, sum.rest); most = omega (arith, sum.most) }
+wider (suc zero) s le sum = record { positive = sum.positive; low = omega (arith, sum.low); rest = omega (arith, sum.rest); most = omega (arith, sum.most) }
+wider (suc (suc zero)) s le sum = record { positive = sum.positive; low = omega (arith, sum.low); rest = omega (arith, sum.rest); most = omega (arith, sum.most) }
+wider (suc (suc (suc zero))) s le sum = sum
+wider (suc (suc (suc (suc n)))) s le sum = absurd (omega arith)
 
--- each sum is one of as many parts as are added
-four : (c : After-added-sum) → SumOf 4 c.added-sum.result
-four c = c.added-sum.ensures.1 3 (c.added-three.ensures.1 2 (c.added-two.ensures.1 1 (c.added-one.ensures.1 0 nothing)))
+-- the entry of a turn
+abbrev this : In-loop-k → Entry
+this c = get_or c.args.four.now (c.loop-k.k - 1) (record { blend = none; place = 0 })
 
-pub added-two-requires : goal.added-two-requires
-added-two-requires c =
-    let l : Listed c.args.four.now.third = c.requires.1.2 in
-    let s : SumOf 1 c.added-one.result = c.added-one.ensures.1 0 nothing in
-    search rules
+listed : (c : In-loop-k) → Listed (this c)
+listed c = c.requires.1 (this c) (entry c.args.four.now (c.loop-k.k - 1) _ (omega arith))
 
-pub added-three-requires : goal.added-three-requires
-added-three-requires c =
-    let l : Listed c.args.four.now.second = c.requires.1.1 in
-    let s : SumOf 2 c.added-two.result = c.added-two.ensures.1 1 (c.added-one.ensures.1 0 nothing) in
-    search rules
+turn : (c : In-loop-k) → drop (c.loop-k.k - 1) c.args.four.now ≡ this c ∷ drop c.loop-k.k c.args.four.now
+turn c =
+    let on : suc (c.loop-k.k - 1) ≡ c.loop-k.k = omega arith in
+    rw on at (drop-cons c.args.four.now (c.loop-k.k - 1) (record { blend = none; place = 0 }) (omega arith))
 
-pub added-sum-requires : goal.added-sum-requires
-added-sum-requires c =
-    let l : Listed c.args.four.now.first = c.requires.1.0 in
-    let s : SumOf 3 c.added-three.result = c.added-three.ensures.1 2 (c.added-two.ensures.1 1 (c.added-one.ensures.1 0 nothing)) in
-    (s, l.is_proper, omega arith, omega arith, omega arith, omega arith)
+pub weight_at-weight-requires : goal.weight_at-weight-requires
+weight_at-weight-requires c =
+    ((listed (goal.at.weight_at-weight-requires c).In-loop-k).is_proper, omega arith, omega arith, omega arith, omega arith)
 
-pub overflow_mul-result : goal.overflow_mul-result
-overflow_mul-result c = let s = four (goal.at.overflow_mul-result c).After-added-sum in omega arith
+pub offset_bounds-values-entry : goal.offset_bounds-values-entry
+offset_bounds-values-entry c = let l = listed (goal.at.offset_bounds-values-entry c).In-loop-k in omega (arith, l.inside)
 
-pub overflow_add-result : goal.overflow_add-result
-overflow_add-result c = let s = four (goal.at.overflow_add-result c).After-added-sum in omega arith
+pub bounds-values-entry : goal.bounds-values-entry
+bounds-values-entry c = let l = listed (goal.at.bounds-values-entry c).In-loop-k in omega (arith, l.inside)
 
-pub overflow_mul-result-2 : goal.overflow_mul-result-2
-overflow_mul-result-2 c = let s = four (goal.at.overflow_mul-result-2 c).After-added-sum in omega arith
+pub plus-sum-requires : goal.plus-sum-requires
+plus-sum-requires c = (wider _ _ (omega arith) c.loop-k.invariant.0, c.weight_at-weight.ensures.1)
 
-pub nonzero_div-result : goal.nonzero_div-result
-nonzero_div-result c = let s = four (goal.at.nonzero_div-result c).After-added-sum in omega arith
+pub loop-k-preserved : goal.loop-k-preserved
+loop-k-preserved c =
+    let t = (goal.at.loop-k-preserved c).In-loop-k in
+    let a = c.args in
+    let more : 4 - c.loop-k.k + 1 ≡ 4 - (c.loop-k.k - 1) = omega arith in
+    let part = ap (λ (w : Weight). product w (get_or a.values.now (this t).place 0)) c.weight_at-weight.ensures.0 in
+    (rw more at (c.plus-sum.ensures.1 _ c.loop-k.invariant.0), rw (turn t) (c.plus-sum.ensures.0 ∙ ap₂ plus part c.loop-k.invariant.1))
 
--- twice the last sum, and the half that is added, still fit
-pub overflow_add-result-2 : goal.overflow_add-result-2
-overflow_add-result-2 c =
-    let s = c.added-sum.result in
-    let l = four (goal.at.overflow_add-result-2 c).After-added-sum in
-    let rest : 2 * s.top + s.bottom ≤ 2 * s.bottom * 5 = omega arith in
-    omega (arith, div-le_of_le-mul _ rest)
+-- at the end the sum is that of all four
+whole : (c : After-loop-k) → let a = c.args in
+    SumOf 4 c.loop-k.sum × (fraction_of c.loop-k.sum ≡ total (portions a.x a.y a.u a.v a.values.now a.four.now))
+whole c = let z : c.loop-k.k ≡ 0 = omega (arith, c.loop-k-test.false) in rw z at c.loop-k.invariant
 
 pub returns : goal.returns
 returns c =
     let a = c.args in
-    let f = a.four.now in
-    let s = c.added-sum.result in
-    let l = four (goal.at.returns c).After-added-sum in
-    let twice : 0 < 2 * s.bottom = omega arith in
+    let s = c.loop-k.sum in
+    let l = whole (goal.at.returns c).After-loop-k in
+    let twice : 0 < 2 * s.bottom = omega (arith, l.0.positive) in
     let halved : 2 * (s.whole * s.bottom + s.top) + s.bottom ≡ s.whole * (2 * s.bottom) + (2 * s.top + s.bottom) = omega arith in
-    let part : Entry → Fraction = λ e. portion a.x a.y a.u a.v e.blend (get_or a.values.now e.place 0) in
-    sym (ap (λ (n : ℕ). n / (2 * s.bottom)) halved ∙ mul-add-div_right twice s.whole (2 * s.top + s.bottom)) ∙
-    ap rounded
-    (c.added-sum.ensures.0 ∙ ap (plus (part f.first))
-    (c.added-three.ensures.0 ∙ ap (plus (part f.second)) (c.added-two.ensures.0 ∙ ap (plus (part f.third)) c.added-one.ensures.0)))
+    sym (ap (λ (n : ℕ). n / (2 * s.bottom)) halved ∙ mul-add-div_right twice s.whole (2 * s.top + s.bottom)) ∙ ap rounded l.1

@@ -13,11 +13,11 @@ use Rattle.mesh.specs.Blends.{place}
 use Rattle.mesh.specs.Sound.{proper, none, over_square, blends_of}
 use Rattle.mesh.proofs.Cuts.{proper_facts}
 use Rattle.maps.specs.declared.opened.Opened.{Opened}
-use Rattle.maps.specs.declared.values.Four.{Four}
+use Rattle.maps.specs.declared.values.Entry.{Entry}
 use Rattle.maps.specs.Plain.{blends}
 use Rattle.maps.specs.Rounding.{rounded}
 use Rattle.maps.specs.Values.{kept_or, carried, kept_mark, reading_at}
-use Rattle.maps.specs.Inner.{InTable, AtPoint, Grown, entries, entries_over, portions, carried_arrays}
+use Rattle.maps.specs.Inner.{InTable, AtPoint, Grown, entries_over, portions, carried_arrays}
 use Rattle.maps.specs.Holds.{Valued}
 use Rattle.maps.proofs.Changing.{good_opened, few, in_table}
 use Rattle.maps.proofs.Readings.{reading_most}
@@ -116,8 +116,8 @@ module _ (o : Opened) {B : Blend} (k : Inside o.map.lines.w o.map.lines.h B) whe
 
   taken : {old : List Blend} → old ≡ blends_of o.table → {m n a b : ℕ} → m ≡ B.across.m → n ≡ B.up.m →
       a ≡ corner o.map.lines.w (m - 1) + 1 → b ≡ corner o.map.lines.h (n - 1) + 1 →
-      (four : Four) → entries four ≡ entries_over (over_square a b) old 0 →
-      rounded (total (portions a b m n o.map.values (entries four))) ≡ reading_at old (take (length old) o.map.values) (B.across.m - 1) (B.up.m - 1)
+      (four : List Entry) → four ≡ entries_over (over_square a b) old 0 →
+      rounded (total (portions a b m n o.map.values four)) ≡ reading_at old (take (length old) o.map.values) (B.across.m - 1) (B.up.m - 1)
   taken is {m} {n} {a} {b} is_m is_n is_a is_b four e =
       let x : m ≡ B.across.m - 1 + 1 = omega (arith, k.across_low) in
       let y : n ≡ B.up.m - 1 + 1 = omega (arith, k.up_low) in

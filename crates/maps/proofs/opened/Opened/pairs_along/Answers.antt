@@ -1,13 +1,13 @@
 -- `maps::opened::Opened::pairs_along` meets its contract.
-use Rattle.std.proofs.Common.{arith, ℕ, ◌+◌, ◌-◌, ◌≤◌, ◌<◌, ◌≡◌, sym, ap, subst, ◌∙◌}
+use Rattle.std.proofs.Common.{arith, ℕ, ◌+◌, ◌-◌, ◌≤◌, ◌<◌, ◌≡◌, length, sym, ap, subst, ◌∙◌}
 use lib.Dec.{ltb}
 use Rattle.axis.specs.Range.{turns_from}
 use Rattle.mesh.specs.Sound.{over_square, blends_of}
 use Rattle.maps.specs.Pairs.{counted_pairs}
-use Rattle.maps.specs.Inner.{AtPoint, entries, entries_over, counted}
+use Rattle.maps.specs.Inner.{AtPoint, entries_over, counted}
 use Rattle.maps.proofs.Changing.{good_opened, few, in_table}
 use Rattle.maps.proofs.OldTable.{few_blends, old_long, old_table, old_point}
-use Rattle.maps.proofs.OverSquare.{four_over, all_listed}
+use Rattle.maps.proofs.OverSquare.{four_over, all_listed, entries_length}
 use Rattle.maps.proofs.Adding.{four_read}
 use Rattle.maps.proofs.Walking.{four_stay, in_walk, side_most, noting, noting_all, noted_on, noting_done}
 use Rattle.maps.proofs.opened.Opened.pairs_along.Invariants.{below}
@@ -30,7 +30,7 @@ loop-k-init c =
     let whole : side - (0 - 1) ≡ side = omega arith in
     record {
       inside = omega arith;
-      in_hand = record { x = 1; y = 1; are = rw c.blends-blends.ensures at c.four_over-four.ensures };
+      in_hand = record { long = omega arith; x = 1; y = 1; are = rw c.blends-blends.ensures at c.four_over-four.ensures };
       is_last = λ lt. absurd (omega arith);
       few = omega arith;
       some = λ z. absurd (omega arith);
@@ -57,7 +57,7 @@ four_over-four-requires-then-not-all_over c =
 
 -- the four blends over its square
 over : (c : Joined-not-all_over) → AtPoint c.args.self.now.map.lines.w c.args.self.now.map.lines.h c.args.self.now.table c.along-u.result c.along-v.result →
-    entries c.if-not-all_over.four ≡ entries_over (over_square c.low_knot-x.result c.low_knot-y.result) (blends_of c.args.self.now.table) 0
+    c.if-not-all_over.four ≡ entries_over (over_square c.low_knot-x.result c.low_knot-y.result) (blends_of c.args.self.now.table) 0
 over c p =
     elim c.if-not-all_over.branch [
       | then-not-all_over w ↦ rw w.four-is (rw c.blends-blends.ensures at w.four_over-four-then-not-all_over.ensures)
@@ -101,6 +101,8 @@ loop-k-preserved c =
     let at = goal.at.loop-k-preserved c in
     let p = here at.After-along-v in
     let four = over at.Joined-not-all_over p in
+    let long : length c.if-not-all_over.four ≡ 4 =
+    ap length four ∙ entries_length _ (blends_of c.args.self.now.table) 0 ∙ rw (c.low_knot-x.ensures.0, c.low_knot-y.ensures.0) p.2 in
     let l = c.loop-k in
     let a = c.args in
     let test = below a.self.now.table a.self.now.map.values a.row a.at a.wanted in
@@ -128,7 +130,7 @@ loop-k-preserved c =
     ] in
     record {
       inside = omega arith;
-      in_hand = record { x = _; y = _; are = four };
+      in_hand = record { long = long; x = _; y = _; are = four };
       is_last = λ lt. rw now is_here;
       few = rw now went.0;
       some = still;

@@ -5,7 +5,7 @@ use Rattle.axis.specs.Range.{turns_from}
 use Rattle.mesh.specs.declared.Table.{Table}
 use Rattle.mesh.specs.Sound.{blends_of}
 use Rattle.maps.specs.Outcomes.{Pairs}
-use Rattle.maps.specs.declared.values.Four.{Four}
+use Rattle.maps.specs.declared.values.Entry.{Entry}
 use Rattle.maps.specs.Values.{reading_at}
 use Rattle.maps.specs.Pairs.{counted_pairs}
 use Rattle.maps.specs.Inner.{counted}
@@ -16,7 +16,7 @@ use Rattle.maps.proofs.opened.Opened.pairs_along.Given as goal
 abbrev pub below : Table → List ℕ → Bool → ℕ → ℕ → ℕ → Bool
 below table values row at wanted k = ltb (reading_at (blends_of table) (take table.count values) (cond row k at) (cond row at k)) wanted
 
-pub record Walk (table : Table) (values : List ℕ) (row : Bool) (at wanted side : ℕ) (four : Four) (last : Bool) (pairs : Pairs) (k : ℕ) : Type 0 where
+pub record Walk (table : Table) (values : List ℕ) (row : Bool) (at wanted side : ℕ) (four : List Entry) (last : Bool) (pairs : Pairs) (k : ℕ) : Type 0 where
   pub inside : k ≤ side + 1
   pub in_hand : FourOf table four
   pub is_last : 0 < k → last ≡ below table values row at wanted (k - 1)

@@ -1,11 +1,12 @@
 -- `maps::opened::Opened::weights_at` meets its contract.
 use Rattle.std.proofs.Common.{arith, ap, ◌∙◌, map}
-use Rattle.mesh.specs.Sound.{blends_of}
+use Rattle.axis.proofs.Members.{entry}
+use Rattle.mesh.specs.Sound.{none, blends_of}
 use Rattle.maps.specs.declared.values.Entry.{Entry}
 use Rattle.maps.specs.Calls.{weight_over}
 use Rattle.maps.specs.Inner.{AtPoint}
 use Rattle.maps.proofs.OldTable.{few_blends, old_point}
-use Rattle.maps.proofs.OverSquare.{all_listed, entries_only}
+use Rattle.maps.proofs.OverSquare.{all_listed, entries_only, four_mapped}
 use Rattle.maps.proofs.Changing.{good_opened, few, in_table}
 use Rattle.maps.proofs.opened.Opened.weights_at.Goals as goal
 use Rattle.maps.proofs.opened.Opened.weights_at.Goals.{Start}
@@ -38,25 +39,25 @@ pub weight_at-first-requires : goal.weight_at-first-requires
 weight_at-first-requires c =
     let at = goal.at.weight_at-first-requires c in
     let l = all_listed _ _ _ _ _ (here at.Start) _ _ c.four_over-four.result (rw c.blends.ensures at c.four_over-four.ensures) in
-    (l.0.is_proper, omega arith, omega arith, omega arith, omega arith)
+    ((l _ (entry c.four_over-four.result 0 (record { blend = none; place = 0 }) (omega arith))).is_proper, omega arith, omega arith, omega arith, omega arith)
 
 pub weight_at-second-requires : goal.weight_at-second-requires
 weight_at-second-requires c =
     let at = goal.at.weight_at-second-requires c in
     let l = all_listed _ _ _ _ _ (here at.Start) _ _ c.four_over-four.result (rw c.blends.ensures at c.four_over-four.ensures) in
-    (l.1.is_proper, omega arith, omega arith, omega arith, omega arith)
+    ((l _ (entry c.four_over-four.result 1 (record { blend = none; place = 0 }) (omega arith))).is_proper, omega arith, omega arith, omega arith, omega arith)
 
 pub weight_at-third-requires : goal.weight_at-third-requires
 weight_at-third-requires c =
     let at = goal.at.weight_at-third-requires c in
     let l = all_listed _ _ _ _ _ (here at.Start) _ _ c.four_over-four.result (rw c.blends.ensures at c.four_over-four.ensures) in
-    (l.2.is_proper, omega arith, omega arith, omega arith, omega arith)
+    ((l _ (entry c.four_over-four.result 2 (record { blend = none; place = 0 }) (omega arith))).is_proper, omega arith, omega arith, omega arith, omega arith)
 
 pub weight_at-fourth-requires : goal.weight_at-fourth-requires
 weight_at-fourth-requires c =
     let at = goal.at.weight_at-fourth-requires c in
     let l = all_listed _ _ _ _ _ (here at.Start) _ _ c.four_over-four.result (rw c.blends.ensures at c.four_over-four.ensures) in
-    (l.3.is_proper, omega arith, omega arith, omega arith, omega arith)
+    ((l _ (entry c.four_over-four.result 3 (record { blend = none; place = 0 }) (omega arith))).is_proper, omega arith, omega arith, omega arith, omega arith)
 
 pub returns : goal.returns
 returns c =
@@ -67,4 +68,5 @@ returns c =
     let y = c.low_knot-y.ensures.0 in
     let blends = ap (map (λ (e : Entry). e.blend)) (rw c.blends.ensures at f.ensures) ∙ entries_only _ (blends_of t.table) 0 in
     rw (c.weight_at-first.ensures.0, c.weight_at-second.ensures.0, c.weight_at-third.ensures.0, c.weight_at-fourth.ensures.0, x, y)
-    (ap (map (weight_over t.map.lines.w t.map.lines.h a.u a.v)) (rw (x, y) at blends))
+    (four_mapped (weight_over t.map.lines.w t.map.lines.h a.u a.v) _ f.result (omega arith) ∙
+    ap (map (weight_over t.map.lines.w t.map.lines.h a.u a.v)) (rw (x, y) at blends))
