@@ -19,7 +19,7 @@ use Rattle.mesh.specs.declared.refusal.Refusal.{Refusal}
 use Rattle.mesh.specs.declared.refusal.Refusal.TheVariants.{NoPair}
 use Rattle.maps.specs.declared.Map.{Map}
 use Rattle.maps.specs.declared.Pairs.{Pairs as Noted}
-use Rattle.maps.specs.Told.{paired}
+use Rattle.maps.specs.Told.{told_pairs}
 use Rattle.maps.specs.Plain.{blends}
 use Rattle.maps.specs.Values.{reading_at}
 use Rattle.maps.specs.Record.{plain}
@@ -101,6 +101,6 @@ module _ {m : Map} {t : Table} (g : GoodMap m t) where
           ap counted_pairs (turns_same 0 (cond row m.lines.w m.lines.h) _ _ (λ k kn. ap (λ (n : ℕ). ltb n wanted) (read_along k (omega arith)))))
 
 -- The pairs that a walk noted, as an answer: "13, no such pair".
-pub paired_counted : (r : Result Noted Refusal) (pairs : Option Noted) → r ≡ ok_or pairs NoPair → paired r ≡ counted pairs
-paired_counted r (Some p) e = ap paired e
-paired_counted r None e = ap paired e
+pub paired_counted : (r : Result Noted Refusal) (pairs : Option Noted) → r ≡ ok_or pairs NoPair → told_pairs r ≡ counted pairs
+paired_counted r (Some p) e = ap told_pairs e
+paired_counted r None e = ap told_pairs e

@@ -34,7 +34,7 @@ use Rattle.mesh.proofs.AtMost.{at_most}
 use Rattle.maps.specs.declared.Map.{Map}
 use Rattle.maps.specs.Outcomes.{Changed}
 use Rattle.maps.specs.declared.carry.Carried.{Carried}
-use Rattle.mesh.specs.Replay.{HasTable, Step, refused_step, first_step, split_step}
+use Rattle.mesh.specs.Replay.{HasTable, Outcome, refused_step, first_step, split_step}
 use Rattle.maps.specs.declared.opened.Opened.{Opened}
 use Rattle.maps.specs.Plain.{Plain, blends}
 use Rattle.maps.specs.Values.{place_of, carried, kept_mark, drawn}
@@ -246,16 +246,16 @@ module _ {m : Map} {t : Table} (g : GoodMap m t) (i j v : ℕ) where
 
 -- A step for a call: a line that it draws is one that an exact split may draw, its table is that of the map with the line, and this map is the call's; its
 -- refusal is the call's.
-pub record Draws (m : Map) (r : Step) (c : Changed) : Type 0 where
+pub record Draws (m : Map) (r : Outcome) (c : Changed) : Type 0 where
   pub accepted : exact_number (plain m).lines r.split ≡ 0
   pub is_new : r.table ≡ table (blends (drawn (plain m) r.split))
   pub is_drawn : changed 0 (record_of (drawn (plain m) r.split)) ≡ c
 
-abbrev pub StepOf : Map → Step → Changed → Type 0
+abbrev pub StepOf : Map → Outcome → Changed → Type 0
 StepOf m r c = (r.number ≡ 0 → Draws m r c) × ((r.number ≡ 0 → ⊥) → changed r.number m ≡ c)
 
 -- What it leaves of a good record:
-module _ {m : Map} {t : Table} (g : GoodMap m t) {r : Step} {c : Changed} where
+module _ {m : Map} {t : Table} (g : GoodMap m t) {r : Outcome} {c : Changed} where
   module _ (d : Draws m r c) where
     pub step_room : m.lines.count < 60
     unfolding plain

@@ -45,9 +45,9 @@ abbrev pub weighed : Result Four Refusal → Weights
 weighed (Ok f) = record { number = 0; entries = f.entries }
 weighed (Err e) = no_weights (number_of e)
 
-abbrev pub paired : Result Count Refusal → Pairs
-paired (Ok p) = record { number = 0; count = p.count; first = p.first }
-paired (Err e) = no_pairs (number_of e)
+abbrev pub told_pairs : Result Count Refusal → Pairs
+told_pairs (Ok p) = record { number = 0; count = p.count; first = p.first }
+told_pairs (Err e) = no_pairs (number_of e)
 
 abbrev pub compared : Result Bool Refusal → Same
 compared (Ok same) = record { number = 0; yes = same }

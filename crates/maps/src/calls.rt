@@ -9,7 +9,7 @@ use crate::{Map, Pairs, Placed, Refusal, Weights};
 use mesh::Split;
 
 impl Map {
-    ghost use Rattle.maps.specs.Told.{changed_to, placed, read_off, weighed, paired, compared};
+    ghost use Rattle.maps.specs.Told.{changed_to, placed, read_off, weighed, told_pairs, compared};
 
     // The blend, value and mark at a table place, from 0: refused with 2 or 9.
     pub fn place(&self, i: usize) -> Result<Placed, Refusal>
@@ -35,14 +35,14 @@ impl Map {
     // The pairs of neighbouring points of the row v of which one reading is below the wanted flow and the other is not, and the first: refused with 2, 10
     // or 13.
     pub fn row(&self, v: usize, wanted: usize) -> Result<Pairs, Refusal>
-        ensures { paired result ≡ row_pairs self.now v wanted }
+        ensures { told_pairs result ≡ row_pairs self.now v wanted }
     {
         Opened::open(self)?.row(v, wanted)
     }
 
     // The same up the column u: refused with 2, 10 or 13.
     pub fn column(&self, u: usize, wanted: usize) -> Result<Pairs, Refusal>
-        ensures { paired result ≡ column_pairs self.now u wanted }
+        ensures { told_pairs result ≡ column_pairs self.now u wanted }
     {
         Opened::open(self)?.column(u, wanted)
     }

@@ -56,7 +56,7 @@ fn no_marks_above(most: u8, marks: &[u8]) -> bool
 }
 
 impl Opened {
-    ghost use Rattle.maps.specs.Told.{changed_to, made_opened, opened_from, placed, read_off, weighed, paired, compared};
+    ghost use Rattle.maps.specs.Told.{changed_to, made_opened, opened_from, placed, read_off, weighed, told_pairs, compared};
 
     // Opens a record: 2 where it is not good.
     pub fn open(map: &Map) -> Result<Opened, Refusal>
@@ -134,7 +134,7 @@ impl Opened {
 
     // The rest of `Map::row`, or of `Map::column`.
     fn along(&self, row: bool, at: usize, wanted: usize) -> Result<Pairs, Refusal>
-        ensures { paired result ≡ along_pairs self.now.map row at wanted }
+        ensures { told_pairs result ≡ along_pairs self.now.map row at wanted }
     {
         let w = self.map.lines.w;
         let h = self.map.lines.h;
@@ -152,14 +152,14 @@ impl Opened {
 
     // The rest of `Map::row`.
     pub fn row(&self, v: usize, wanted: usize) -> Result<Pairs, Refusal>
-        ensures { paired result ≡ row_pairs self.now.map v wanted }
+        ensures { told_pairs result ≡ row_pairs self.now.map v wanted }
     {
         self.along(true, v, wanted)
     }
 
     // The rest of `Map::column`.
     pub fn column(&self, u: usize, wanted: usize) -> Result<Pairs, Refusal>
-        ensures { paired result ≡ column_pairs self.now.map u wanted }
+        ensures { told_pairs result ≡ column_pairs self.now.map u wanted }
     {
         self.along(false, u, wanted)
     }

@@ -19,7 +19,7 @@ use Rattle.mesh.specs.Splits.{given, asked, exact_number, accepted, live_of, wit
 use Rattle.mesh.specs.Lengthening.{steps_of}
 use Rattle.mesh.specs.Ends.{nearest_good}
 use Rattle.mesh.specs.Refusals.{number_of}
-use Rattle.mesh.specs.Replay.{replays, Replays, replayed, Step, refused_step, split_step}
+use Rattle.mesh.specs.Replay.{replays, Replays, replayed, Outcome, refused_step, split_step}
 use Rattle.mesh.specs.Bytes.{walk}
 use Rattle.mesh.specs.Carried.{CarriedBy, Noted, NotedBy, SearchesBy, Verdict, told_of, judged, found_by, verdict}
 use Rattle.mesh.specs.declared.Split.{Split}
@@ -200,7 +200,7 @@ module _ (L : Lines) (t : Table) (s : Split) where
 
     pub verdict_drawn : Replays (layout_of L) → {v : Verdict} → v ≡ verdict (layout_of L) s a → v.number ≡ 0 →
         {n : ℕ} {u : Drawing n} {new : Table} → CarriedBy (with_line (layout_of L) v.line) u →
-        new ≡ table (walk u.w u.h u.places) → ◌≡◌ {A = Step} (record { number = 0; split = v.line; table = new }) (split_step L t s a)
+        new ≡ table (walk u.w u.h u.places) → ◌≡◌ {A = Outcome} (record { number = 0; split = v.line; table = new }) (split_step L t s a)
     unfolding split_step
     verdict_drawn taken {v} is none {n} {u} now e =
         let f = verdict_says (layout_of L) s a is none in

@@ -34,28 +34,28 @@ pub record HasTable (L : Lines) (t : Table) : Type 0 where
   pub is_table : t ≡ table (live_of (layout_of L))
 
 -- What a split comes to on such lines: its number, the line that is drawn, and the table of blends after it.
-pub record Step : Type 0 where
+pub record Outcome : Type 0 where
   pub number : ℕ
   pub split : Split
   pub table : Table
 
 -- refused with a number, with the split and the table as they came; and a line drawn
-abbrev pub refused_step : Table → ℕ → Split → Step
+abbrev pub refused_step : Table → ℕ → Split → Outcome
 refused_step t n s = record { number = n; split = s; table = t }
 
-abbrev pub drawn_step : Lines → Split → Step
+abbrev pub drawn_step : Lines → Split → Outcome
 drawn_step L s = record { number = 0; split = s; table = table (live_of (with_line (layout_of L) s)) }
 
 -- the split call, by the line that it takes
-abbrev pub first_step : Lines → Table → Split → List Split → Step
+abbrev pub first_step : Lines → Table → Split → List Split → Outcome
 first_step L t s [] = refused_step t 8 s
 first_step L t s (c ∷ cs) = drawn_step L c
 
-unfoldable pub split_step : Lines → Table → Split → ℕ → Step
+unfoldable pub split_step : Lines → Table → Split → ℕ → Outcome
 split_step L t s allowance =
     let n = asked (layout_of L) s allowance in cond (eqb n 0) (first_step L t s (chosen (layout_of L) s allowance)) (refused_step t n s)
 
 -- the same of what the code answers
-abbrev pub stepped : Table → Split → Result Drawn Refusal → Step
+abbrev pub stepped : Table → Split → Result Drawn Refusal → Outcome
 stepped t s (Ok d) = record { number = 0; split = d.line; table = d.table }
 stepped t s (Err e) = refused_step t (number_of e) s

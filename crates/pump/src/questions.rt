@@ -5,7 +5,7 @@ ghost use Rattle.files.specs.File.{put};
 ghost use Rattle.files.specs.Calls.{payload_number};
 ghost use Rattle.files.specs.Told.{number_in};
 ghost use Rattle.files.specs.Listing.{text_number, text_written, text_after};
-ghost use Rattle.maps.specs.Told.{paired, compared};
+ghost use Rattle.maps.specs.Told.{told_pairs, compared};
 ghost use Rattle.maps.specs.Pairs.{row_pairs, column_pairs};
 ghost use Rattle.pump.specs.Border.{place_number, place_after, weight_bytes, weights_number, weights_after, reading_number, reading_litres, pairs_number, pairs_count, pairs_first, same_number, same_yes, check_number, payload_from, payload_count};
 
@@ -74,8 +74,8 @@ pub fn pump_weights(file: &[u8], u: usize, v: usize, out: &mut [u8]) -> usize
 
 // Ends a call along a row or a column: the pairs and the number of the answer; a refusal gives no pairs.
 fn tell_pairs(answer: Result<Pairs, Refusal>, count: &mut usize, first: &mut usize) -> usize
-    ensures { (result ≡ (paired answer).number) × (count.new ≡ (paired answer).count) ×
-        (first.new ≡ (paired answer).first) }
+    ensures { (result ≡ (told_pairs answer).number) × (count.new ≡ (told_pairs answer).count) ×
+        (first.new ≡ (told_pairs answer).first) }
 {
     let none = Pairs { count: 0, first: 0 };
     let pairs = answer.unwrap_or(none);

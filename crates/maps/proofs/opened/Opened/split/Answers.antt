@@ -2,7 +2,7 @@
 use Rattle.std.proofs.Common.{arith, rules, refl, sym, subst}
 use lib.ListN.{length-set}
 use Rattle.std.proofs.lemmas.Result.{err_from_is_err_and}
-use Rattle.mesh.specs.Replay.{Step}
+use Rattle.mesh.specs.Replay.{Outcome}
 use Rattle.mesh.proofs.Refused.{refuses}
 use Rattle.maps.specs.Calls.{split_within}
 use Rattle.maps.proofs.Changing.{good_opened, Draws, StepOf, split_step_lem, step_room, new_few, new_proper, step_grown, step_drawn, new_short}
@@ -14,7 +14,7 @@ draws : (c : In_ok-drawn) → Draws c.args.self.now.map (record { number = 0; sp
     (split_within c.args.self.now.map c.args.s c.args.allowance)
 draws c =
     let m = c.args.self.now.map in
-    (subst (λ (r : Step). StepOf m r (split_within m c.args.s c.args.allowance)) (sym c.in_ok-drawn.ensures)
+    (subst (λ (r : Outcome). StepOf m r (split_within m c.args.s c.args.allowance)) (sym c.in_ok-drawn.ensures)
     (split_step_lem (good_opened c.args.self.now) c.args.s c.args.allowance)).0 refl
 
 pub split-requires : goal.split-requires
@@ -24,7 +24,7 @@ pub returns-in_err-drawn : goal.returns-in_err-drawn
 returns-in_err-drawn c =
     let m = c.args.self.now.map in
     let e = c.in_err-drawn.field-0.0 in
-    let step = (subst (λ (r : Step). StepOf m r (split_within m c.args.s c.args.allowance)) (sym c.in_err-drawn.ensures)
+    let step = (subst (λ (r : Outcome). StepOf m r (split_within m c.args.s c.args.allowance)) (sym c.in_err-drawn.ensures)
     (split_step_lem (good_opened c.args.self.now) c.args.s c.args.allowance)).1 (refuses e) in
     let r = err_from_is_err_and c.from_residual.result c.from_residual.ensures.1 in
     rw (r.1, r.2) step
