@@ -2,6 +2,7 @@ pub mod File
 pub mod Calls
 pub mod Told
 pub mod Accepted
+pub mod Kinds
 pub mod Inner
 pub mod FromFile
 pub mod Listing

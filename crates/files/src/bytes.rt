@@ -2,6 +2,7 @@
 ghost use Rattle.std.specs.Prelude.{◌≡◌, Some, None, ◌+◌, ◌*◌, ◌≤◌, ◌<◌, length, drop, cond};
 ghost use Rattle.axis.specs.Range.{joined};
 ghost use Rattle.files.specs.Inner.{begins};
+ghost use Rattle.files.specs.Kinds.{kind_number};
 ghost use Rattle.files.specs.File.{word, word_at, entry, put, put_words};
 ghost use Rattle.files.specs.Calls.{whole, payload_number, payload_at};
 ghost use Rattle.files.specs.Told.{number_in, part_in};
@@ -53,20 +54,40 @@ pub fn put_words(bytes: &mut [u8], at: usize, words: &[usize])
     }
 }
 
+// The kinds of a file's records, by their numbers. A value has its mark but in an old file.
+#[derive(Clone, Copy, Debug, PartialEq, Eq)]
+pub(crate) enum Kind {
+    Head = 1,
+    Split,
+    OldValue,
+    Tail,
+    Value,
+}
+
+impl Kind {
+    fn number(self) -> usize
+        ensures { result ≡ kind_number self }
+    {
+        self as usize
+    }
+}
+
 // Whether a record of a kind with a payload stands at a byte place.
-pub(crate) fn has_entry(bytes: &[u8], at: usize, kind: usize, payload: &[usize]) -> bool
+pub(crate) fn has_entry(bytes: &[u8], at: usize, kind: Kind, payload: &[usize]) -> bool
     requires { (at ≤ length bytes.now) × (length payload.now ≤ 4) }
-    ensures { result ≡ begins (drop at bytes.now) (entry kind payload.now) }
+    ensures { result ≡ begins (drop at bytes.now) (entry (kind_number kind) payload.now) }
 {
+    let kind = kind.number();
     let front = [2 + 2 * payload.len(), kind];
     has_words(bytes, at, &front) && has_words(bytes, at + 4, payload)
 }
 
 // Puts a record of a kind with a payload.
-pub(crate) fn put_entry(bytes: &mut [u8], at: usize, kind: usize, payload: &[usize])
+pub(crate) fn put_entry(bytes: &mut [u8], at: usize, kind: Kind, payload: &[usize])
     requires { at + (4 + 2 * length payload.now) ≤ length bytes.old }
-    ensures { bytes.new ≡ put bytes.old at (entry kind payload.now) }
+    ensures { bytes.new ≡ put bytes.old at (entry (kind_number kind) payload.now) }
 {
+    let kind = kind.number();
     let front = [2 + 2 * payload.len(), kind];
     put_words(bytes, at, &front);
     put_words(bytes, at + 4, payload);

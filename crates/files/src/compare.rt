@@ -4,7 +4,7 @@ ghost use Rattle.axis.specs.Range.{agree};
 ghost use Rattle.maps.specs.Record.{plain};
 ghost use Rattle.files.specs.File.{file_in};
 
-use crate::bytes::has_entry;
+use crate::bytes::{Kind, has_entry};
 use crate::entries::{Entry, drawn, numbers};
 use crate::{HEAD, SPLIT, TAIL, value_size};
 use maps::opened::Opened;
@@ -14,12 +14,12 @@ pub(crate) fn is_file(bytes: &[u8], o: &Opened, old: bool) -> bool
     ensures { result ≡ agree eqb bytes.now (file_in old (plain o.now.map)) }
 {
     let splits = drawn(o);
-    if !has_entry(bytes, 0, 1, &[o.map.lines.w, o.map.lines.h]) {
+    if !has_entry(bytes, 0, Kind::Head, &[o.map.lines.w, o.map.lines.h]) {
         return false;
     }
     let mut at = HEAD;
     for split in splits {
-        if !has_entry(bytes, at, 2, &numbers(split)) {
+        if !has_entry(bytes, at, Kind::Split, &numbers(split)) {
             return false;
         }
         at += SPLIT;
@@ -30,5 +30,5 @@ pub(crate) fn is_file(bytes: &[u8], o: &Opened, old: bool) -> bool
         }
         at += value_size(old);
     }
-    has_entry(bytes, at, 4, &[]) && bytes.len() == at + TAIL
+    has_entry(bytes, at, Kind::Tail, &[]) && bytes.len() == at + TAIL
 }

@@ -4,7 +4,7 @@ ghost use Rattle.axis.specs.Limits.{most_splits, most_blends};
 ghost use Rattle.mesh.specs.Sound.{Proper};
 ghost use Rattle.maps.specs.Record.{Full};
 
-use crate::bytes::{has_entry, put_entry};
+use crate::bytes::{Kind, has_entry, put_entry};
 use maps::Map;
 use maps::opened::Opened;
 use mesh::{Blend, Split, Table};
@@ -79,9 +79,9 @@ impl Entry {
     {
         let numbers = self.numbers();
         if old {
-            has_entry(bytes, at, 3, &numbers[..3])
+            has_entry(bytes, at, Kind::OldValue, &numbers[..3])
         } else {
-            has_entry(bytes, at, 5, &numbers)
+            has_entry(bytes, at, Kind::Value, &numbers)
         }
     }
 
@@ -90,6 +90,6 @@ impl Entry {
         requires { at + value_size false ≤ length bytes.old }
         ensures { bytes.new ≡ put bytes.old at (value_entry false (told self)) }
     {
-        put_entry(bytes, at, 5, &self.numbers());
+        put_entry(bytes, at, Kind::Value, &self.numbers());
     }
 }

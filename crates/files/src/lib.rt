@@ -14,7 +14,7 @@ ghost use Rattle.files.specs.File.{value_size};
 ghost use Rattle.files.specs.Calls.{written, after, read_file};
 ghost use Rattle.files.specs.Told.{written_as};
 
-use crate::bytes::put_entry;
+use crate::bytes::{Kind, put_entry};
 use crate::compare::is_file;
 use crate::entries::{Entry, drawn, numbers};
 use crate::take::Places;
@@ -61,15 +61,15 @@ pub fn write_opened(o: &Opened, buffer: &mut [u8]) -> Result<usize, Refusal>
     if buffer.len() < length {
         return Err(Refusal::ShortBuffer);
     }
-    put_entry(buffer, 0, 1, &[o.map.lines.w, o.map.lines.h]);
+    put_entry(buffer, 0, Kind::Head, &[o.map.lines.w, o.map.lines.h]);
     for (i, split) in splits.iter().enumerate() {
-        put_entry(buffer, HEAD + SPLIT * i, 2, &numbers(split));
+        put_entry(buffer, HEAD + SPLIT * i, Kind::Split, &numbers(split));
     }
     let at = HEAD + SPLIT * splits.len();
     for j in 0..o.table.count {
         Entry::at(o, j).put(buffer, at + VALUE * j);
     }
-    put_entry(buffer, at + VALUE * o.table.count, 4, &[]);
+    put_entry(buffer, at + VALUE * o.table.count, Kind::Tail, &[]);
     Ok(length)
 }
 

@@ -4,7 +4,7 @@ ghost use Rattle.axis.specs.Limits.{most_splits};
 ghost use Rattle.files.specs.File.{head_size, split_size, split_count, split_at};
 ghost use Rattle.files.specs.Inner.{Stand};
 
-use crate::bytes::word_at;
+use crate::bytes::{Kind, word_at};
 use crate::{ENDS, HEAD, SPLIT, value_size};
 use maps::Map;
 use mesh::{Lines, Split, Table};
@@ -15,7 +15,7 @@ fn count_splits(bytes: &[u8]) -> usize
 {
     for n in 0..Map::MOST_SPLITS {
         let at = HEAD + SPLIT * n;
-        if bytes.len() < at + SPLIT || word_at(bytes, at + 2) != 2 {
+        if bytes.len() < at + SPLIT || word_at(bytes, at + 2) != Kind::Split as u16 {
             return n;
         }
     }
@@ -60,8 +60,7 @@ impl<'a> Places<'a> {
     {
         let splits = count_splits(bytes);
         let room = bytes.len().checked_sub(ENDS + SPLIT * splits)?;
-        // the kind of the first record after the splits
-        let old = word_at(bytes, HEAD + SPLIT * splits + 2) == 3;
+        let old = word_at(bytes, HEAD + SPLIT * splits + 2) == Kind::OldValue as u16;
         let values = room / value_size(old);
         if Table::MOST_BLENDS < values {
             return None;

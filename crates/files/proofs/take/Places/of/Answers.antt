@@ -21,7 +21,7 @@ returns-in_err-room c =
 
 -- the size of a value in the form of the bytes
 size_is : (c : After-value_size) → c.value_size.result ≡ value_size (is_old c.args.bytes.now)
-size_is c = c.value_size.ensures ∙ ap value_size (form_told c.args.bytes.now _ _ c.count_splits-splits.ensures c.word_at-old.ensures)
+size_is c = c.value_size.ensures ∙ ap value_size (form_told c.args.bytes.now _ _ c.count_splits-splits.ensures c.word_at.ensures)
 
 too_many : (old : Bool) (n : ℕ) → n ≤ value_size old * 1024 → 1024 < n / value_size old → ⊥
 too_many true n le lt = omega arith
@@ -42,7 +42,7 @@ invariant_of-result c =
       stand =
           record {
             are_splits = c.count_splits-splits.ensures;
-            is_form = form_told c.args.bytes.now _ _ c.count_splits-splits.ensures c.word_at-old.ensures;
+            is_form = form_told c.args.bytes.now _ _ c.count_splits-splits.ensures c.word_at.ensures;
             are_values = ap₂ ◌/◌ left c.value_size.ensures;
             few = c.if-values-gt-MOST_BLENDS.false;
             room = omega (arith, c.in_ok-room.ensures);
