@@ -24,7 +24,7 @@ use Rattle.axis.specs.Gap.{gap, share, corner, End}
 use Rattle.axis.proofs.Sums.{times_equal}
 use Rattle.axis.proofs.Triples.{rise_of}
 use Rattle.maps.specs.declared.values.Entry.{Entry}
-use Rattle.maps.specs.Inner.{AtPoint, entries_over, Listed, AllListed}
+use Rattle.maps.specs.Inner.{AtPoint, entries_over, AllListed}
 use Rattle.axis.proofs.Gaps.{corner_in, gap_most, gap_positive, hat_outside_step, hat_share, share_most}
 
 -- the weight of a blend at a corner of a square, over the gaps in which the square lies: both numbers are small

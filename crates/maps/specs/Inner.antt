@@ -1,10 +1,12 @@
 -- What the maps' own functions work on. Only contracts of functions that the crate keeps to itself cite this file.
-use Rattle.std.specs.Prelude.{ℕ, ◌+◌, ◌-◌, ◌*◌, ◌^◌, ◌≤◌, ◌<◌, ◌≡◌, Bool, true, cond, eqb, length, get_or, take, set, replicate, Option, Some, None}
+use Rattle.std.specs.Prelude.{ℕ, ◌+◌, ◌-◌, ◌*◌, ◌^◌, ◌≤◌, ◌<◌, ◌≡◌, Bool, true, false, cond, eqb, length, get_or, take, set, replicate, Option, Some, None}
 use mathlib.Core.List.{List, [], ◌∷◌, ◌++◌, map, Memᴰ}
 use Rattle.axis.specs.Limits.{largest_side, most_blends}
 use Rattle.axis.specs.Fraction.{Fraction}
 use Rattle.axis.specs.Gap.{corner}
 use Rattle.axis.specs.Range.{all, only, Ordered}
+use Rattle.mesh.specs.declared.Direction.{Direction}
+use Rattle.mesh.specs.declared.Direction.TheVariants.{Upright as upright, Level as level}
 use Rattle.mesh.specs.declared.Split.{Split}
 use Rattle.mesh.specs.declared.Lines.{Lines}
 use Rattle.mesh.specs.declared.Table.{Table}
@@ -114,6 +116,11 @@ counted None = no_pairs 13
 -- pairs with one more, whose first point is k
 abbrev pub with_pair : Pairs → ℕ → Pairs
 with_pair p k = record { number = 0; count = p.count + 1; first = cond (eqb p.count 0) k p.first }
+
+-- a row runs level, a column upright
+abbrev pub is_level : Direction → Bool
+is_level level = true
+is_level upright = false
 
 -- the pairs along a row, or up a column
 abbrev pub along_pairs : Map → Bool → ℕ → ℕ → Pairs

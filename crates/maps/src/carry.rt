@@ -32,15 +32,10 @@ impl Opened {
         let h = self.map.lines.h;
         let mut carried = [0u16; Table::MOST_BLENDS];
         let mut kept = [0u8; Table::MOST_BLENDS];
-        let before = old.len();
         let mut near = 0;
         let mut j = 0;
         for (i, x) in new.iter().enumerate() {
-            let mut next = 0;
-            if j < before {
-                next = old[j].place();
-            }
-            if x.place() == next {
+            if j < old.len() && old[j].place() == x.place() {
                 carried[i] = values[j];
                 kept[i] = marks[j];
                 j += 1;

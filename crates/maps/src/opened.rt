@@ -8,14 +8,14 @@ ghost use Rattle.maps.specs.Pairs.{row_pairs, column_pairs};
 ghost use Rattle.maps.specs.Sameness.{sameness};
 ghost use Rattle.maps.specs.Record.{Held, is_no_split, is_zero};
 ghost use Rattle.maps.specs.Opened.{IsTable, opened};
-ghost use Rattle.maps.specs.Inner.{along_pairs};
+ghost use Rattle.maps.specs.Inner.{is_level, along_pairs};
 
-use crate::values::{place_of, shape_of};
+use crate::values::place_of;
 use crate::walk::along;
-use crate::{Map, Pairs, Placed, Refusal, Weights};
+use crate::{Map, Pairs, Placed, Refusal, Shape, Weights};
 use mesh::replay::replay;
 use mesh::splits::split;
-use mesh::{Split, Table};
+use mesh::{Direction, Split, Table};
 
 // A good record, and the table of its live blends. That its arrays are full and its values fit is known of a value, and not behind a reference, so it is kept.
 #[derive(Clone, Copy)]
@@ -106,7 +106,7 @@ impl Opened {
             return Err(Refusal::NoAnchor);
         }
         Ok(Placed {
-            blend: shape_of(self.table.blends[i]),
+            blend: Shape::from(self.table.blends[i]),
             value: usize::from(self.map.values[i]),
             mark: usize::from(self.map.marks[i]),
         })
@@ -133,12 +133,12 @@ impl Opened {
     }
 
     // The rest of `Map::row`, or of `Map::column`.
-    fn along(&self, row: bool, at: usize, wanted: usize) -> Result<Pairs, Refusal>
-        ensures { told_pairs result ≡ along_pairs self.now.map row at wanted }
+    fn along(&self, direction: Direction, at: usize, wanted: usize) -> Result<Pairs, Refusal>
+        ensures { told_pairs result ≡ along_pairs self.now.map (is_level direction) at wanted }
     {
         let w = self.map.lines.w;
         let h = self.map.lines.h;
-        if along(row, h, w) < at {
+        if along(direction, h, w) < at {
             return Err(Refusal::Outside);
         }
         if wanted < 1 {
@@ -147,21 +147,22 @@ impl Opened {
         if 65535 < wanted {
             return Err(Refusal::NoPair);
         }
-        self.pairs_along(row, at, wanted).ok_or(Refusal::NoPair)
+        self.pairs_along(direction, at, wanted)
+            .ok_or(Refusal::NoPair)
     }
 
     // The rest of `Map::row`.
     pub fn row(&self, v: usize, wanted: usize) -> Result<Pairs, Refusal>
         ensures { told_pairs result ≡ row_pairs self.now.map v wanted }
     {
-        self.along(true, v, wanted)
+        self.along(Direction::Level, v, wanted)
     }
 
     // The rest of `Map::column`.
     pub fn column(&self, u: usize, wanted: usize) -> Result<Pairs, Refusal>
         ensures { told_pairs result ≡ column_pairs self.now.map u wanted }
     {
-        self.along(false, u, wanted)
+        self.along(Direction::Upright, u, wanted)
     }
 
     // The rest of `Map::set`.

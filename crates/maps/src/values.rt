@@ -17,17 +17,18 @@ use axis::knots::coordinate;
 use axis::shares::corner_of;
 use mesh::{Blend, Table};
 
-// A blend in document 01's coordinates.
-pub(crate) fn shape_of(b: Blend) -> Shape
-    ensures { result ≡ shape b }
-{
-    Shape {
-        l: coordinate(b.across.l),
-        m: coordinate(b.across.m),
-        r: coordinate(b.across.r),
-        b: coordinate(b.up.l),
-        n: coordinate(b.up.m),
-        t: coordinate(b.up.r),
+impl From<Blend> for Shape {
+    ghost from_gives = { λ b s. s ≡ shape b };
+
+    fn from(b: Blend) -> Shape {
+        Shape {
+            l: coordinate(b.across.l),
+            m: coordinate(b.across.m),
+            r: coordinate(b.across.r),
+            b: coordinate(b.up.l),
+            n: coordinate(b.up.m),
+            t: coordinate(b.up.r),
+        }
     }
 }
 
@@ -52,7 +53,7 @@ fn weight_at(b: Blend, x: usize, y: usize, u: usize, v: usize) -> Weight
     ensures { (result ≡ weight_of_blend x y u v b) × Light result }
 {
     Weight {
-        blend: shape_of(b),
+        blend: Shape::from(b),
         numerator: b.across.share_at(x, u) * b.up.share_at(y, v),
         denominator: b.across.gap_at(x) * b.up.gap_at(y),
     }

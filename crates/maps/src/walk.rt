@@ -8,20 +8,21 @@ ghost use Rattle.mesh.specs.Sound.{over_square, blends_of};
 ghost use Rattle.maps.specs.declared.values.Entry.{Entry};
 ghost use Rattle.maps.specs.Values.{reading_at};
 ghost use Rattle.maps.specs.Pairs.{counted_pairs};
-ghost use Rattle.maps.specs.Inner.{with_pair, counted};
+ghost use Rattle.maps.specs.Inner.{is_level, with_pair, counted};
 
 use crate::Pairs;
 use crate::opened::Opened;
 use crate::values::{Entry, four_over, is_over, low_knot, reading_over};
+use mesh::Direction;
 
-// Of two numbers, the one that goes along a row and the one that goes up a column.
-pub(crate) fn along(row: bool, one: usize, other: usize) -> usize
-    ensures { result ≡ cond row one other }
+// Of two numbers, the one for a row, which runs level, and the one for a column, which runs upright.
+pub(crate) fn along(direction: Direction, row: usize, column: usize) -> usize
+    ensures { result ≡ cond (is_level direction) row column }
 {
-    if row {
-        return one;
+    match direction {
+        Direction::Level => row,
+        Direction::Upright => column,
     }
-    other
 }
 
 // Whether four blends all lie over the unit square whose low corner is at knots (x, y).
@@ -51,22 +52,26 @@ fn noted(pairs: Option<Pairs>, k: usize, here: bool, there: bool) -> Option<Pair
 
 impl Opened {
     // The pairs along the row at speed `at`, or up the column at level `at`; none where there is no pair.
-    pub(crate) fn pairs_along(&self, row: bool, at: usize, wanted: usize) -> Option<Pairs>
-        requires { at ≤ cond row self.now.map.lines.h self.now.map.lines.w }
-        ensures { counted result ≡ counted_pairs (turns_from 0 (cond row self.now.map.lines.w self.now.map.lines.h)
-            (λ (k : ℕ). ltb (reading_at (blends_of self.now.table) (take self.now.table.count self.now.map.values) (cond row k at) (cond row at k)) wanted)) }
+    pub(crate) fn pairs_along(
+        &self,
+        direction: Direction,
+        at: usize,
+        wanted: usize,
+    ) -> Option<Pairs>
+        requires { at ≤ cond (is_level direction) self.now.map.lines.h self.now.map.lines.w }
+        ensures { counted result ≡ counted_pairs (turns_from 0 (cond (is_level direction) self.now.map.lines.w self.now.map.lines.h)
+            (λ (k : ℕ). ltb (reading_at (blends_of self.now.table) (take self.now.table.count self.now.map.values) (cond (is_level direction) k at) (cond (is_level direction) at k)) wanted)) }
     {
         let blends = self.table.blends();
         let w = self.map.lines.w;
         let h = self.map.lines.h;
-        let side = along(row, w, h);
+        let side = along(direction, w, h);
         let mut four = four_over(blends, 0, 1, 1);
         let mut last = false;
         let mut pairs = None;
-        let mut k = 0;
-        while k <= side {
-            let u = along(row, k, at);
-            let v = along(row, at, k);
+        for k in 0..=side {
+            let u = along(direction, k, at);
+            let v = along(direction, at, k);
             let x = low_knot(w, u);
             let y = low_knot(h, v);
             if !all_over(&four, x, y) {
@@ -79,7 +84,6 @@ impl Opened {
                 pairs = noted(pairs, k - 1, last, here);
             }
             last = here;
-            k += 1;
         }
         pairs
     }

@@ -1,9 +1,9 @@
 -- `maps::values::reading_over` meets its contract: the four parts are added one after the other.
-use Rattle.std.proofs.Common.{arith, rules, ◌≡◌, ◌+◌, ◌-◌, ◌*◌, ◌/◌, ◌<◌, ◌≤◌, ℕ, zero, suc, List, ◌∷◌, sym, ap, ap₂, ◌∙◌, get_or}
-use Rattle.std.proofs.Math.Nat.{div-le_of_le-mul, mul-add-div_right}
+use Rattle.std.proofs.Common.{arith, ◌≡◌, ◌+◌, ◌-◌, ◌*◌, ◌/◌, ◌<◌, ◌≤◌, ℕ, zero, suc, ◌∷◌, sym, ap, ap₂, ◌∙◌, get_or}
+use Rattle.std.proofs.Math.Nat.{mul-add-div_right}
 use lib.ListN.{drop}
 use lib.Seq.{drop-cons}
-use Rattle.axis.specs.Fraction.{Fraction, plus, total}
+use Rattle.axis.specs.Fraction.{plus, total}
 use Rattle.axis.proofs.Members.{entry}
 use Rattle.mesh.specs.Sound.{none}
 use Rattle.maps.specs.declared.values.Entry.{Entry}

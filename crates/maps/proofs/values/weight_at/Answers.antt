@@ -29,5 +29,5 @@ pub returns : goal.returns
 unfolding weight_at
 returns c =
     let s = small (goal.at.returns c).Start in
-    rw (c.shape_of.ensures, c.share_at.ensures, c.share_at-2.ensures, c.gap_at.ensures, c.gap_at-2.ensures)
+    rw (c.from.ensures, c.share_at.ensures, c.share_at-2.ensures, c.gap_at.ensures, c.gap_at-2.ensures)
     (refl, record { positive = s.1; low = s.2; most = s.0 })

@@ -1,6 +1,5 @@
 -- `maps::opened::Opened::carry` meets its contract.
 use Rattle.std.proofs.Common.{arith, ℕ, List, ◌∷◌, ◌+◌, ◌-◌, ◌≤◌, ◌<◌, ◌≡◌, refl, sym, ap, subst, ◌∙◌, length, get_or, set, take}
-use mathlib.Core.Logic.{◌⊎◌, inl, inr}
 use mathlib.Core.List.{Memᴰ}
 use lib.ListN.{drop}
 use lib.Seq.{get_or-take}
@@ -26,7 +25,7 @@ use Rattle.maps.proofs.Adding.{four_read}
 use Rattle.maps.proofs.OldTable.{old_valued, old_long, count_blends, few_blends, blends_of_lem, values_of, old_table, old_point, rest_turns, rest_ends, filled, fill_more, fill_zero, fill_all}
 use Rattle.maps.proofs.SideBySide.{walking_none, walking_both, walking_new, none_old, kept_same, kept_none}
 use Rattle.maps.proofs.opened.Opened.carry.Goals as goal
-use Rattle.maps.proofs.opened.Opened.carry.Goals.{In-loop-i, After-place, then-j-before, else-j-before, then-place-next, else-place-next}
+use Rattle.maps.proofs.opened.Opened.carry.Goals.{In-loop-i, then-j-old+then-place, else-j-old, else-j-old-via-then-j-old+else-place, else-j-old-via-else-j-old}
 
 -- the old table, and its values, which fit their type
 old_of : (o : Opened) → InTable o.map.lines.w o.map.lines.h o.table o.map.values
@@ -78,36 +77,14 @@ pub loop-i-init : goal.loop-i-init
 loop-i-init c =
     (omega arith, refl, refl, walking_none _ _ (subst (λ (bs : List Blend). Grown bs c.args.new.now) (sym c.blends-old.ensures) c.requires.2))
 
--- the place of the next old blend, or 0 where none is left
-next_is : (c : After-place) → let old = c.blends-old.result.now in
-    ((c.loop-i.j < length old) × (c.if-j-before.next ≡ place (get_or old c.loop-i.j none))) ⊎ ((length old ≤ c.loop-i.j) × (c.if-j-before.next ≡ 0))
-next_is c =
-    elim c.if-j-before.branch [
-      | then-j-before w ↦ inl (w.if-j-before.true, w.next-is ∙ w.place-next.ensures)
-      | else-j-before w ↦ inr (w.if-j-before.false, w.next-is)
-    ]
+-- The next new blend is at none of the old that are left: not at the first of them, or none is left.
+apart : (old : List Blend) (j : ℕ) (x : Blend) → j < length old → (place (get_or old j none) ≡ place x → ⊥) → (y : Blend) (olds : List Blend) →
+    drop j old ≡ y ∷ olds → place y ≡ place x → ⊥
+apart old j x lt other y olds e same =
+    let q = ap (λ (xs : List Blend). get_or xs 0 none) (sym (rest_turns old j lt) ∙ e) in other (ap place q ∙ same)
 
--- the two are at one anchor,
-met : (c : After-place) → Inside c.args.self.now.map.lines.w c.args.self.now.map.lines.h (get_or c.args.new.now c.loop-i.i none) →
-    c.place.result ≡ c.if-j-before.next →
-    let old = c.blends-old.result.now in
-    (c.loop-i.j < length old) × (place (get_or old c.loop-i.j none) ≡ place (get_or c.args.new.now c.loop-i.i none))
-met c k same =
-    elim (next_is c) [
-      | inl r ↦ (r.0, sym r.1 ∙ sym same ∙ c.place.ensures)
-      | inr r ↦ absurd (omega (arith, c.place.ensures))
-    ]
-
--- or the next new one is at none of the old
-apart : (c : After-place) → (c.place.result ≡ c.if-j-before.next → ⊥) → (y : Blend) (olds : List Blend) → drop c.loop-i.j c.blends-old.result.now ≡ y ∷ olds →
-    place y ≡ place (get_or c.args.new.now c.loop-i.i none) → ⊥
-apart c other y olds e same =
-    elim (next_is c) [
-      | inl r ↦
-          let q = ap (λ (xs : List Blend). get_or xs 0 none) (sym (rest_turns c.blends-old.result.now c.loop-i.j r.0) ∙ e) in
-          other (c.place.ensures ∙ sym same ∙ ap place (sym q) ∙ sym r.1)
-      | inr r ↦ let q = ap length (sym (rest_ends c.blends-old.result.now c.loop-i.j r.0) ∙ e) in omega arith
-    ]
+ended : (old : List Blend) (j : ℕ) (x : Blend) → length old ≤ j → (y : Blend) (olds : List Blend) → drop j old ≡ y ∷ olds → place y ≡ place x → ⊥
+ended old j x le y olds e same = let q = ap length (sym (rest_ends old j le) ∙ e) in omega arith
 
 -- The point of the next blend's anchor, and the reading there by the four old blends over its square.
 module _ (o : Opened) {B : Blend} (k : Inside o.map.lines.w o.map.lines.h B) where
@@ -126,14 +103,10 @@ module _ (o : Opened) {B : Blend} (k : Inside o.map.lines.w o.map.lines.h B) whe
       (rw is at e))
 
 pub bounds-values-j : goal.bounds-values-j
-bounds-values-j c =
-    let at = goal.at.bounds-values-j c in
-    omega (arith, (met at.After-place (inside at.In-loop-i) c.if-place-next.true).0, (before at.In-loop-i).1)
+bounds-values-j c = omega (arith, c.if-j-old.true, (before (goal.at.bounds-values-j c).In-loop-i).1)
 
 pub bounds-marks-j : goal.bounds-marks-j
-bounds-marks-j c =
-    let at = goal.at.bounds-marks-j c in
-    omega (arith, (met at.After-place (inside at.In-loop-i) c.if-place-next.true).0, (before at.In-loop-i).1)
+bounds-marks-j c = omega (arith, c.if-j-old.true, (before (goal.at.bounds-marks-j c).In-loop-i).1)
 
 pub overflow_sub-m : goal.overflow_sub-m
 overflow_sub-m c = let k = inside (goal.at.overflow_sub-m c).In-loop-i in omega (arith, c.from-m.ensures)
@@ -208,23 +181,29 @@ loop-i-preserved c =
     let n = length old in
     let vs = take n o.map.values in
     let ms = take n o.map.marks in
-    elim c.if-place-next.branch [
-      | then-place-next w ↦
-          let both = met at.After-place k w.if-place-next.true in
-          let old_turn = rest_turns old l.j both.0 in
+    elim c.if-j-old.branch [
+      | then-j-old+then-place w ↦
+          let lt = w.if-j-old.true in
+          let same_place = sym w.place.ensures ∙ w.if-place.true ∙ w.place-then-j-old.ensures in
+          let old_turn = rest_turns old l.j lt in
           let old_ok = all_at (proper L.w L.h) (blends_of o.table) (old_table (old_of o)).0 (next_old t)
-          (subst (λ (bs : List Blend). Memᴰ (next_old t) bs) c.blends-old.ensures (entry old l.j none both.0)) in
+          (subst (λ (bs : List Blend). Memᴰ (next_old t) bs) c.blends-old.ensures (entry old l.j none lt)) in
           let old_up = (proper_facts L.w L.h (next_old t) old_ok).up in
           let sides = (old_of o).sides in
           let same : (xs : List ℕ) (new : ℕ) → kept_or new old xs (next t) ≡ get_or xs l.j 0 =
-          λ xs new. kept_same old g.rising xs new (next t) k.up_most l.j (next_old t) _ both.0 old_turn both.1 (omega arith) in (
-            omega (arith, w.j-is, both.0),
-            w.carried-is ∙ fill t (carried old vs) _ _ l.invariant.1 (sym (get_or-take n o.map.values l.j 0 both.0) ∙ sym (same vs _)),
-            w.kept-is ∙ fill t (kept_mark old ms) _ _ l.invariant.2 (sym (get_or-take n o.map.marks l.j 0 both.0) ∙ sym (same ms 0)),
-            rw w.j-is (walking_both _ _ g l.invariant.3 (turn t) old_turn both.1),
+          λ xs new. kept_same old g.rising xs new (next t) k.up_most l.j (next_old t) _ lt old_turn same_place (omega arith) in (
+            omega (arith, w.j-is, lt),
+            w.carried-is ∙ fill t (carried old vs) _ _ l.invariant.1 (sym (get_or-take n o.map.values l.j 0 lt) ∙ sym (same vs _)),
+            w.kept-is ∙ fill t (kept_mark old ms) _ _ l.invariant.2 (sym (get_or-take n o.map.marks l.j 0 lt) ∙ sym (same ms 0)),
+            rw w.j-is (walking_both _ _ g l.invariant.3 (turn t) old_turn same_place),
           )
-      | else-place-next w ↦
-          let other = apart at.After-place w.if-place-next.false in
+      | else-j-old w ↦
+          let other : (y : Blend) (olds : List Blend) → drop l.j old ≡ y ∷ olds → place y ≡ place (next t) → ⊥ =
+          elim w.else-j-old.branch [
+            | else-j-old-via-then-j-old+else-place v ↦
+                apart old l.j (next t) v.if-j-old.true (λ e. v.if-place.false (v.place.ensures ∙ e ∙ sym v.place-then-j-old.ensures))
+            | else-j-old-via-else-j-old v ↦ ended old l.j (next t) v.if-j-old.false
+          ] in
           let reads = w.reading_over.ensures ∙
           taken o k c.blends-old.ensures w.from-m.ensures w.from-n.ensures w.low_knot-a.ensures.0 w.low_knot-b.ensures.0
           w.four_over-four.result w.four_over-four.ensures in

@@ -23,4 +23,4 @@ pub bounds-self-i-3 : goal.bounds-self-i-3
 bounds-self-i-3 c = omega (arith, few (good_opened c.args.self.now))
 
 pub returns : goal.returns
-returns c = rw (c.shape_of.ensures, c.from.ensures, c.from-2.ensures) (place_some (good_opened c.args.self.now) _ c.if-self-i.false)
+returns c = rw (c.from.ensures, c.from-2.ensures, c.from-3.ensures) (place_some (good_opened c.args.self.now) _ c.if-self-i.false)
