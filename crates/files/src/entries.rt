@@ -1,28 +1,16 @@
 // The entries of a map's file: a split's numbers, and a value at its anchor.
-ghost use Rattle.std.specs.Prelude.{◌≡◌, [], ◌∷◌, length, take};
-ghost use Rattle.axis.specs.Limits.{most_splits, most_blends};
+ghost use Rattle.std.specs.Prelude.{◌≡◌, [], ◌∷◌, take};
 ghost use Rattle.mesh.specs.Sound.{Proper};
 ghost use Rattle.maps.specs.Record.{Full};
 
 use crate::bytes::{Kind, has_entry, put_entry};
-use maps::Map;
 use maps::opened::Opened;
-use mesh::{Blend, Split, Table};
-
-// Arrays have all their places: a proof learns that where an array is lent by itself, and not behind a struct.
-fn all_places(
-    splits: &[Split; Map::MOST_SPLITS],
-    values: &[u16; Table::MOST_BLENDS],
-    marks: &[u8; Table::MOST_BLENDS],
-)
-    ensures { (length splits.now ≡ most_splits) × (length values.now ≡ most_blends) × (length marks.now ≡ most_blends) }
-{}
+use mesh::{Blend, Split};
 
 // The splits of an opened map.
 pub(crate) fn drawn(o: &Opened) -> &[Split]
     ensures { (result.now ≡ take o.now.map.lines.count o.now.map.lines.splits) × Full o.now.map }
 {
-    all_places(&o.map.lines.splits, &o.map.values, &o.map.marks);
     &o.map.lines.splits[..o.map.lines.count]
 }
 
