@@ -15,12 +15,13 @@ use Rattle.axis.proofs.Padding.{padding_passes}
 use Rattle.maps.specs.Outcomes.{Changed}
 use Rattle.maps.specs.Plain.{Plain, fresh_plain}
 use Rattle.maps.specs.Record.{is_mark, lines_of, record_of, Held, plain, good}
-use Rattle.maps.specs.Opened.{table_of}
+use Rattle.maps.specs.Opened.{IsTable, table_of}
 use Rattle.maps.specs.Holds.{Holds}
 use Rattle.maps.proofs.Opening.{good_passes}
 use Rattle.maps.proofs.GoodRecords.{record_good, fresh_holds}
 use Rattle.mesh.proofs.Accepted.{replays_short}
 use Rattle.maps.proofs.Changing.{GoodMap, opened_map}
+use Rattle.maps.proofs.StaysOpened.{good_opens}
 use Rattle.files.specs.File.{value_size, word_at, split_count, is_old, guessed}
 use Rattle.files.specs.Calls.{read_file}
 use Rattle.files.proofs.Words.{is_byte, file_bytes, all_places, word_small}
@@ -105,5 +106,8 @@ pub map_held : (bytes : List ℕ) → Held (read_file bytes).map
 map_held bytes = let h = read_holds bytes in rw h.is (all_held h.holds h.small)
 
 -- so it has its table.
+pub read_opens : (bytes : List ℕ) → IsTable (read_file bytes).map (table_of (read_file bytes).map)
+read_opens bytes = good_opens (read_good bytes)
+
 pub read_map : (bytes : List ℕ) → GoodMap (read_file bytes).map (table_of (read_file bytes).map)
-read_map bytes = opened_map (record { is_good = read_good bytes; is_table = refl }) (map_held bytes).full
+read_map bytes = opened_map (read_opens bytes) (map_held bytes).full

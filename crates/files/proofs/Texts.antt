@@ -33,6 +33,21 @@ module _ (before : List ℕ) (at : ℕ) (xs ys : List ℕ) (room : at + length (
           ends = rw (q.ends, p.ends, length-append) (omega arith);
         }
 
+-- The same of three texts.
+module _ (before : List ℕ) (at : ℕ) (xs ys zs : List ℕ) (room : at + length (xs ++ ys ++ zs) ≤ length before) where
+  pub two_room : at + length (xs ++ ys) ≤ length before
+  two_room = first_room before at (xs ++ ys) zs room
+
+  module _ {first second : List ℕ} {n o : ℕ} (p : Puts before at xs first n) (q : Puts first n ys second o) where
+    two : Puts before at (xs ++ ys) second o
+    two = puts_then before at xs ys two_room p q
+
+    pub third_room : o + length zs ≤ length second
+    third_room = next_room before at (xs ++ ys) zs room two
+
+    pub puts_three : {third : List ℕ} {end : ℕ} → Puts second o zs third end → Puts before at (xs ++ ys ++ zs) third end
+    puts_three = puts_then before at (xs ++ ys) zs room two
+
 -- The same of texts that are put into lent bytes.
 module _ (before : Text) (xs ys : List ℕ) (room : Room before (xs ++ ys)) where
   pub text_first : Room before xs

@@ -112,8 +112,8 @@ pub good_map : {m : Map} {t : Table} → IsTable m t → (vs : List Val) → sha
 good_map {m} o vs p = opened_map o (full m vs p)
 
 -- so each opened one is
-pub good_opened : (o : Opened) → GoodMap o.map o.table
-good_opened o = opened_map o.opens o.held.full
+pub open_map : (o : Opened) → GoodMap o.map o.table
+open_map o = opened_map o.opens o.held.full
 
 -- A record that keeps to its arrays: the blank one, one with a value set, and one with other arrays.
 set_small : (xs : List ℕ) (k v : ℕ) → k < length xs → v < 65536 → ((i : ℕ) → get_or xs i 0 < 65536) → (i : ℕ) → get_or (set xs k v) i 0 < 65536

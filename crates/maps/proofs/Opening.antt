@@ -25,7 +25,8 @@ use Rattle.axis.proofs.Tests.{either, same_test, false_of, and_both, cond_true}
 use Rattle.maps.specs.declared.Map.{Map}
 use Rattle.maps.specs.Plain.{blends}
 use Rattle.maps.specs.Record.{is_no_split, is_zero, is_mark, plain, good}
-use Rattle.maps.specs.Opened.{table_of}
+use Rattle.maps.specs.Calls.{changed}
+use Rattle.maps.specs.Opened.{table_of, opened}
 
 pub record Passes (m : Map) : Type 0 where
   pub accepted? : replays m.lines ≡ true
@@ -52,6 +53,11 @@ module _ (m : Map) where
   -- a record that fails a test is not good
   pub fails_good : (Passes m → ⊥) → good m ≡ false
   fails_good f = false_of (good m) (λ e. f (good_passes e))
+
+  -- and one that passes them all is opened
+  pub is_opened : Passes m → opened m ≡ changed 0 m
+  unfolding opened
+  is_opened p = rw (passes_good p)
 
   pub good_table : good m ≡ true → table_of m ≡ table (blends (plain m))
   unfolding table_of

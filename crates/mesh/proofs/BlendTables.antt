@@ -2,21 +2,22 @@
 use Prim.Native.Nat.{ℕ, ◌+◌, ◌-◌, ◌≤◌, ◌<◌}
 use mathlib.Core.Path.{◌≡◌, refl, ap, ◌∙◌}
 use mathlib.Core.Bool.{true}
-use mathlib.Core.List.{List, [], ◌∷◌, ◌++◌}
+use native.Mathlib.Omega.{arith}
+use mathlib.Core.List.{List, [], ◌∷◌, ◌++◌, Memᴰ}
 use lib.ListN.{length, get_or, drop, replicate}
 use lib.Seq.{take-append_seam}
 use Rattle.std.proofs.lemmas.List.{drop-replicate}
 use mir.Val.{Val}
 use denote.Shadow.{shadow}
 use denote.Struct.Declared.{row}
-use Rattle.axis.specs.Limits.{most_splits, most_blends}
+use Rattle.axis.specs.Limits.{largest_side, most_splits, most_blends}
 use Rattle.axis.specs.Range.{all}
 use Rattle.mesh.specs.Sound.{proper, Proper, none, table, blends_of}
 use Rattle.mesh.specs.declared.Blend.{Blend}
 use Rattle.mesh.specs.declared.Table.{Table}
 use Rattle.mesh.specs.declared.Lines.{Lines}
 use Rattle.axis.proofs.Tests.{all_at, all_of}
-use Rattle.axis.proofs.Entries.{none_left, left_turn}
+use Rattle.axis.proofs.Entries.{none_left, left_turn, left_mem}
 use Rattle.mesh.specs.contracts.Table as tables
 use Rattle.mesh.specs.contracts.Lines as lines
 use Rattle.mesh.proofs.Cuts.{proper_facts, proper_wider, proper_of}
@@ -52,6 +53,23 @@ module _ (t : Table) (i : ℕ) where
 
   pub blends_end : t.count ≤ i → drop i (blends_of t) ≡ []
   blends_end = none_left t.blends t.count i
+
+  -- the next one with those behind it, that it is one of them, and that it is proper, as all of them are
+  pub record Next : Type 0 where
+    pub turn : drop i (blends_of t) ≡ get_or t.blends i none ∷ drop (i + 1) (blends_of t)
+    pub there : Memᴰ (get_or t.blends i none) (blends_of t)
+    pub proper : Proper (get_or t.blends i none)
+
+  pub next_blend : length t.blends ≡ most_blends → t.count ≤ most_blends → all (proper largest_side largest_side) (blends_of t) ≡ true →
+      i < t.count → Next
+  next_blend full few e lt =
+      let le : t.count ≤ length t.blends = omega arith in
+      let there = left_mem t.blends t.count i le none lt in
+      record {
+        turn = blends_turn lt le;
+        there = there;
+        proper = proper_facts _ _ _ (all_at (proper largest_side largest_side) (blends_of t) e _ there);
+      }
 
 -- blends at the front of unused places
 pub listed : (bs front : List Blend) → front ≡ bs →

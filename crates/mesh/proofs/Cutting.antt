@@ -109,6 +109,15 @@ module _ {M : Mesh} {d : Direction} {x : Blend} {z : ℕ} (F : Found M d x z) wh
       let less = put_smaller s t h in
       (half_ahead tried n less e, less.proper, λ q. absurd (true_not_false _ q refl), less.within.across.hi, less.within.up.hi)
 
+  pub cut_halves : (tried : Bool) (t u : Triple) (p q r : List ℕ) → (tried ≡ true → cutter M (other d) x ≡ 0) →
+      t ≡ half lower z (crossed d x) → u ≡ half upper z (crossed d x) →
+      Cut M (other d) (put d x t) p q → Cut M (other d) (put d x u) q r → Cut M (cond tried (other d) d) x p r
+  cut_halves tried t u p q r none e e' first second zero le = absurd (omega (arith, (put_smaller lower t e).less))
+  cut_halves tried t u p q r none e e' first second (suc f) le =
+      second f (omega (arith, (put_smaller upper u e').less))
+      ∙ ap (λ (l : List ℕ). keep_all l (leaves f M (other d) (put d x u))) (first f (omega (arith, (put_smaller lower t e).less)))
+      ∙ rw (leaves_cut f M d x tried (λ q. F.some (F.is ∙ q)) none, keep_all_append, put_half d lower z x t e, put_half d upper z x u e', F.is)
+
   pub handed_more : (ss : List Side) (i : ℕ) (t : Triple) (p q r : List ℕ) → i < length ss → t ≡ half (get_or ss i lower) z (crossed d x) →
       Handed M d x ss i p q → Cut M (other d) (put d x t) q r → Handed M d x ss (i + 1) p r
   handed_more ss i t p q r lt e first next f le =

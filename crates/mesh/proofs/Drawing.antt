@@ -5,10 +5,10 @@ use mathlib.Core.Path.{◌≡◌, refl, sym, ap, ◌∙◌}
 use mathlib.Core.Logic.{⊎_elim}
 use mathlib.Core.Bool.{Bool, true, false, ◌&&◌, ◌||◌, or-false, or_assoc, and-true, and-false, and-or_distrib_right}
 use mathlib.Core.List.{List, [], ◌∷◌, ◌++◌}
-use borrow.Author.Tests.{ltb-true, leb-true, eqb-true, lt-ltb, le-leb, eq-eqb, ne_eqb}
+use borrow.Author.Tests.{ltb-true, leb-true, eqb-true, eqb-false, lt-ltb, le-leb, eq-eqb, ne_eqb}
 use lib.Dec.{eqb, ltb, leb, leb-zero}
-use lib.ListN.{length, get_or, take, drop, replicate, length-take, length-replicate, get_or-append}
-use lib.Seq.{get_or-take, get_or-append_right}
+use lib.ListN.{length, get_or, set, take, drop, replicate, length-set, length-take, length-replicate, get_or-append}
+use lib.Seq.{get_or-take, get_or-append_right, get_or-set_same, get_or-set_other}
 use Rattle.std.proofs.lemmas.List.{length-append, length-drop, get_or-drop, get_or-replicate}
 use Rattle.axis.specs.Range.{any}
 use Rattle.mesh.specs.Lines.{number, other, side, start, end, draws, fresh_mesh}
@@ -16,7 +16,7 @@ use Rattle.mesh.specs.declared.Direction.{Direction}
 use Rattle.mesh.specs.Bytes.{Rows, Zeros, step_on, Drawn}
 use Rattle.mesh.specs.Blends.{at}
 use Rattle.mesh.specs.declared.Split.{Split}
-use Rattle.axis.proofs.Tests.{any_append, either, and_both, and_of, or_right, true_not_false}
+use Rattle.axis.proofs.Tests.{any_append, either, same_test, and_both, and_of, or_either, or_left, or_right, true_not_false}
 use Rattle.axis.proofs.Runs.{if_below}
 use Rattle.mesh.proofs.Bytes.{step_on_lem, zeros}
 
@@ -32,6 +32,58 @@ step_same : (before after : List ℕ) (y j : ℕ) →
 unfolding step_on
 step_same before after y j same =
     guarded (ltb y 131) (ltb j 131) _ _ (λ p q. rw (same (ltb-true y 131 p) (ltb-true j 131 q)))
+
+-- Places of the table are one-to-one, so a store at one switches on its own step and no other.
+pub step_set : (bytes : List ℕ) (z k : ℕ) → Rows (z + 1) bytes → z < 131 → k < 131 → (y j : ℕ) →
+    step_on (set bytes (at z k) 1) y j ≡ (step_on bytes y j || (eqb y z && eqb j k))
+step_set bytes z k room hz hk y j =
+    ⊎_elim
+    (λ e. here e ∙ sym (or_right (step_on bytes y j) _ e))
+    (λ e. elsewhere e ∙ sym (rw e (or-false (step_on bytes y j))))
+    (either (eqb y z && eqb j k))
+  where
+    here : (eqb y z && eqb j k) ≡ true → step_on (set bytes (at z k) 1) y j ≡ true
+    here e =
+        let p = and_both (eqb y z) (eqb j k) e in
+        let one : get_or (set bytes (at z k) 1) (at z k) 0 ≡ 1 = get_or-set_same bytes (at z k) 1 0 (omega arith) in
+        rw (eqb-true y z p.0, eqb-true j k p.1)
+        (step_on_lem (set bytes (at z k) 1) z k hz hk (λ q. omega arith))
+
+    elsewhere : (eqb y z && eqb j k) ≡ false → step_on (set bytes (at z k) 1) y j ≡ step_on bytes y j
+    elsewhere e =
+        let apart : y < 131 → j < 131 → at y j ≡ at z k → ⊥ =
+        λ hy hj q. true_not_false _ (and_of _ _ (eq-eqb y z (omega arith)) (eq-eqb j k (omega arith))) e in
+        step_same bytes (set bytes (at z k) 1) y j (λ hy hj. get_or-set_other bytes (at z k) (at y j) 1 0 (apart hy hj))
+
+-- a line drawn as far as knot k, and the step from k besides
+pub drawn_more : {before after : List ℕ} {z from k : ℕ} → Drawn before after z from k → from ≤ k → z < 131 → k < 131 → Rows (z + 1) before →
+    Drawn before (set after (at z k) 1) z from (k + 1)
+drawn_more {before} {after} {z} {from} {k} d hf hz hk room =
+    record {
+      long = rw length-set d.long;
+      on = λ y j.
+          rw (step_set after z k (rw d.long room) hz hk y j, d.on y j, or_assoc, spread _ _ _ _ (past j), next j);
+    }
+  where
+    past : (j : ℕ) → eqb j k ≡ true → leb from j ≡ true
+    past j e = let q = eqb-true j k e in le-leb from j (omega arith)
+
+    next : (j : ℕ) → ltb j (k + 1) ≡ (ltb j k || eqb j k)
+    next j =
+        same_test _ _
+        (λ e. let lt = ltb-true j (k + 1) e in
+        ⊎_elim
+        (λ q. or_right (ltb j k) (eqb j k) q)
+        (λ q. let ne = eqb-false j k q in or_left (ltb j k) (eqb j k) (lt-ltb j k (omega arith)))
+        (either (eqb j k)))
+        (λ e. lt-ltb j (k + 1)
+        (⊎_elim (λ q. omega (arith, ltb-true j k q)) (λ q. omega (arith, eqb-true j k q)) (or_either (ltb j k) (eqb j k) e)))
+
+    spread : (a b c e : Bool) → (e ≡ true → b ≡ true) → (a && b && c || a && e) ≡ (a && b && (c || e))
+    spread true true c e f = refl
+    spread true false c true f = sym (f refl)
+    spread true false c false f = refl
+    spread false b c e f = refl
 
 -- A list of which n entries from the a-th on were set: as it was below and past these.
 abbrev pub filled : List ℕ → ℕ → ℕ → ℕ → List ℕ
@@ -133,6 +185,14 @@ pub all_fresh : {bytes : List ℕ} {n crossed run : ℕ} → AllDrawn bytes n (0
     (d : Direction) (w h : ℕ) → side d w h ≡ crossed → side (other d) w h ≡ run → (y k : ℕ) → step_on bytes y k ≡ fresh_mesh w h d y k
 unfolding fresh_mesh
 all_fresh {bytes} {n} {crossed} {run} a d w h across along y k = a.on y k ∙ rw (across, along, or-false (eqb y (crossed + 2))) (simp (or_assoc))
+
+-- four lines over no steps, as a fresh map has them
+pub fresh_drawn : {b₀ b₁ b₂ b₃ b₄ : List ℕ} {p q r s to : ℕ} → Zeros b₀ →
+    Drawn b₀ b₁ p 0 to → Drawn b₁ b₂ q 0 to → Drawn b₂ b₃ r 0 to → Drawn b₃ b₄ s 0 to →
+    (y k : ℕ) → step_on b₄ y k ≡ ((eqb y p || eqb y q || eqb y r || eqb y s) && ltb k to)
+fresh_drawn {b₀} none d₁ d₂ d₃ d₄ y k =
+    rw (d₄.on y k, d₃.on y k, d₂.on y k, d₁.on y k, off b₀ none y k, leb-zero k)
+    (simp (and-true, and-or_distrib_right))
 
 -- A split's line, from its first knot to its last, is what the split draws; a split of the other direction draws nothing.
 module _ (s : Split) (d : Direction) (w h : ℕ) where

@@ -1,4 +1,5 @@
 pub mod Refusals
+pub mod Coordinates
 pub mod Changing
 pub mod Histories
 pub mod Demand3

@@ -1,7 +1,7 @@
 -- What a refusal leaves and what an accepted call gives.
 use Prim.Native.Nat.{ℕ}
 use native.Mathlib.Omega.{arith}
-use mathlib.Core.Path.{◌≡◌, ap, ◌∙◌}
+use mathlib.Core.Path.{◌≡◌, sym, ap, ◌∙◌}
 use mathlib.Core.Logic.{⊎_elim}
 use mathlib.Core.Bool.{true, false}
 use borrow.Author.Tests.{leb-true, leb-false, le-leb}
@@ -42,3 +42,15 @@ none_refuses a b c e =
     not_first a c e =
         ⊎_elim (λ (t : leb 1 a ≡ true). let z : a ≡ 0 = rw t at e in absurd (omega (arith, leb-true 1 a t)))
         (λ (f : leb 1 a ≡ false). let le = leb-false 1 a f in (omega arith, rw f at e)) (either (leb 1 a))
+
+-- the first two of three checks: one of them refuses, or the third one tells
+module _ (a b c : ℕ) {n : ℕ} (is : n ≡ first_of a b 0) where
+  pub two_refuse : (n ≡ 0 → ⊥) → n ≡ first_of a b c
+  two_refuse ne =
+      ⊎_elim (λ (t : leb 1 a ≡ true). is ∙ rw t)
+      (λ (f : leb 1 a ≡ false).
+      ⊎_elim (λ (t : leb 1 b ≡ true). is ∙ rw (f, t)) (λ (g : leb 1 b ≡ false). absurd (ne (is ∙ rw (f, g)))) (either (leb 1 b)))
+      (either (leb 1 a))
+
+  pub third_tells : n ≡ 0 → c ≡ first_of a b c
+  third_tells z = let none = none_refuses a b 0 (sym is ∙ z) in rw (none.0, none.1)

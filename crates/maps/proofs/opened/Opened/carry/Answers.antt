@@ -18,7 +18,7 @@ use Rattle.maps.specs.Rounding.{rounded}
 use Rattle.maps.specs.Values.{kept_or, carried, kept_mark, reading_at}
 use Rattle.maps.specs.Inner.{InTable, AtPoint, Grown, entries_over, portions, carried_arrays}
 use Rattle.maps.specs.Holds.{Valued}
-use Rattle.maps.proofs.Changing.{good_opened, few, in_table}
+use Rattle.maps.proofs.Changing.{open_map, few, in_table}
 use Rattle.maps.proofs.Readings.{reading_most}
 use Rattle.maps.proofs.OverSquare.{all_listed}
 use Rattle.maps.proofs.Adding.{four_read}
@@ -29,7 +29,7 @@ use Rattle.maps.proofs.opened.Opened.carry.Goals.{In-loop-i, then-j-old+then-pla
 
 -- the old table, and its values, which fit their type
 old_of : (o : Opened) → InTable o.map.lines.w o.map.lines.h o.table o.map.values
-old_of o = in_table (good_opened o)
+old_of o = in_table (open_map o)
 
 valued : (o : Opened) → Valued (old_of o).of
 valued o = old_valued (old_of o) o.held.full.values o.held.small
@@ -71,7 +71,7 @@ before c =
     let old = old_of c.args.self.now in (ap length c.blends-old.ensures ∙ count_blends old, rw c.blends-old.ensures (few_blends old))
 
 pub blends-old-requires : goal.blends-old-requires
-blends-old-requires c = few (good_opened c.args.self.now)
+blends-old-requires c = few (open_map c.args.self.now)
 
 pub loop-i-init : goal.loop-i-init
 loop-i-init c =

@@ -5,7 +5,7 @@ use Rattle.axis.specs.Range.{turns_from}
 use Rattle.mesh.specs.Sound.{over_square, blends_of}
 use Rattle.maps.specs.Pairs.{counted_pairs}
 use Rattle.maps.specs.Inner.{AtPoint, is_level, entries_over, counted}
-use Rattle.maps.proofs.Changing.{good_opened, few, in_table}
+use Rattle.maps.proofs.Changing.{open_map, few, in_table}
 use Rattle.maps.proofs.OldTable.{few_blends, old_long, old_table, old_point}
 use Rattle.maps.proofs.OverSquare.{four_over, all_listed, entries_length}
 use Rattle.maps.proofs.Adding.{four_read}
@@ -15,11 +15,11 @@ use Rattle.maps.proofs.opened.Opened.pairs_along.Goals as goal
 use Rattle.maps.proofs.opened.Opened.pairs_along.Goals.{After-along-v, Joined-not-all_over, then-not-all_over, else-not-all_over, Joined-k-gt0, then-k-gt0, else-k-gt0}
 
 pub blends-blends-requires : goal.blends-blends-requires
-blends-blends-requires c = few (good_opened c.args.self.now)
+blends-blends-requires c = few (open_map c.args.self.now)
 
 pub four_over-four-requires : goal.four_over-four-requires
 four_over-four-requires c =
-    let t = (in_table (good_opened c.args.self.now)) in
+    let t = (in_table (open_map c.args.self.now)) in
     let s = t.sides in
     rw c.blends-blends.ensures (few_blends t, four_over _ _ _ (old_table t).1 1 1 (omega arith) (omega arith) (omega arith) (omega arith))
 
@@ -41,7 +41,7 @@ here : (c : After-along-v) → AtPoint c.args.self.now.map.lines.w c.args.self.n
 here c =
     let a = c.args in
     let p = in_walk (is_level a.direction) a.self.now.map.lines.w a.self.now.map.lines.h c.loop-k.k a.at (rw c.along-side.ensures at c.loop-k-test.true) c.requires in
-    old_point (in_table (good_opened c.args.self.now)) _ _ (rw c.along-u.ensures p.0) (rw c.along-v.ensures p.1)
+    old_point (in_table (open_map c.args.self.now)) _ _ (rw c.along-u.ensures p.0) (rw c.along-v.ensures p.1)
 
 pub low_knot-x-requires : goal.low_knot-x-requires
 low_knot-x-requires c = let p = here (goal.at.low_knot-x-requires c).After-along-v in (p.3, p.4, p.7)
@@ -52,7 +52,7 @@ low_knot-y-requires c = let p = here (goal.at.low_knot-y-requires c).After-along
 pub four_over-four-requires-then-not-all_over : goal.four_over-four-requires-then-not-all_over
 four_over-four-requires-then-not-all_over c =
     let p = here (goal.at.four_over-four-requires-then-not-all_over c).After-along-v in
-    rw (c.blends-blends.ensures, c.low_knot-x.ensures.0, c.low_knot-y.ensures.0) (few_blends (in_table (good_opened c.args.self.now)), p.2)
+    rw (c.blends-blends.ensures, c.low_knot-x.ensures.0, c.low_knot-y.ensures.0) (few_blends (in_table (open_map c.args.self.now)), p.2)
 
 -- the four blends over its square
 over : (c : Joined-not-all_over) → AtPoint c.args.self.now.map.lines.w c.args.self.now.map.lines.h c.args.self.now.table c.along-u.result c.along-v.result →
@@ -86,7 +86,7 @@ overflow_add-v c = let p = here (goal.at.overflow_add-v c).After-along-v in omeg
 
 pub noted-pairs-requires : goal.noted-pairs-requires
 noted-pairs-requires c =
-    let t = (in_table (good_opened c.args.self.now)) in
+    let t = (in_table (open_map c.args.self.now)) in
     let side = side_most (is_level c.args.direction) _ _ t.sides.1 t.sides.3 in
     (omega (arith, c.along-side.ensures), c.loop-k.invariant.some)
 
@@ -100,7 +100,7 @@ is_here : (c : Joined-k-gt0) → AtPoint c.args.self.now.map.lines.w c.args.self
 is_here c p four =
     let o = c.args.self.now in
     let read = c.reading_over-litres.ensures ∙
-    four_read _ _ o.table o.map.values _ _ p (old_long (in_table (good_opened o))) (omega arith) _ _ c.low_knot-x.ensures.0 c.low_knot-y.ensures.0
+    four_read _ _ o.table o.map.values _ _ p (old_long (in_table (open_map o))) (omega arith) _ _ c.low_knot-x.ensures.0 c.low_knot-y.ensures.0
     c.if-not-all_over.four four in
     rw (read, c.along-u.ensures, c.along-v.ensures)
 

@@ -12,19 +12,19 @@ use Rattle.maps.specs.Sameness.{same_plain}
 use Rattle.maps.specs.declared.Map.{Map}
 use Rattle.maps.specs.Plain.{blends}
 use Rattle.maps.specs.Record.{plain}
-use Rattle.maps.proofs.Changing.{good_opened, few, live_blends, live_values}
+use Rattle.maps.proofs.Changing.{open_map, few, live_blends, live_values}
 use Rattle.maps.proofs.SameMaps.{both_good, same_count, equal_agree}
 use Rattle.maps.proofs.opened.Opened.same.Goals as goal
 use Rattle.maps.proofs.opened.Opened.same.Goals.{Joined-self-other, then-self-other, else-self-other, then-self-other-2, else-self-other-2, Joined-self-other-2}
 
 pub blends-requires : goal.blends-requires
-blends-requires c = few (good_opened c.args.self.now)
+blends-requires c = few (open_map c.args.self.now)
 
 pub blends-requires-then-self-other-2 : goal.blends-requires-then-self-other-2
-blends-requires-then-self-other-2 c = few (good_opened c.args.other.now)
+blends-requires-then-self-other-2 c = few (open_map c.args.other.now)
 
 pub shared_ref_as_front-eq : goal.shared_ref_as_front-eq
-shared_ref_as_front-eq c = few (good_opened c.args.self.now)
+shared_ref_as_front-eq c = few (open_map c.args.self.now)
 
 -- the sides,
 sides : (c : Joined-self-other) → let m = c.args.self.now.map.lines in let n = c.args.other.now.map.lines in
@@ -53,7 +53,7 @@ with_blends c =
 told : (c : Joined-self-other-2) → let m = c.args.self.now.map in let n = c.args.other.now.map in
     c.if-self-other.value ≡ (eqb m.lines.w n.lines.w && eqb m.lines.h n.lines.h) →
     c.if-self-other-2.value ≡ (eqb m.lines.w n.lines.w && eqb m.lines.h n.lines.h && agree same (blends (plain m)) (blends (plain n)))
-told c e = rw (e, live_blends (good_opened c.args.self.now), live_blends (good_opened c.args.other.now)) at (with_blends c)
+told c e = rw (e, live_blends (open_map c.args.self.now), live_blends (open_map c.args.other.now)) at (with_blends c)
 
 same_is : (m n : Map) {blends_same values_same told : Bool} →
     blends_same ≡ (eqb m.lines.w n.lines.w && eqb m.lines.h n.lines.h && agree same (blends (plain m)) (blends (plain n))) →
@@ -64,8 +64,8 @@ same_is m n e f g = g ∙ ap₂ ◌&&◌ e f
 pub returns-then-eq : goal.returns-then-eq
 returns-then-eq c =
     let at = goal.at.returns-then-eq c in
-    let p = good_opened c.args.self.now in
-    let q = good_opened c.args.other.now in
+    let p = open_map c.args.self.now in
+    let q = open_map c.args.other.now in
     let whole = told at.Joined-self-other-2 (sides at.Joined-self-other) in
     let n = same_count p q (rw (live_blends p, live_blends q) (and_both _ _ (sym whole ∙ c.if-eq.true)).1) in
     let k = c.args.self.now.table.count in
@@ -75,6 +75,6 @@ returns-then-eq c =
 pub returns-else-eq : goal.returns-else-eq
 returns-else-eq c =
     let at = goal.at.returns-else-eq c in
-    let p = good_opened c.args.self.now in
-    let q = good_opened c.args.other.now in
+    let p = open_map c.args.self.now in
+    let q = open_map c.args.other.now in
     both_good _ _ p.is_good q.is_good _ (same_is _ _ (told at.Joined-self-other-2 (sides at.Joined-self-other)) refl (rw c.if-eq.false refl))

@@ -7,13 +7,13 @@ use Rattle.maps.specs.Calls.{weight_over}
 use Rattle.maps.specs.Inner.{AtPoint}
 use Rattle.maps.proofs.OldTable.{few_blends, old_point}
 use Rattle.maps.proofs.OverSquare.{all_listed, entries_only, four_mapped}
-use Rattle.maps.proofs.Changing.{good_opened, few, in_table}
+use Rattle.maps.proofs.Changing.{open_map, few, in_table}
 use Rattle.maps.proofs.opened.Opened.weights_at.Goals as goal
 use Rattle.maps.proofs.opened.Opened.weights_at.Goals.{Start}
 
 here : (c : Start) → let self = c.args.self.now in AtPoint self.map.lines.w self.map.lines.h self.table c.args.u c.args.v
 here c =
-    old_point (in_table (good_opened c.args.self.now)) _ _ c.requires.0 c.requires.1
+    old_point (in_table (open_map c.args.self.now)) _ _ c.requires.0 c.requires.1
 
 pub low_knot-x-requires : goal.low_knot-x-requires
 low_knot-x-requires c = let p = here (goal.at.low_knot-x-requires c).Start in (p.3, p.4, p.7)
@@ -28,12 +28,12 @@ pub overflow_add-n : goal.overflow_add-n
 overflow_add-n c = let p = here (goal.at.overflow_add-n c).Start in omega (arith, p.6, p.8)
 
 pub blends-requires : goal.blends-requires
-blends-requires c = few (good_opened c.args.self.now)
+blends-requires c = few (open_map c.args.self.now)
 
 pub four_over-four-requires : goal.four_over-four-requires
 four_over-four-requires c =
     let p = here (goal.at.four_over-four-requires c).Start in
-    rw (c.blends.ensures, c.low_knot-x.ensures.0, c.low_knot-y.ensures.0) (few_blends (in_table (good_opened c.args.self.now)), p.2)
+    rw (c.blends.ensures, c.low_knot-x.ensures.0, c.low_knot-y.ensures.0) (few_blends (in_table (open_map c.args.self.now)), p.2)
 
 pub weight_at-first-requires : goal.weight_at-first-requires
 weight_at-first-requires c =
