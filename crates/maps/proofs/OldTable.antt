@@ -48,7 +48,8 @@ module _ {w h : ℕ} {t : Table} {values : List ℕ} (old : InTable w h t values
   unfolding table
   old_long =
       let room = length-replicate (1024 - length (blends old.of)) none in
-      rw (ap (λ (t : Table). t.blends) old.is_table) (omega (arith, length-append (blends old.of) (replicate (1024 - length (blends old.of)) none), room, old.is_short))
+      rw (ap (λ (t : Table). t.blends) old.is_table)
+      (omega (arith, length-append (blends old.of) (replicate (1024 - length (blends old.of)) none), room, old.is_short))
 
   old_proper : AllProperIn w h (blends old.of)
   old_proper = of_proper old.of w h old.across old.up old.sides.0 old.sides.2

@@ -37,7 +37,8 @@ four_stay t f o x y over four =
     let here = sym (all_list test (map (λ (e : Entry). e.blend) f)) ∙ list_all-map test (λ (e : Entry). e.blend) f ∙ over in
     let same : map (λ (e : Entry). e.blend) f ≡ only old (blends_of t) = ap (map (λ (e : Entry). e.blend)) o.are ∙ entries_only old (blends_of t) 0 in
     o.are ∙
-    entries_stay old (over_square x y) (blends_of t) 0 (subst (λ (bs : List Blend). all (over_square x y) bs ≡ true) same here) (omega (arith, four, ap length same, o.long, length-map f (λ (e : Entry). e.blend)))
+    entries_stay old (over_square x y) (blends_of t) 0 (subst (λ (bs : List Blend). all (over_square x y) bs ≡ true) same here)
+    (omega (arith, four, ap length same, o.long, length-map f (λ (e : Entry). e.blend)))
 
 -- the points of a row or a column lie in the domain
 pub in_walk : (row : Bool) (w h k at : ℕ) → k ≤ cond row w h → at ≤ cond row h w → (cond row k at ≤ w) × (cond row at k ≤ h)

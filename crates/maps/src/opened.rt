@@ -1,7 +1,7 @@
 // A record opened: its splits are replayed once, as exact splits, and the table of its live blends stands beside it. Every call on a map starts with
 // `open`. What goes on from an opened record is the rest of a call, after the test of the record; it is open to the crates above, so that who has
 // read a map from its file does not replay it again.
-ghost use Rattle.std.specs.Prelude.{◌≡◌, Ok, ◌&&◌, leb};
+ghost use Rattle.std.specs.Prelude.{◌≡◌, Ok, ◌&&◌, Bool, leb};
 ghost use Rattle.std.specs.List.{list_all};
 ghost use Rattle.maps.specs.Calls.{fresh_map, set_value, table_place, reading, weights, split_within};
 ghost use Rattle.maps.specs.Pairs.{row_pairs, column_pairs};
@@ -33,26 +33,16 @@ fn no_splits(splits: &[Split]) -> bool
     splits.iter().all(|s| *s == Split::default())
 }
 
-// Whether values are all zero. It does not stop at the first that is not, so that the compiler may look at several at once.
-fn no_values(values: &[u16]) -> bool
-    ensures { result ≡ list_all is_zero values.now }
+// Whether all numbers pass a test. It does not stop at the first that fails, so that the compiler may look at several at once.
+fn all_pass<T: Copy, F: Fn(T) -> bool>(numbers: &[T], passes: F) -> bool
+    requires { F.IsAlwaysCallable passes }
+    ensures { (test : T → Bool) → ((x : T) (r : Bool) → F.post passes x r → r ≡ test x) → result ≡ list_all test numbers.now }
 {
-    let mut none = true;
-    for value in values {
-        none &= *value == 0;
+    let mut all = true;
+    for number in numbers {
+        all &= passes(*number);
     }
-    none
-}
-
-// Whether no mark is above a number; like `no_values`, without stopping early.
-fn no_marks_above(most: u8, marks: &[u8]) -> bool
-    ensures { result ≡ list_all (λ k. leb k most) marks.now }
-{
-    let mut none = true;
-    for mark in marks {
-        none &= *mark <= most;
-    }
-    none
+    all
 }
 
 impl Opened {
@@ -68,13 +58,13 @@ impl Opened {
         if !no_splits(&map.lines.splits[map.lines.count..]) {
             return Err(Refusal::BadRecord);
         }
-        if !no_values(&map.values[table.count..]) {
+        if !all_pass(&map.values[table.count..], |value| value == 0) {
             return Err(Refusal::BadRecord);
         }
-        if !no_marks_above(1, &map.marks) {
+        if !all_pass(&map.marks, |mark| mark <= 1) {
             return Err(Refusal::BadRecord);
         }
-        if !no_marks_above(0, &map.marks[table.count..]) {
+        if !all_pass(&map.marks[table.count..], |mark| mark == 0) {
             return Err(Refusal::BadRecord);
         }
         Ok(Opened { map: *map, table })
@@ -141,10 +131,7 @@ impl Opened {
         if along(direction, h, w) < at {
             return Err(Refusal::Outside);
         }
-        if wanted < 1 {
-            return Err(Refusal::NoPair);
-        }
-        if 65535 < wanted {
+        if wanted < 1 || 65535 < wanted {
             return Err(Refusal::NoPair);
         }
         self.pairs_along(direction, at, wanted)

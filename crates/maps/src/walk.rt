@@ -60,7 +60,8 @@ impl Opened {
     ) -> Option<Pairs>
         requires { at ≤ cond (is_level direction) self.now.map.lines.h self.now.map.lines.w }
         ensures { counted result ≡ counted_pairs (turns_from 0 (cond (is_level direction) self.now.map.lines.w self.now.map.lines.h)
-            (λ (k : ℕ). ltb (reading_at (blends_of self.now.table) (take self.now.table.count self.now.map.values) (cond (is_level direction) k at) (cond (is_level direction) at k)) wanted)) }
+            (λ (k : ℕ). ltb (reading_at (blends_of self.now.table) (take self.now.table.count self.now.map.values)
+            (cond (is_level direction) k at) (cond (is_level direction) at k)) wanted)) }
     {
         let blends = self.table.blends();
         let w = self.map.lines.w;

@@ -18,7 +18,8 @@ use Rattle.maps.proofs.values.reading_over.Goals.{In-loop-k, After-loop-k}
 wider : (n : ℕ) (s : Sum) → n ≤ 3 → SumOf n s → SumOf 3 s
 wider zero s le sum = record { positive = sum.positive; low = omega (arith, sum.low); rest = omega (arith, sum.rest); most = omega (arith, sum.most) }
 wider (suc zero) s le sum = record { positive = sum.positive; low = omega (arith, sum.low); rest = omega (arith, sum.rest); most = omega (arith, sum.most) }
-wider (suc (suc zero)) s le sum = record { positive = sum.positive; low = omega (arith, sum.low); rest = omega (arith, sum.rest); most = omega (arith, sum.most) }
+wider (suc (suc zero)) s le sum =
+    record { positive = sum.positive; low = omega (arith, sum.low); rest = omega (arith, sum.rest); most = omega (arith, sum.most) }
 wider (suc (suc (suc zero))) s le sum = sum
 wider (suc (suc (suc (suc n)))) s le sum = absurd (omega arith)
 

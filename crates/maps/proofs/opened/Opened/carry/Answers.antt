@@ -99,7 +99,8 @@ module _ (o : Opened) {B : Blend} (k : Inside o.map.lines.w o.map.lines.h B) whe
       let x : m ≡ B.across.m - 1 + 1 = omega (arith, k.across_low) in
       let y : n ≡ B.up.m - 1 + 1 = omega (arith, k.up_low) in
       rw (is, count_blends (old_of o), x, y)
-      (four_read o.map.lines.w o.map.lines.h o.table o.map.values _ _ point (old_long (old_of o)) o.held.full.values a b (rw is_m at is_a) (rw is_n at is_b) four
+      (four_read o.map.lines.w o.map.lines.h o.table o.map.values _ _ point (old_long (old_of o)) o.held.full.values a b
+      (rw is_m at is_a) (rw is_n at is_b) four
       (rw is at e))
 
 pub bounds-values-j : goal.bounds-values-j

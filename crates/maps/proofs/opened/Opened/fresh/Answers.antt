@@ -39,7 +39,8 @@ unfolding fresh_map
 made_opens m w h e =
     ⊎_elim
     (λ t. let b = and_both (allowed_side w) (allowed_side h) t in
-    subst (λ (n : Map). IsTable n (fresh_table w h) × Held n) (sym (ap (λ (c : Changed). c.map) (e ∙ cond_true _ _ _ t))) (blank_opens w h b.0 b.1, blank_held w h))
+    subst (λ (n : Map). IsTable n (fresh_table w h) × Held n) (sym (ap (λ (c : Changed). c.map) (e ∙ cond_true _ _ _ t)))
+    (blank_opens w h b.0 b.1, blank_held w h))
     (λ f. absurd (omega (arith, ap (λ (c : Changed). c.number) (e ∙ cond_false _ _ _ f))))
     (either (allowed_side w && allowed_side h))
 

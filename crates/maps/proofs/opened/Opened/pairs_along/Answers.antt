@@ -40,7 +40,8 @@ loop-k-init c =
 here : (c : After-along-v) → AtPoint c.args.self.now.map.lines.w c.args.self.now.map.lines.h c.args.self.now.table c.along-u.result c.along-v.result
 here c =
     let a = c.args in
-    let p = in_walk (is_level a.direction) a.self.now.map.lines.w a.self.now.map.lines.h c.loop-k.k a.at (rw c.along-side.ensures at c.loop-k-test.true) c.requires in
+    let p = in_walk (is_level a.direction) a.self.now.map.lines.w a.self.now.map.lines.h c.loop-k.k a.at
+    (rw c.along-side.ensures at c.loop-k-test.true) c.requires in
     old_point (in_table (open_map c.args.self.now)) _ _ (rw c.along-u.ensures p.0) (rw c.along-v.ensures p.1)
 
 pub low_knot-x-requires : goal.low_knot-x-requires
@@ -165,4 +166,5 @@ returns c =
     let l = c.loop-k in
     let a = c.args in
     let test = below a.self.now.table a.self.now.map.values (is_level a.direction) a.at a.wanted in
-    sym (noting_done (counted l.pairs) test (l.k - 1) (c.along-side.result - (l.k - 1)) (omega (arith, c.loop-k-test.false))) ∙ l.invariant.rest ∙ rw c.along-side.ensures
+    sym (noting_done (counted l.pairs) test (l.k - 1) (c.along-side.result - (l.k - 1)) (omega (arith, c.loop-k-test.false))) ∙
+    l.invariant.rest ∙ rw c.along-side.ensures

@@ -32,8 +32,14 @@ four_over-four-requires c =
     rw (c.blends.ensures, c.low_knot-x.ensures.0, c.low_knot-y.ensures.0) (few_blends (in_table (open_map c.args.self.now)), p.2)
 
 pub reading_over-requires : goal.reading_over-requires
-reading_over-requires c =
-    (omega arith, all_listed _ _ _ _ _ (here (goal.at.reading_over-requires c).Start) _ _ c.four_over-four.result (rw c.blends.ensures at c.four_over-four.ensures), omega arith, omega arith, omega arith, omega arith)
+reading_over-requires c = (
+  omega arith,
+  all_listed _ _ _ _ _ (here (goal.at.reading_over-requires c).Start) _ _ c.four_over-four.result (rw c.blends.ensures at c.four_over-four.ensures),
+  omega arith,
+  omega arith,
+  omega arith,
+  omega arith,
+)
 
 pub returns : goal.returns
 returns c =

@@ -69,7 +69,8 @@ returns-then-eq c =
     let whole = told at.Joined-self-other-2 (sides at.Joined-self-other) in
     let n = same_count p q (rw (live_blends p, live_blends q) (and_both _ _ (sym whole ∙ c.if-eq.true)).1) in
     let k = c.args.self.now.table.count in
-    let values = c.eq-then-eq.ensures ∙ equal_agree eqb eqb (λ x y. refl) (take k c.args.self.now.map.values) (take k c.args.other.now.map.values) ∙ ap₂ (agree eqb) (live_values p) n in
+    let values = c.eq-then-eq.ensures ∙
+    equal_agree eqb eqb (λ x y. refl) (take k c.args.self.now.map.values) (take k c.args.other.now.map.values) ∙ ap₂ (agree eqb) (live_values p) n in
     both_good _ _ p.is_good q.is_good _ (same_is _ _ whole values (rw c.if-eq.true refl))
 
 pub returns-else-eq : goal.returns-else-eq

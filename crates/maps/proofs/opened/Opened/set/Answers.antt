@@ -10,7 +10,8 @@ use Rattle.maps.proofs.opened.Opened.set.Goals as goal
 use Rattle.maps.proofs.opened.Opened.set.Goals.{In-Some}
 
 -- where the anchor's blend stands
-found : (c : In-Some) → let bs = blends (plain c.args.self.now.map) in (place_of bs (c.args.m + 1) (c.args.n + 1) ≡ c.in-Some.place) × (c.in-Some.place < length bs)
+found : (c : In-Some) → let bs = blends (plain c.args.self.now.map) in
+    (place_of bs (c.args.m + 1) (c.args.n + 1) ≡ c.in-Some.place) × (c.in-Some.place < length bs)
 found c = placed_some _ _ _ (sym c.in-Some.is ∙ rw (live_blends (open_map c.args.self.now)) at c.place_of.ensures)
 
 -- which is a place of the arrays
