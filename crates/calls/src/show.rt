@@ -6,7 +6,7 @@ use std::io;
 use std::io::Print;
 use std::rt::Stdout;
 
-// What waits for standard output, the first `at` bytes; and the last write that failed.
+// What waits for standard output, the first `at` bytes; and the last write that failed. It allocates nothing, so it is an array and a count.
 #[derive(Drop)]
 pub struct Out {
     to: Stdout,

@@ -38,7 +38,7 @@ pub(crate) const ENDS: usize = HEAD + TAIL;
 
 pub const LARGEST_FILE: usize = ENDS + SPLIT * Map::MOST_SPLITS + VALUE * Table::MOST_BLENDS;
 
-// The bytes of a value's record in an old file, or in another.
+// The bytes of a value's record in an old file, or in another. Whether a file is old is a test, as in the definitions (`is_old`, `file_in`).
 pub(crate) fn value_size(old: bool) -> usize
     ensures { result ≡ value_size old }
 {

@@ -17,7 +17,7 @@ pub use mesh::Refusal;
 use mesh::{Lines, Split, Table};
 
 // The record of a map: its lines, which are its sides and its splits in order, and in table order its values and their marks, 1 measured and 0 worked out;
-// all unused places are zero.
+// all unused places are zero. Values and marks are arrays of their own, as document 01 has the record.
 #[derive(Clone, Copy)]
 pub struct Map {
     pub lines: Lines,

@@ -177,6 +177,7 @@ impl Opened {
         let at = self.map.lines.count;
         self.map.lines.splits[at] = drawn.line;
         self.map.lines.count = at + 1;
+        // The borrow checker does not cover an array of one struct stored straight into another.
         let values = carried.values;
         let marks = carried.marks;
         self.map.values = values;

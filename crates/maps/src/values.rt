@@ -107,7 +107,7 @@ pub(crate) struct Entry {
 }
 
 // The four blends of a table over the unit square whose low corner is at knots (x, y), in table order, looked for from a place near them on, and anew from the
-// start where they do not all stand behind it. The last four found are kept.
+// start where they do not all stand behind it: the place jumps, so a `for` would be no plainer. The last four found are kept.
 pub(crate) fn four_over(blends: &[Blend], near: usize, x: usize, y: usize) -> [Entry; 4]
     requires { (length blends.now ≤ most_blends) × (length (only (over_square x y) blends.now) ≡ 4) }
     ensures { result ≡ entries_over (over_square x y) blends.now 0 }

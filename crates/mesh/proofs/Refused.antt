@@ -1,5 +1,5 @@
 -- Every refusal has a number, and that is not 0.
-use Prim.Native.Nat.{ℕ, ◌≤◌}
+use Prim.Native.Nat.{◌≤◌}
 use native.Mathlib.Omega.{arith}
 use mathlib.Core.Path.{◌≡◌}
 use Rattle.mesh.specs.declared.refusal.Refusal.{Refusal}

@@ -1,4 +1,5 @@
-// Cutting: an upright cut hands its halves to the level cuts, a level cut hands its halves back, until neither cuts.
+// Cutting: an upright cut hands its halves to the level cuts, a level cut hands its halves back, until neither cuts. They are two functions that call each
+// other, as document 01 asks. Lines are read while places are kept, so both take them apart and not the drawing whole.
 ghost use Rattle.std.specs.Prelude.{◌≡◌, true, cond, ℕ, ◌+◌, ◌-◌, ◌≤◌};
 ghost use Rattle.axis.specs.Range.{every};
 ghost use Rattle.axis.specs.Triple.{Rises};
@@ -13,7 +14,8 @@ use crate::Blend;
 use crate::steps::covers;
 use axis::{Side, Triple};
 
-// The line that cuts a triple first, if any covers the n steps from knot b on: the nearest below the middle, else the nearest above.
+// The line that cuts a triple first, if any covers the n steps from knot b on: the nearest below the middle, else the nearest above. The two
+// ranges run opposite ways, so one loop over both would be no plainer.
 fn first_line(steps: &[u8], x: Triple, b: u8, n: u8) -> Option<u8>
     requires { Rows x.r steps.now × Rises x × (b + n ≤ 131) }
     ensures { result ≡ any_line (nearest (λ z. every b n (step_on steps.now z)) x) }

@@ -32,7 +32,8 @@ pub enum Direction {
     Level,
 }
 
-// A split as drawn, in document 01's own coordinates: direction 0 upright, 1 level; before run-out.
+// A split as drawn, in document 01's own coordinates: direction 0 upright, 1 level; before run-out. The direction is a number, since a record and a caller
+// may hold any: `in_range` refuses those that name none.
 #[derive(Clone, Copy, Debug, Default, PartialEq, Eq)]
 pub struct Split {
     pub direction: usize,
@@ -41,7 +42,7 @@ pub struct Split {
     pub to: usize,
 }
 
-// The lines of a map: its sides W and H, and the first `count` of the splits.
+// The lines of a map: its sides W and H, and the first `count` of the splits. An array and a count: "all unused places are zero" is part of a good record.
 #[derive(Clone, Copy)]
 pub struct Lines {
     pub w: usize,
@@ -59,7 +60,7 @@ impl Lines {
     pub const MOST_ALLOWANCE: usize = 128;
 }
 
-// Blends in table order; places from `count` on are zero.
+// Blends in table order; places from `count` on are zero. The library allocates nothing, so it is an array and a count; `blends` lends what is listed.
 #[derive(Clone, Copy)]
 pub struct Table {
     pub count: usize,

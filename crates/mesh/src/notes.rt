@@ -57,7 +57,7 @@ impl Notes {
         false
     }
 
-    // Cuts those that do to the end, by all lines, and keeps what is left.
+    // Cuts those that do to the end, by all lines, and keeps what is left. Lines and places are lent apart, as `cut_across` takes them.
     pub fn cut_reached(
         &self,
         uprights: &[u8],

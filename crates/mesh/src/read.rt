@@ -26,6 +26,7 @@ impl<'a, const N: usize> Iterator for Kept<'a, N> {
 
     ghost remaining = { item_count kept_left };
 
+    // Links lead from knot to knot, so the loop runs over no range.
     fn next(&mut self) -> Option<Blend> {
         let t = self.drawing;
         while self.m <= t.w + 1 {

@@ -8,7 +8,7 @@ ghost use Rattle.mesh.specs.Bytes.{Rows, Zeros, step_on, Drawn};
 
 use crate::{Direction, Lines, Split};
 
-// Whether the line at knot z is on at each of the n steps from knot b on.
+// Whether the line at knot z is on at each of the n steps from knot b on. An `all` over the slice was tried, and replays took a tenth longer.
 pub(crate) fn covers(steps: &[u8], z: u8, b: u8, n: u8) -> bool
     requires { Rows (z + 1) steps.now × (z < 131) × (b + n ≤ 131) }
     ensures { result ≡ every b n (step_on steps.now z) }

@@ -16,7 +16,7 @@ fn refuse(rt: &HostRuntime) -> io::Result<()> {
     rt.eprintln("table: standard input is no map file; use: table < FILE")
 }
 
-// Reads until the buffer is full or the input ends, and counts the bytes.
+// Reads until the buffer is full or the input ends, and counts the bytes that each read brings.
 fn read_full<R: Read>(input: &mut R, bytes: &mut [u8]) -> io::Result<usize>
     ensures { IfOk result (λ n. n ≤ length bytes.new) }
 {
