@@ -52,7 +52,11 @@ module _ (m : Map) where
   pub fails_good : (Passes m → ⊥) → good m ≡ false
   fails_good f = false_of (good m) (λ e. f (good_passes e))
 
-  -- and one that passes them all is opened
+  -- so it is refused, and one that passes them all is opened
+  pub not_opened : (Passes m → ⊥) → opened m ≡ changed 2 m
+  unfolding opened
+  not_opened f = rw (fails_good f)
+
   pub is_opened : Passes m → opened m ≡ changed 0 m
   unfolding opened
   is_opened p = rw (passes_good p)
