@@ -2,7 +2,7 @@
 ghost use Rattle.std.specs.Prelude.{◌≡◌, pos};
 ghost use Rattle.std.proofs.Math.IntN.{pred_ℤ};
 
-// A knot as document 01's coordinate.
+// A knot as document 01's coordinate: one less, and no conversion of a type.
 pub fn coordinate(k: u8) -> i64
     ensures { result ≡ pred_ℤ (pos k) }
 {

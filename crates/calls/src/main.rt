@@ -18,7 +18,7 @@ use std::rt::Stdin;
 const ROOM: usize = 32768;
 
 // What goes on from one read to the next: the map; how many bytes at the front of the buffer start a line; and whether they follow on a start that was
-// too long to keep.
+// too long to keep, which no count tells.
 #[derive(Drop)]
 struct State {
     map: Opened,
@@ -42,6 +42,7 @@ impl State {
     fn whole_lines(&mut self, input: &[u8], out: &mut Out) -> usize
         ensures { result ≤ length input.now }
     {
+        // What is left behind the last line end is held, so this is no walk over all parts.
         let mut rest = input;
         while let Some(end) = rest.iter().position(|byte| *byte == b'\n') {
             self.line(&rest[..end], out);

@@ -1,12 +1,12 @@
 -- The file of a good record: what its table in hand gives, and what writing it leaves.
-use Prim.Native.Nat.{ℕ, ◌+◌, ◌*◌, ◌≤◌, ◌<◌}
+use Prim.Native.Nat.{ℕ, ◌+◌, ◌-◌, ◌*◌, ◌≤◌, ◌<◌}
 use native.Mathlib.Omega.{arith}
 use native.Mathlib.Nat.{zero-add}
-use mathlib.Core.Path.{◌≡◌, ◌∙◌}
+use mathlib.Core.Path.{◌≡◌, subst, ◌∙◌}
 use mathlib.Core.Bool.{Bool, true, false}
-use mathlib.Core.List.{List}
+use mathlib.Core.List.{List, ◌++◌}
 use borrow.Author.Tests.{lt-ltb, le-ltb}
-use lib.ListN.{length, length-append, length-replicate}
+use lib.ListN.{length, replicate, length-append, length-replicate}
 use Rattle.std.proofs.lemmas.List.{length-take}
 use Rattle.mesh.specs.declared.Table.{Table}
 use Rattle.mesh.specs.Lines.{layout_of, splits_of, mesh_of}
@@ -17,7 +17,7 @@ use Rattle.mesh.proofs.BlendTables.{proper_largest, table_blends, table_count}
 use Rattle.mesh.proofs.SoundMaps.{live_proper}
 use Rattle.maps.specs.declared.Map.{Map}
 use Rattle.maps.specs.declared.opened.Opened.{Opened}
-use Rattle.maps.specs.Record.{Full, plain, good}
+use Rattle.maps.specs.Record.{no_split, lines_of, record_of, Full, plain, good}
 use Rattle.maps.proofs.Opening.{good_passes, good_table}
 use Rattle.maps.proofs.Changing.{GoodMap, opened_map, few, live_table, live_blends, live_count}
 use Rattle.files.specs.Calls.{Written}
@@ -38,10 +38,34 @@ all_places : {m : Map} {t : Table} → GoodMap m t → length t.blends ≡ 1024
 unfolding table
 all_places g = rw (live_table g, length-append, length-replicate) (omega (arith, g.facts.is_short))
 
-pub ready : {m : Map} {t : Table} → GoodMap m t → Full m → Ready m t
-unfolding plain file_with
-ready {m} {t} g full =
+-- a list that is padded to a length has it
+padded_long : {A : Type 0} (xs : List A) (n : ℕ) (d : A) → length xs ≤ n → length (xs ++ replicate (n - length xs) d) ≡ n
+padded_long xs n d le =
+    let r = length-replicate (n - length xs) d in length-append xs (replicate (n - length xs) d) ∙ omega (arith, r)
+
+splits_few : {m : Map} {t : Table} → GoodMap m t → length (plain m).lines.splits ≤ 60
+unfolding plain
+splits_few g = rw g.facts.counted_splits g.facts.few
+
+-- a good record is that of what it holds, so its arrays are full
+full_of : {m : Map} {t : Table} → GoodMap m t → Full m
+unfolding record_of lines_of
+full_of {m} g =
     let f = g.facts in
+    let P = plain m in
+    let h = f.holds in
+    subst Full f.is_record
+    (record {
+      splits = padded_long P.lines.splits 60 no_split (splits_few g);
+      values = padded_long P.values 1024 0 (omega (arith, h.counted, f.is_short));
+      marks = padded_long P.marks 1024 0 (omega (arith, h.counted_marks, f.is_short));
+    })
+
+pub ready : {m : Map} {t : Table} → GoodMap m t → Ready m t
+unfolding plain file_with
+ready {m} {t} g =
+    let f = g.facts in
+    let full = full_of g in
     record {
       is_good = g.is_good;
       few = f.few;
@@ -62,7 +86,7 @@ ready {m} {t} g full =
     }
 
 pub opened_ready : (o : Opened) → Full o.map → Ready o.map o.table
-opened_ready o full = ready (opened_map o.opens full) full
+opened_ready o full = ready (opened_map o.opens full)
 
 -- how many splits and blends it has at most
 pub opened_few : (o : Opened) → (o.map.lines.count ≤ 60) × (o.table.count ≤ 1024)

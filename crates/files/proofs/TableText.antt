@@ -74,7 +74,7 @@ map_most : {m : Map} {t : Table} → GoodMap m t → Held m → length (text_fro
 map_most {m} g h =
     let marks = (good_passes m g.is_good).are_marks in
     let low : (i : ℕ) → get_or m.marks i 0 ≤ 1 = λ i. leb-true _ 1 (Words.all_places is_mark refl m.marks marks i) in
-    text_from_most (ready g h.full).hand h.small (λ i. omega (arith, low i))
+    text_from_most (ready g).hand h.small (λ i. omega (arith, low i))
 
 pub opened_most : (o : Opened) → Held o.map → length (text_in o) ≤ largest_text
 opened_most o h = map_most (opened_map o.opens h.full) h

@@ -41,7 +41,7 @@ fn has_words(bytes: &[u8], at: usize, words: &[usize]) -> bool
     true
 }
 
-// Puts numbers in a row from a byte place on, where they fit.
+// Puts numbers in a row from a byte place on, where they fit. A file's records stand at known places, so bytes and a place are all that this needs.
 pub fn put_words(bytes: &mut [u8], at: usize, words: &[usize])
     ensures { bytes.new ≡ put_words bytes.old at words.now }
 {

@@ -9,7 +9,7 @@ use crate::entries::{Entry, drawn, numbers};
 use crate::{HEAD, SPLIT, TAIL, value_size};
 use maps::opened::Opened;
 
-// Whether the bytes are the file of an opened map, or its old file.
+// Whether the bytes are the file of an opened map, or its old file: a test, as in the definitions.
 pub(crate) fn is_file(bytes: &[u8], o: &Opened, old: bool) -> bool
     ensures { result ≡ agree eqb bytes.now (file_in old (plain o.now.map)) }
 {

@@ -1,6 +1,5 @@
 // The table of a map file as text: what the table program prints.
 ghost use Rattle.std.specs.Prelude.{◌≡◌, [], ◌∷◌, ◌≤◌, leb, length};
-ghost use Rattle.maps.specs.Record.{Held};
 ghost use Rattle.files.specs.Inner.{Puts, Room, Writes, told, text_in};
 ghost use Rattle.files.specs.Listing.{digits, coordinate, spaced, number_line, knots, value_line, line, text_written, text_after};
 ghost use Rattle.files.specs.Told.{written_as};
@@ -110,7 +109,7 @@ impl Text<'_> {
 
     // The number of an opened map's blends, then a line for each.
     fn table(&mut self, o: &Opened)
-        requires { Held o.now.map × Room self.old (text_in o.now) }
+        requires { Room self.old (text_in o.now) }
         ensures { Writes self.old (text_in o.now) self.new }
     {
         self.number_line(o.table.count);
@@ -135,7 +134,6 @@ fn line_size(entry: Entry) -> usize
 
 // How many bytes the text of an opened map has.
 fn text_size(o: &Opened) -> usize
-    requires { Held o.now.map }
     ensures { result ≡ length (text_in o.now) }
 {
     let mut bytes = [0u8; LONGEST_LINE];
@@ -153,7 +151,6 @@ fn text_size(o: &Opened) -> usize
 
 // Whether so many bytes hold the text of an opened map. It is measured only where they may be too few.
 fn fits(o: &Opened, room: usize) -> bool
-    requires { Held o.now.map }
     ensures { result ≡ leb (length (text_in o.now)) room }
 {
     let enough = LARGEST_TEXT;
@@ -162,7 +159,7 @@ fn fits(o: &Opened, room: usize) -> bool
 
 // Puts the text of an opened map in front of lent bytes, and tells how many it has.
 fn put_table(out: &mut [u8], o: &Opened) -> usize
-    requires { Held o.now.map × (length (text_in o.now) ≤ length out.old) }
+    requires { length (text_in o.now) ≤ length out.old }
     ensures { Puts out.old 0 (text_in o.now) out.new result }
 {
     let mut text = Text { out, at: 0 };

@@ -52,14 +52,14 @@ module _ (m : Map) where
   pub fails_good : (Passes m → ⊥) → good m ≡ false
   fails_good f = false_of (good m) (λ e. f (good_passes e))
 
-  -- so it is refused, and one that passes them all is opened
-  pub not_opened : (Passes m → ⊥) → opened m ≡ changed 2 m
-  unfolding opened
-  not_opened f = rw (fails_good f)
+  -- so it is refused, and one that passes them all is opened with the table of its live blends
+  pub not_opened : (Passes m → ⊥) → (opened m ≡ changed 2 m) × (table_of m ≡ table [])
+  unfolding opened table_of
+  not_opened f = rw (fails_good f) (refl, refl)
 
-  pub is_opened : Passes m → opened m ≡ changed 0 m
-  unfolding opened
-  is_opened p = rw (passes_good p)
+  pub is_opened : Passes m → (opened m ≡ changed 0 m) × (table_of m ≡ table (live_of (layout_of m.lines)))
+  unfolding opened table_of plain
+  is_opened p = rw (passes_good p) (refl, refl)
 
   pub good_table : good m ≡ true → table_of m ≡ table (blends (plain m))
   unfolding table_of

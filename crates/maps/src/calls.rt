@@ -1,4 +1,5 @@
-// The calls on a map. Each opens the record first, once; a refusal leaves the map as it came.
+// The calls on a map. Each opens the record first, once; a refusal leaves the map as it came. A row and a column are two calls, as document 02 has them, and
+// the two changes three lines each, so one function for both would be no plainer.
 ghost use Rattle.std.specs.Prelude.{◌≡◌};
 ghost use Rattle.maps.specs.Calls.{set_value, table_place, reading, weights, split_within};
 ghost use Rattle.maps.specs.Pairs.{row_pairs, column_pairs};

@@ -88,7 +88,7 @@ pub struct Weight {
     pub denominator: usize,
 }
 
-// The weights of the four blends over a unit square, in table order.
+// The weights of the four blends over a unit square, in table order: an array in a struct, as document 01 asks.
 #[derive(Clone, Copy, Debug)]
 pub struct Weights {
     pub entries: [Weight; 4],

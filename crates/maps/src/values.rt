@@ -175,7 +175,8 @@ impl Opened {
         reading_over(&four, &self.map.values, x, y, u + 1, v + 1)
     }
 
-    // The weights of the four blends over the unit square at a whole point, in table order.
+    // The weights of the four blends over the unit square at a whole point, in table order. A `map` over the four would need a clause on its closure, for the
+    // bounds of each, and be no plainer.
     pub(crate) fn weights_at(&self, u: usize, v: usize) -> Weights
         requires { (u ≤ self.now.map.lines.w) × (v ≤ self.now.map.lines.h) }
         ensures { result.entries ≡ map (weight_over self.now.map.lines.w self.now.map.lines.h u v)

@@ -34,7 +34,7 @@ pub(crate) struct Drawing<const N: usize> {
     pub count: usize,
 }
 
-// Keeps blends at the places of their anchors.
+// Keeps blends at the places of their anchors: the places alone, as cutting does.
 fn keep(places: &mut [u32], blends: &[Blend])
     requires { AllProper blends.now × ((B : Blend) → Memᴰ B blends.now → Rows (B.across.m + 1) places.old) }
     ensures { places.new ≡ keep_all places.old blends.now }

@@ -33,7 +33,7 @@ fn first_line(steps: &[u8], x: Triple, b: u8, n: u8) -> Option<u8>
     None
 }
 
-// Keeps a blend at its anchor's place.
+// Keeps a blend at its anchor's place. The places alone, since a cut reads the lines meanwhile.
 pub(crate) fn keep_blend(places: &mut [u32], x: Blend)
     requires { Rows (x.across.m + 1) places.old × Proper x }
     ensures { places.new ≡ keep places.old x }
@@ -42,7 +42,8 @@ pub(crate) fn keep_blend(places: &mut [u32], x: Blend)
     places[at] = x.pack();
 }
 
-// Cuts a blend by uprights and hands the halves to the level cuts. `tried` tells that no level cuts the blend.
+// Cuts a blend by uprights and hands the halves to the level cuts. `tried` tells that no level cuts the blend, which nothing
+// else holds.
 #[cycle(cut_across_cut_up)]
 pub(crate) fn cut_across(uprights: &[u8], levels: &[u8], x: Blend, tried: bool, places: &mut [u32])
     requires { RowsOf uprights.now levels.now places.old x × Proper x ×

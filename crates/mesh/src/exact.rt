@@ -2,7 +2,7 @@
 ghost use Rattle.std.specs.Prelude.{◌≡◌, ◌+◌, ◌-◌, ◌≤◌, ◌<◌, MatchResult};
 ghost use Rattle.axis.specs.Limits.{largest_side};
 ghost use Rattle.axis.specs.Range.{some};
-ghost use Rattle.mesh.specs.Lines.{Layout, direction, other, start, end, shares, ended};
+ghost use Rattle.mesh.specs.Lines.{Layout, direction, start, end, shares, ended};
 ghost use Rattle.mesh.specs.Splits.{given, exact_number, with_line};
 ghost use Rattle.mesh.specs.Refusals.{number_of};
 ghost use Rattle.mesh.specs.Carried.{CarriedBy, Carries, NotedBy, RowAt, mesh_by, run_by, runs_from, runs_to, looks_good, looks_sound};
@@ -11,18 +11,6 @@ use crate::carried::Drawing;
 use crate::notes::Notes;
 use crate::{Direction, Lines, Refusal, Split};
 use axis::Side;
-
-impl Direction {
-    // The direction of the lines that cross those of this one.
-    fn other(self) -> Direction
-        ensures { result ≡ other self }
-    {
-        match self {
-            Direction::Upright => Direction::Level,
-            Direction::Level => Direction::Upright,
-        }
-    }
-}
 
 impl<const N: usize> Drawing<N> {
     // Whether the unit step from knot k, of a line of the direction at knot z, is on.
@@ -67,7 +55,8 @@ impl<const N: usize> Drawing<N> {
             && self.some_on(across, s.to + 1, s.position, 2)
     }
 
-    // The knots from which and to which a split's line runs once it is drawn, with the lines at its position that it touches.
+    // The knots from which and to which a split's line runs once it is drawn, with the lines at its position that it touches. One runs down and one up, so one
+    // loop would be no plainer.
     fn runs_from(&self, s: Split) -> usize
         requires { RowAt (s.position + 1) self.now × (s.from < largest_side) }
         ensures { result ≡ runs_from (mesh_by self.now (direction s.direction) (s.position + 1)) (start s) }

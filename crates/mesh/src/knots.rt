@@ -28,10 +28,7 @@ impl Blend {
     pub(crate) fn along(self, d: Direction) -> Triple
         ensures { result ≡ along d self }
     {
-        match d {
-            Direction::Upright => self.up,
-            Direction::Level => self.across,
-        }
+        self.crossed(d.other())
     }
 
     // The support in one number.

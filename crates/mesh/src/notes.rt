@@ -14,7 +14,8 @@ use crate::cut::cut_across;
 use crate::{Blend, Direction};
 use axis::Side;
 
-// By levels: the blend with its anchor before the line, and the one with it after; 0 where there is none.
+// By levels: the blend with its anchor before the line, and the one with it after; 0 where there is none. A note is one number, in two rows: an Option of a
+// blend would be cleared and copied for each level.
 #[derive(Drop)]
 pub(crate) struct Notes {
     pub lows: [usize; 131],

@@ -53,3 +53,16 @@ impl fmt::Display for Refusal {
 }
 
 impl Error for Refusal {}
+
+#[cfg(test)]
+mod tests {
+    use super::*;
+    use std::test::Fail;
+
+    #[test]
+    fn a_refusal_prints_its_reason(rt: HostRuntime) -> Result<(), Fail> {
+        let text = format!(in rt.alloc(); "{}", Refusal::Full)?;
+        assert_eq!(rt; text.as_str(), "the map has 60 splits");
+        Ok(())
+    }
+}

@@ -15,7 +15,7 @@ use crate::{Drawn, Lines, Refusal, Split, Table};
 impl<const N: usize> Drawing<N> {
     // The line that a split takes, if there is one: nested loops over length and start, left with the first line between good ends, the form that document 01
     // asks for. Every other one contains it and so adds more live blends. The search stops at the longest allowed length; with none to spare it looks at the
-    // given line alone.
+    // given line alone. The ranges end with `+ 1`: `..=` was tried, and its second exit is one more goal for each loop.
     fn least_line(&self, notes: &Notes, longest: usize, s: Split) -> Option<Split>
         requires { SearchesBy self.now notes.now s × (longest ≤ 2 * largest_side) }
         ensures { (i : SearchesBy self.now notes.now s) → told_line s result ≡ found_by s longest (nearest_good (layout i.w i.h i.splits) s) }

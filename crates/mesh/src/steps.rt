@@ -41,6 +41,16 @@ impl Lines {
 }
 
 impl Direction {
+    // The direction of the lines that cross those of this one.
+    pub(crate) fn other(self) -> Direction
+        ensures { result ≡ other self }
+    {
+        match self {
+            Direction::Upright => Direction::Level,
+            Direction::Level => Direction::Upright,
+        }
+    }
+
     // Its number in a split.
     fn number(self) -> usize
         ensures { result ≡ number self }
@@ -69,7 +79,7 @@ impl Split {
         }
     }
 
-    // Its direction, where it has one.
+    // Its direction, where it has one; the number is for records and callers, which may hold any.
     pub(crate) fn way(self) -> Direction
         ensures { result ≡ direction self.direction }
     {
@@ -80,7 +90,7 @@ impl Split {
         }
     }
 
-    // Its first and its last knot: a drawn end at a side runs out.
+    // Its first and its last knot: a drawn end at a side runs out. They differ in their tests, so one method would be no plainer.
     pub(crate) fn start(self) -> usize
         requires { self.from < largest_side }
         ensures { result ≡ start self }

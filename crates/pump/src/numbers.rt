@@ -15,7 +15,7 @@ pub(crate) fn number<T>(answer: &Result<T, Refusal>) -> usize
     }
 }
 
-// A coordinate as a 16-bit number.
+// A coordinate as a 16-bit number, as c/pump.h lays out its structs.
 fn signed_word(z: i64) -> usize
     ensures { result ≡ signed z }
 {

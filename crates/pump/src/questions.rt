@@ -84,6 +84,7 @@ fn tell_pairs(answer: Result<Pairs, Refusal>, count: &mut usize, first: &mut usi
     number(&answer)
 }
 
+// A row and a column are two functions for C.
 pub fn pump_row(file: &[u8], v: usize, wanted: usize, count: &mut usize, first: &mut usize) -> usize
     ensures { (result ≡ pairs_number (λ m. row_pairs m v wanted) file.now) ×
         (count.new ≡ pairs_count (λ m. row_pairs m v wanted) file.now) ×

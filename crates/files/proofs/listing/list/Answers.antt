@@ -4,10 +4,8 @@ use borrow.Author.Tests.{leb-true}
 use Rattle.std.proofs.lemmas.Result.{err_from_is_err_and}
 use Rattle.mesh.proofs.Refused.{refuses}
 use Rattle.maps.specs.Outcomes.{Changed}
-use Rattle.maps.specs.Record.{Held}
-use Rattle.maps.proofs.Changing.{GoodMap, opened_map}
+use Rattle.maps.proofs.Changing.{GoodMap, open_map}
 use Rattle.files.specs.Calls.{read_file}
-use Rattle.files.proofs.ReadMaps.{map_held}
 use Rattle.files.proofs.TableText.{lists_refusal, lists_text, text_short, text_put}
 use Rattle.files.proofs.listing.list.Goals.{In_ok-o}
 use Rattle.files.proofs.listing.list.Goals as goal
@@ -16,20 +14,14 @@ use Rattle.files.proofs.listing.list.Goals as goal
 is_map : (c : In_ok-o) → c.in_ok-o.o.map ≡ (read_file c.args.bytes.now).map
 is_map c = ap (λ (x : Changed). x.map) c.in_ok-o.ensures
 
-held : (c : In_ok-o) → Held c.in_ok-o.o.map
-held c = rw (is_map c) (map_held c.args.bytes.now)
-
 good_self : (c : In_ok-o) → GoodMap c.in_ok-o.o.map c.in_ok-o.o.table
-good_self c = opened_map c.in_ok-o.o.opens (held c).full
+good_self c = open_map c.in_ok-o.o
 
 pub returns-in_err-o : goal.returns-in_err-o
 returns-in_err-o c =
     let p = err_from_is_err_and c.from_residual.result c.from_residual.ensures.1 in
     let n = ap (λ (x : Changed). x.number) c.in_err-o.ensures in
     rw (p.1, p.2, n) (lists_refusal c.args.bytes.now c.args.out.now (λ z. refuses _ (n ∙ z)))
-
-pub fits-requires : goal.fits-requires
-fits-requires c = held (goal.at.fits-requires c).In_ok-o
 
 pub returns-then-not-fits : goal.returns-then-not-fits
 returns-then-not-fits c =
@@ -39,7 +31,7 @@ returns-then-not-fits c =
     (text_short (good_self s) c.args.out.now (sym c.fits.ensures ∙ c.if-not-fits.true))
 
 pub put_table-requires : goal.put_table-requires
-put_table-requires c = (held (goal.at.put_table-requires c).In_ok-o, leb-true _ _ (sym c.fits.ensures ∙ c.if-not-fits.false))
+put_table-requires c = leb-true _ _ (sym c.fits.ensures ∙ c.if-not-fits.false)
 
 pub returns : goal.returns
 returns c =

@@ -13,7 +13,7 @@ use Rattle.files.proofs.listing.text_size.Goals.{Start, After-number_line, After
 use Rattle.files.proofs.listing.text_size.Goals as goal
 
 hand : (c : Start) → InHand c.args.o.now.table c.args.o.now.map.values c.args.o.now.map.marks
-hand c = (opened_ready c.args.o.now c.requires.full).hand
+hand c = (opened_ready c.args.o.now c.args.o.now.held.full).hand
 
 counted : (c : Start) → length (entries c.args.o.now) ≡ c.args.o.now.table.count
 counted c = entries_length (hand c)
@@ -34,7 +34,7 @@ number_line-requires c = let short = number_line_short c.args.o.now.table.count 
 pub overflow_add-size : goal.overflow_add-size
 overflow_add-size c =
     let p = goal.at.overflow_add-size c in
-    omega (arith, sized_most line _ (grown p.After-line_size-size), total p.After-number_line, opened_most c.args.o.now c.requires)
+    omega (arith, sized_most line _ (grown p.After-line_size-size), total p.After-number_line, opened_most c.args.o.now c.args.o.now.held)
 
 pub loop-i-preserved : goal.loop-i-preserved
 loop-i-preserved c = grown (goal.at.loop-i-preserved c).After-line_size-size

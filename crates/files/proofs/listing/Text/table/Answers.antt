@@ -11,18 +11,18 @@ use Rattle.files.proofs.listing.Text.table.Goals.{Start, After-number_line}
 use Rattle.files.proofs.listing.Text.table.Goals as goal
 
 counted : (c : Start) → length (entries c.args.o.now) ≡ c.args.o.now.table.count
-counted c = entries_length (opened_ready c.args.o.now c.requires.0.full).hand
+counted c = entries_length (opened_ready c.args.o.now c.args.o.now.held.full).hand
 
 abbrev lines : Start → List ℕ
 lines c = joined line (entries c.args.o.now)
 
 -- there is room for all lines after the first one
 room : (c : After-number_line) → Room c.number_line.new.self (lines (goal.at.After-number_line c).Start)
-room c = text_next c.args.self.now (number_line c.args.o.now.table.count) (lines (goal.at.After-number_line c).Start) c.requires.1 c.number_line.ensures
+room c = text_next c.args.self.now (number_line c.args.o.now.table.count) (lines (goal.at.After-number_line c).Start) c.requires c.number_line.ensures
 
 pub number_line-requires : goal.number_line-requires
 number_line-requires c =
-    text_first c.args.self.now (number_line c.args.o.now.table.count) (lines (goal.at.number_line-requires c).Start) c.requires.1
+    text_first c.args.self.now (number_line c.args.o.now.table.count) (lines (goal.at.number_line-requires c).Start) c.requires
 
 pub loop-i-init : goal.loop-i-init
 loop-i-init c = rows_none line (entries c.args.o.now) _
@@ -40,5 +40,5 @@ loop-i-preserved c =
 pub returns : goal.returns
 returns c =
     let s = (goal.at.returns c).Start in
-    text_then c.args.self.now (number_line c.args.o.now.table.count) (lines s) c.requires.1 c.number_line.ensures
+    text_then c.args.self.now (number_line c.args.o.now.table.count) (lines s) c.requires c.number_line.ensures
     (rows_done line _ _ c.loop-i.invariant (omega (arith, counted s)))
