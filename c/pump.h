@@ -65,7 +65,7 @@
  * other, since the bytes are read first, then the rest in the order in which each call tells its numbers. After a
  * refusal all lent bytes and *used are as they were, and every other number handed back is 0.
  *
- * Calls allocate nothing. Give a thread that makes them 256 KB of stack: the deepest call was measured at 244 KB
+ * Calls allocate nothing. Give a thread that makes them 256 KB of stack: the deepest call was measured at 202 KB
  * (tests/stack.c). Calls on different bytes may run at the same time, and so may any number of calls that only read
  * the same bytes: those that take a const pointer.
  *
