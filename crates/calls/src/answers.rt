@@ -12,18 +12,13 @@ fn no_call(out: &mut Out) {
     out.text(b" = ?");
 }
 
-// The fresh 1 by 1 map, with which all begins.
-pub(crate) fn smallest() -> Opened {
-    Opened::fresh(1, 1).unwrap()
-}
-
 // A list starts on a fresh map; a side out of range is refused with 1.
 fn history(map: &mut Opened, w: usize, h: usize, out: &mut Out) {
     *map = match Opened::fresh(w, h) {
         Ok(fresh) => fresh,
         refused => {
             out.told(&refused);
-            smallest()
+            Opened::smallest()
         }
     };
 }

@@ -96,7 +96,7 @@ impl State {
 // before the next one reads, for whoever waits for it; where that fails, nobody does.
 fn run(from: &mut Stdin, input: &mut [u8], out: &mut Out) {
     let mut state = State {
-        map: answers::smallest(),
+        map: Opened::smallest(),
         held: 0,
         long: false,
     };

@@ -15,6 +15,8 @@ pub struct Out {
     failed: io::Result<()>,
 }
 
+const PART: usize = 256;
+
 impl Out {
     pub fn new(to: Stdout) -> Out {
         Out {
@@ -56,9 +58,21 @@ impl Out {
         }
     }
 
+    // Parts that fit are put whole; one that fills the memory goes byte by byte, so that each write brings it all.
     pub fn text(&mut self, bytes: &[u8]) {
-        for x in bytes {
-            self.byte(*x);
+        for part in bytes.chunks(PART) {
+            let end = self.at.saturating_add(part.len());
+            match self.bytes.get_mut(self.at..end) {
+                Some(room) => {
+                    room.copy_from_slice(part);
+                    self.at = end;
+                }
+                None => {
+                    for x in part {
+                        self.byte(*x);
+                    }
+                }
+            }
         }
     }
 

@@ -1,5 +1,5 @@
 // The text of calls: a word, then numbers, each behind one blank.
-ghost use Rattle.std.specs.Prelude.{◌<◌, IfSome};
+ghost use Rattle.std.specs.Prelude.{◌<◌, ◌≤◌, length, IfSome};
 ghost use Rattle.std.specs.Iterator.{IsFinite};
 
 use mesh::Split;
@@ -105,7 +105,9 @@ fn hex_digit(byte: u8) -> Option<u8>
 }
 
 // The bytes that hexadecimal digits give, in the lent buffer; none where they give no bytes or too many.
-pub fn unhex<'a>(digits: &[u8], buffer: &'a mut [u8]) -> Option<&'a [u8]> {
+pub fn unhex<'a>(digits: &[u8], buffer: &'a mut [u8]) -> Option<&'a [u8]>
+    ensures { IfSome result (λ bytes. length bytes.now ≤ length buffer.old) }
+{
     let (pairs, rest) = digits.as_chunks::<2>();
     if !rest.is_empty() {
         return None;

@@ -3,7 +3,7 @@ use Prim.Native.Nat.{ℕ, ◌+◌, ◌*◌, ◌≤◌}
 use native.Mathlib.Omega.{arith}
 use native.Mathlib.Nat.{mul-le-mul_left}
 use mathlib.Core.Path.{◌≡◌, sym, ap, ◌∙◌}
-use mathlib.Core.Bool.{true, false}
+use mathlib.Core.Bool.{Bool, true, false}
 use mathlib.Core.List.{List}
 use borrow.Author.Tests.{eqb-true}
 use lib.Dec.{eqb}
@@ -31,6 +31,11 @@ good_replays P g = layout_replay P.lines (good_passes (record_of P) g).accepted?
 
 pub good_short : (P : Plain) → good (record_of P) ≡ true → length (blends P) ≤ 1024
 good_short P g = replays_short (good_replays P g)
+
+-- the bytes of a value's record, in either form
+pub size_least : (old : Bool) → 10 ≤ value_size old
+size_least true = omega arith
+size_least false = omega arith
 
 module _ (bytes : List ℕ) where
   -- the lengths that a file may have

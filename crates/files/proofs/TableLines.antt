@@ -1,7 +1,7 @@
 -- A table's text: lines put in a row one by one, of at most 46 bytes each.
 use Prim.Native.Nat.{ℕ, ◌+◌, ◌*◌, ◌-◌, ◌/◌, ◌≤◌, ◌<◌}
 use native.Mathlib.Omega.{arith}
-use mathlib.Core.Path.{◌≡◌, refl, ap}
+use mathlib.Core.Path.{◌≡◌, refl, ap, ◌∙◌}
 use mathlib.Core.Bool.{true, false}
 use mathlib.Core.Logic.{⊎_elim}
 use mathlib.Core.List.{List, [], ◌∷◌, ◌++◌, Memᴰ}
@@ -17,12 +17,12 @@ use Rattle.mesh.specs.Sound.{Proper}
 use Rattle.axis.proofs.Tests.{either}
 use Rattle.files.specs.File.{TableEntry}
 use Rattle.files.specs.declared.listing.Text.{Text}
-use Rattle.files.specs.Inner.{no_entry, entries_in, text_from, Room, Writes}
+use Rattle.files.specs.Inner.{no_entry, entries_in, text_from, Puts, Room, Writes}
 use Rattle.files.specs.Listing.{digits, spaced, number_line, knots, value_line, line}
-use Rattle.files.proofs.Putting.{put_none}
+use Rattle.files.proofs.Putting.{put_none, put_length}
 use Rattle.files.proofs.Terms.{InHand, entries_length, entries_at, entries_rise}
 use Rattle.axis.proofs.Members.{placed, joined_append, joined_more}
-use Rattle.files.proofs.Texts.{text_next, text_then, one_digit, more_digits, outer_coordinate, inner_coordinate}
+use Rattle.files.proofs.Texts.{next_room, puts_then, one_digit, more_digits, outer_coordinate, inner_coordinate}
 
 -- a number that is less than ten times another has at most one digit more
 tenth : (k most : ℕ) → ((m : ℕ) → m < most → length (digits m) ≤ k) → (n : ℕ) → n < 10 * most → length (digits n) ≤ k + 1
@@ -93,28 +93,51 @@ module _ {A : Type 0} (entry : A → List ℕ) (xs : List A) where
   pub sized_done : {first i size : ℕ} → Sized first i size → length xs ≤ i → size ≡ first + length (joined entry xs)
   sized_done {first} {i} s le = rw (take_all i xs le) at s.is
 
-  module _ (before : Text) where
+  module _ (before : List ℕ) (at : ℕ) where
     -- the first i of them are put
-    pub record Rows (i : ℕ) (now : Text) : Type 0 where
-      pub are : Writes before (joined entry (take i xs)) now
+    pub record Rows (i : ℕ) (bytes : List ℕ) (next : ℕ) : Type 0 where
+      pub puts : Puts before at (joined entry (take i xs)) bytes next
 
-    pub rows_none : Rows 0 before
-    rows_none = record { are = record { puts = record { is = put_none before.out.now before.at; ends = omega arith }; same = refl } }
+    pub rows_none : Rows 0 before at
+    rows_none = record { puts = record { is = put_none before at; ends = omega arith } }
 
-    module _ (room : Room before (joined entry xs)) {i : ℕ} {now : Text} (s : Rows i now) (d : A) (lt : i < length xs) where
-      next_fits : Room before (joined entry (take i xs) ++ entry (get_or xs i d))
-      next_fits = rw (← joined_more entry xs i d lt) (omega (arith, part_long (i + 1)))
+    module _ (room : at + length (joined entry xs) ≤ length before) {i : ℕ} {bytes : List ℕ} {next : ℕ} (s : Rows i bytes next) where
+      pub rows_length : length bytes ≡ length before
+      rows_length = ap length s.puts.is ∙ put_length before at _ (omega (arith, part_long i))
 
-      pub rows_room : Room now (entry (get_or xs i d))
-      rows_room = text_next before (joined entry (take i xs)) (entry (get_or xs i d)) next_fits s.are
+      module _ (d : A) (lt : i < length xs) where
+        next_fits : at + length (joined entry (take i xs) ++ entry (get_or xs i d)) ≤ length before
+        next_fits = rw (← joined_more entry xs i d lt) (omega (arith, part_long (i + 1)))
 
-      pub rows_more : {after : Text} → Writes now (entry (get_or xs i d)) after → Rows (i + 1) after
-      rows_more p =
-          let both = text_then before (joined entry (take i xs)) (entry (get_or xs i d)) next_fits s.are p in
-          record { are = rw (joined_more entry xs i d lt) both }
+        pub rows_room : next + length (entry (get_or xs i d)) ≤ length bytes
+        rows_room = next_room before at (joined entry (take i xs)) (entry (get_or xs i d)) next_fits s.puts
 
-    pub rows_done : {i : ℕ} {now : Text} → Rows i now → length xs ≤ i → Writes before (joined entry xs) now
-    rows_done {i} s le = rw (take_all i xs le) at s.are
+        pub rows_more : {after : List ℕ} {end : ℕ} → Puts bytes next (entry (get_or xs i d)) after end → Rows (i + 1) after end
+        rows_more p =
+            let both = puts_then before at (joined entry (take i xs)) (entry (get_or xs i d)) next_fits s.puts p in
+            record { puts = rw (joined_more entry xs i d lt) both }
+
+    pub rows_done : {i : ℕ} {bytes : List ℕ} {next : ℕ} → Rows i bytes next → length xs ≤ i → Puts before at (joined entry xs) bytes next
+    rows_done {i} s le = rw (take_all i xs le) at s.puts
+
+  -- The same of texts that are put into lent bytes.
+  module _ (before : Text) where
+    pub record TextRows (i : ℕ) (now : Text) : Type 0 where
+      pub rows : Rows before.out.now before.at i now.out.now now.at
+      pub same : now.out.ghost_name ≡ before.out.ghost_name
+
+    pub text_rows_none : TextRows 0 before
+    text_rows_none = record { rows = rows_none before.out.now before.at; same = refl }
+
+    module _ (room : Room before (joined entry xs)) {i : ℕ} {now : Text} (s : TextRows i now) (d : A) (lt : i < length xs) where
+      pub text_rows_room : Room now (entry (get_or xs i d))
+      text_rows_room = rows_room before.out.now before.at room s.rows d lt
+
+      pub text_rows_more : {after : Text} → Writes now (entry (get_or xs i d)) after → TextRows (i + 1) after
+      text_rows_more p = record { rows = rows_more before.out.now before.at room s.rows d lt p.puts; same = p.same ∙ s.same }
+
+    pub text_rows_done : {i : ℕ} {now : Text} → TextRows i now → length xs ≤ i → Writes before (joined entry xs) now
+    text_rows_done s le = record { puts = rows_done before.out.now before.at s.rows le; same = s.same }
 
 -- a row of entries of at most some length
 row_most : {A : Type 0} (entry : A → List ℕ) (most : ℕ) (xs : List A) → ((x : A) → Memᴰ x xs → length (entry x) ≤ most) →

@@ -49,7 +49,10 @@ pub(crate) fn value_size(old: bool) -> usize
 pub fn write(map: &Map, buffer: &mut [u8]) -> Result<usize, Refusal>
     ensures { (written_as result ≡ written map.now buffer.old) × (buffer.new ≡ after map.now buffer.old) }
 {
-    write_opened(&Opened::open(map)?, buffer)
+    let Ok(opened) = Opened::open(map) else {
+        return Err(Refusal::BadRecord);
+    };
+    write_opened(&opened, buffer)
 }
 
 // The rest of `write`, after the record is opened.

@@ -1,10 +1,12 @@
 -- Opening a record: the tests of a good one, one by one, and what is then in hand.
 use Prim.Native.Nat.{ℕ, ◌-◌, ◌≤◌}
 use native.Mathlib.Omega.{arith}
-use mathlib.Core.Path.{◌≡◌, refl, sym, ap, ◌∙◌}
+use mathlib.Core.Path.{◌≡◌, refl, sym, ap, ap₂, ◌∙◌}
 use mathlib.Core.Logic.{⊎_elim}
 use mathlib.Core.Bool.{Bool, true, false, ◌&&◌}
 use mathlib.Core.List.{List, [], ◌∷◌}
+use borrow.Author.Tests.{leb-true, le-leb, eqb-true, eq-eqb}
+use lib.Dec.{leb, eqb}
 use lib.ListN.{length, take, drop, length-take}
 use Rattle.std.specs.Prelude.{Option, Some, None}
 use Rattle.std.specs.List.{list_all}
@@ -19,7 +21,7 @@ use Rattle.mesh.specs.Splits.{live_of}
 use Rattle.mesh.specs.Replay.{replays, replayed}
 use Rattle.mesh.proofs.BlendTables.{table_count}
 use Rattle.mesh.proofs.Accepted.{replays_says, replays_short}
-use Rattle.axis.proofs.Tests.{either, false_of, and_both, cond_true}
+use Rattle.axis.proofs.Tests.{either, same_test, false_of, and_both, cond_true}
 use Rattle.maps.specs.declared.Map.{Map}
 use Rattle.maps.specs.Plain.{blends}
 use Rattle.maps.specs.Record.{is_no_split, is_zero, is_mark, plain, good}
@@ -64,6 +66,13 @@ module _ (m : Map) where
   pub good_table : good m ≡ true → table_of m ≡ table (blends (plain m))
   unfolding table_of
   good_table e = cond_true _ _ _ e
+
+-- none above 0
+pub none_above : (xs : List ℕ) → all (λ k. leb k 0) xs ≡ all is_zero xs
+none_above [] = refl
+none_above (k ∷ xs) =
+    let low = same_test (leb k 0) (eqb k 0) (λ t. eq-eqb k 0 (omega (arith, leb-true k 0 t))) (λ t. le-leb k 0 (omega (arith, eqb-true k 0 t))) in
+    ap₂ ◌&&◌ low (none_above xs)
 
 -- what it says that lines were replayed, or not
 module _ (L : Lines) where

@@ -43,6 +43,13 @@ impl Map {
         }
         Ok(blank(w, h))
     }
+
+    // The fresh 1 by 1 map, which goes with a refusal of `fresh` and of reading a file: they are handed no map.
+    pub fn smallest() -> Map
+        ensures { result ≡ record_of (fresh_plain 1 1) }
+    {
+        blank(1, 1)
+    }
 }
 
 // A map without splits, all its values and marks zero.

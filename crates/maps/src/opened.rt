@@ -6,7 +6,8 @@ ghost use Rattle.std.specs.List.{list_all};
 ghost use Rattle.maps.specs.Calls.{fresh_map, set_value, table_place, reading, weights, split_within};
 ghost use Rattle.maps.specs.Pairs.{row_pairs, column_pairs};
 ghost use Rattle.maps.specs.Sameness.{sameness};
-ghost use Rattle.maps.specs.Record.{Held, is_no_split, is_zero};
+ghost use Rattle.maps.specs.Plain.{fresh_plain};
+ghost use Rattle.maps.specs.Record.{Held, is_no_split, is_zero, record_of};
 ghost use Rattle.maps.specs.Opened.{IsTable, opened};
 ghost use Rattle.maps.specs.Inner.{is_level, along_pairs};
 
@@ -79,6 +80,16 @@ impl Opened {
             map,
             table: Table::fresh(w, h),
         })
+    }
+
+    // `Map::smallest`, opened.
+    pub fn smallest() -> Opened
+        ensures { result.map ≡ record_of (fresh_plain 1 1) }
+    {
+        Opened {
+            map: Map::smallest(),
+            table: Table::fresh(1, 1),
+        }
     }
 
     // Whether the point (u, v) lies in the domain.

@@ -4,7 +4,7 @@ use mathlib.Core.Path.{◌≡◌, refl, ap, ◌∙◌}
 use mathlib.Core.Bool.{true}
 use native.Mathlib.Omega.{arith}
 use mathlib.Core.List.{List, [], ◌∷◌, ◌++◌, Memᴰ}
-use lib.ListN.{length, get_or, drop, replicate}
+use lib.ListN.{length, set, get_or, drop, replicate}
 use lib.Seq.{take-append_seam}
 use Rattle.std.proofs.lemmas.List.{drop-replicate}
 use mir.Val.{Val}
@@ -78,3 +78,9 @@ unfolding table
 listed bs front e =
     ap (λ (l : List Blend). record { count = length bs; blends = l ++ drop (length bs) (replicate most_blends none) }) e ∙
     ap (λ (l : List Blend). record { count = length bs; blends = bs ++ l }) (drop-replicate (length bs) most_blends none)
+
+-- four blends at the front of an empty table
+pub four_set : (bs : List Blend) (A B C D : Blend) → bs ≡ (table []).blends →
+    ◌≡◌ {A = Table} (record { count = 4; blends = set (set (set (set bs 0 A) 1 B) 2 C) 3 D }) (table (A ∷ B ∷ C ∷ D ∷ []))
+unfolding table
+four_set bs A B C D e = ap (λ (l : List Blend). record { count = 4; blends = set (set (set (set l 0 A) 1 B) 2 C) 3 D }) e

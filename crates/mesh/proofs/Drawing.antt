@@ -1,11 +1,11 @@
 -- What a store, a line and a split do to the steps of a mesh in bytes.
-use Prim.Native.Nat.{ℕ, ◌+◌, ◌-◌, ◌≤◌, ◌<◌}
+use Prim.Native.Nat.{ℕ, ◌+◌, ◌-◌, ◌≤◌, ◌<◌, max}
 use native.Mathlib.Omega.{arith}
 use mathlib.Core.Path.{◌≡◌, refl, sym, ap, ◌∙◌}
 use mathlib.Core.Logic.{⊎_elim}
 use mathlib.Core.Bool.{Bool, true, false, ◌&&◌, ◌||◌, or-false, or_assoc, and-true, and-false, and-or_distrib_right}
 use mathlib.Core.List.{List, [], ◌∷◌, ◌++◌}
-use borrow.Author.Tests.{ltb-true, leb-true, eqb-true, eqb-false, lt-ltb, le-leb, eq-eqb, ne_eqb}
+use borrow.Author.Tests.{ltb-true, leb-true, eqb-true, eqb-false, lt-ltb, le-ltb, le-leb, eq-eqb, ne_eqb}
 use lib.Dec.{eqb, ltb, leb, leb-zero}
 use lib.ListN.{length, get_or, set, take, drop, replicate, length-set, length-take, length-replicate, get_or-append}
 use lib.Seq.{get_or-take, get_or-append_right, get_or-set_same, get_or-set_other}
@@ -55,6 +55,19 @@ step_set bytes z k room hz hk y j =
         λ hy hj q. true_not_false _ (and_of _ _ (eq-eqb y z (omega arith)) (eq-eqb j k (omega arith))) e in
         step_same bytes (set bytes (at z k) 1) y j (λ hy hj. get_or-set_other bytes (at z k) (at y j) 1 0 (apart hy hj))
 
+-- a line from a knot to itself has no step
+pub drawn_none : (bytes : List ℕ) (z from : ℕ) → Drawn bytes bytes z from from
+drawn_none bytes z from =
+    record {
+      long = refl;
+      on = λ y j. sym (ap (λ (b : Bool). step_on bytes y j || b) (none y j) ∙ or-false (step_on bytes y j));
+    }
+  where
+    none : (y j : ℕ) → (eqb y z && leb from j && ltb j from) ≡ false
+    none y j =
+        guarded (eqb y z) (leb from j) (ltb j from) false (λ p q. le-ltb j from (leb-true from j q)) ∙
+        and-false (eqb y z && leb from j)
+
 -- a line drawn as far as knot k, and the step from k besides
 pub drawn_more : {before after : List ℕ} {z from k : ℕ} → Drawn before after z from k → from ≤ k → z < 131 → k < 131 → Rows (z + 1) before →
     Drawn before (set after (at z k) 1) z from (k + 1)
@@ -84,6 +97,22 @@ drawn_more {before} {after} {z} {from} {k} d hf hz hk room =
     spread true false c true f = sym (f refl)
     spread true false c false f = refl
     spread false b c e f = refl
+
+-- A line drawn as far as knot k is drawn as far as `to`, where k is the first knot from `from` on that is not below `to`.
+pub drawn_until : {before after : List ℕ} {z from k to : ℕ} → Drawn before after z from k → to ≤ k → k ≤ max from to →
+    Drawn before after z from to
+drawn_until {before} {after} {z} {from} {k} {to} d lo hi =
+    record {
+      long = d.long;
+      on = λ y j. d.on y j ∙ ap (λ (b : Bool). step_on before y j || b)
+          (guarded (eqb y z) (leb from j) (ltb j k) (ltb j to) (λ p q. below j (leb-true from j q)));
+    }
+  where
+    below : (j : ℕ) → from ≤ j → ltb j k ≡ ltb j to
+    below j le =
+        same_test _ _
+        (λ e. let lt = ltb-true j k e in lt-ltb j to (omega arith))
+        (λ e. let lt = ltb-true j to e in lt-ltb j k (omega arith))
 
 -- A list of which n entries from the a-th on were set: as it was below and past these.
 abbrev pub filled : List ℕ → ℕ → ℕ → ℕ → List ℕ

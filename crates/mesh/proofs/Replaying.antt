@@ -102,6 +102,15 @@ module _ (L : Lines) where
   unfolding replayed replays
   fails e = sym (cond_false _ _ _ e)
 
+  pub out_across : allowed_side L.w ≡ false → None ≡ replayed L
+  out_across e = fails (and_first _ _ (and_first _ _ (and_first _ _ e)))
+
+  pub out_up : allowed_side L.h ≡ false → None ≡ replayed L
+  out_up e = fails (and_first _ _ (and_first _ _ (and_last (allowed_side L.w) _ e)))
+
+  pub out_count : 60 < L.count → None ≡ replayed L
+  out_count lt = fails (and_first _ _ (and_last (allowed_side L.w && allowed_side L.h) _ (lt-leb L.count 60 lt)))
+
   pub replay_none : {n : ℕ} {t : Drawing n} → CarriedBy (layout L.w L.h []) t → Replaying L 0 t
   replay_none now = record { carried = now; decides = refl }
 
@@ -122,24 +131,25 @@ module _ {n : ℕ} {L : Lines} {i : ℕ} {t : Drawing n} (r : Replaying L i t) w
     turn = r.decides ∙ rw (drop-cons (splits_of L) i blank lt, add-one)
 
     -- a split is refused, or one more is taken
-    module _ (a : Result Split Refusal) (is : judged this a ≡ verdict before this 0) where
-      by_number : (judged this a).number ≡ exact_number before this
+    module _ {v : Verdict} (is : v ≡ verdict before this 0) where
+      by_number : v.number ≡ exact_number before this
       by_number = ap (λ (u : Verdict). u.number) is ∙ verdict_exact _ this r.carried.carried.taken
 
-      stops : (exact_number before this ≡ 0 → ⊥) → None ≡ replayed L
-      stops ne = fails L (and_last (allowed_side L.w && allowed_side L.h && leb L.count 60) _ (turn ∙ and_first _ _ (ne_eqb _ 0 ne)))
+      pub replay_stop : (v.number ≡ 0 → ⊥) → None ≡ replayed L
+      replay_stop ne =
+          fails L (and_last (allowed_side L.w && allowed_side L.h && leb L.count 60) _ (turn ∙ and_first _ _ (ne_eqb _ 0 (λ z. ne (by_number ∙ z)))))
 
-      goes_on : exact_number before this ≡ 0 → {u : Drawing n} → CarriedBy (with_line before this) u → Replaying L (i + 1) u
-      goes_on z next = record { carried = rw longer at next; decides = turn ∙ rw (eq-eqb _ 0 z, longer) }
+      goes_on : v.number ≡ 0 → {u : Drawing n} → CarriedBy (with_line before this) u → Replaying L (i + 1) u
+      goes_on z next = record { carried = rw longer at next; decides = turn ∙ rw (eq-eqb _ 0 (sym by_number ∙ z), longer) }
 
-    pub replay_stop : (a : Result Split Refusal) → judged this a ≡ verdict before this 0 → is_err a ≡ true → None ≡ replayed L
-    replay_stop (Ok line) is e = absurd (true_not_false _ e refl)
-    replay_stop (Err x) is e = stops (Err x) is (λ z. refusal_not_zero x (by_number (Err x) is ∙ z))
+    -- by the answer of a step
+    pub step_stops : (a : Result Split Refusal) → judged this a ≡ verdict before this 0 → is_err a ≡ true → None ≡ replayed L
+    step_stops (Ok line) is e = absurd (true_not_false _ e refl)
+    step_stops (Err x) is e = replay_stop is (refusal_not_zero x)
 
     pub replay_more : (a : Result Split Refusal) → judged this a ≡ verdict before this 0 → is_err a ≡ false → {u : Drawing n} →
         IfOk a (λ line. CarriedBy (with_line before line) u) → Replaying L (i + 1) u
-    replay_more (Ok line) is e next =
-        goes_on (Ok line) is (sym (by_number (Ok line) is)) (rw (verdict_line _ this r.carried.carried.taken is refl) at next)
+    replay_more (Ok line) is e next = goes_on is refl (rw (verdict_line _ this r.carried.carried.taken is refl) at next)
     replay_more (Err x) is e next = absurd (true_not_false _ refl e)
 
   pub replay_done : L.count ≤ 60 → i ≡ length (splits_of L) → Some (table (walk t.w t.h t.places)) ≡ replayed L

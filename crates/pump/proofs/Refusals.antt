@@ -1,11 +1,11 @@
 -- What a refusal leaves and what an accepted call gives.
-use Prim.Native.Nat.{ℕ}
+use Prim.Native.Nat.{ℕ, ◌≤◌}
 use native.Mathlib.Omega.{arith}
 use mathlib.Core.Path.{◌≡◌, sym, ap, ◌∙◌}
 use mathlib.Core.Logic.{⊎_elim}
-use mathlib.Core.Bool.{true, false}
-use borrow.Author.Tests.{leb-true, leb-false, le-leb}
-use lib.Dec.{leb}
+use mathlib.Core.Bool.{true, false, cond}
+use borrow.Author.Tests.{leb-true, leb-false, le-leb, ltb-false}
+use lib.Dec.{leb, ltb}
 use Rattle.std.specs.Prelude.{Result, Err}
 use Rattle.axis.proofs.Tests.{either}
 use Rattle.mesh.specs.declared.refusal.Refusal.{Refusal}
@@ -31,6 +31,10 @@ pub refused : {A B : Type 0} {r : Result A Refusal} {e : Refusal} → r ≡ Err 
     (number_in r ≡ n) × (x ≡ if_refused n x y)
 refused {e = e} is n x y = (ap number_in is ∙ n, stays x y n (refuses e))
 
+-- a number that refuses does so twice
+pub twice : {A : Type 0} (n : ℕ) (x y z : A) → if_refused n x (if_refused n y z) ≡ if_refused n x z
+twice n x y z = ⊎_elim (λ (t : leb 1 n ≡ true). rw t) (λ (f : leb 1 n ≡ false). rw f) (either (leb 1 n))
+
 -- none of three checks refuses where the first refusal is 0
 pub none_refuses : (a b c : ℕ) → first_of a b c ≡ 0 → (a ≡ 0) × (b ≡ 0) × (c ≡ 0)
 none_refuses a b c e =
@@ -54,3 +58,10 @@ module _ (a b c : ℕ) {n : ℕ} (is : n ≡ first_of a b 0) where
 
   pub third_tells : n ≡ 0 → c ≡ first_of a b c
   third_tells z = let none = none_refuses a b 0 (sym is ∙ z) in rw (none.0, none.1)
+
+-- lent bytes are enough where the third check, of their number, does not refuse
+pub enough : (a b c lent size : ℕ) → c ≡ cond (ltb lent size) 12 0 → first_of a b c ≡ 0 → size ≤ lent
+enough a b c lent size is e =
+    ⊎_elim
+    (λ (t : ltb lent size ≡ true). let z : ◌≡◌ {A = ℕ} 12 0 = sym (rw t at is) ∙ (none_refuses a b c e).2 in absurd (omega (arith, z)))
+    (λ (f : ltb lent size ≡ false). ltb-false _ _ f) (either (ltb lent size))

@@ -2,7 +2,7 @@
 use Rattle.std.proofs.Common.{◌≡◌, sym, length, rules, arith}
 use Rattle.mesh.specs.Lines.{splits_of}
 use Rattle.mesh.proofs.Carrying.{by_walks, by_short}
-use Rattle.mesh.proofs.Replaying.{replay_none, replay_stop, replay_more, replay_done}
+use Rattle.mesh.proofs.Replaying.{replay_none, step_stops, replay_more, replay_done}
 use Rattle.mesh.proofs.replay.replay_in.Goals as goal
 
 pub clear-drawing-requires : goal.clear-drawing-requires
@@ -21,7 +21,7 @@ step-requires g c = (search rules, (omega arith, (_, c.loop-s.invariant.carried)
 pub returns-then-is_err : goal.returns-then-is_err
 returns-then-is_err g c =
     let r = c.loop-s.invariant in
-    replay_stop r c.loop-s-test.true c.step.result (c.step.ensures.told _ r.carried) (sym c.if-is_err.ensures.value)
+    step_stops r c.loop-s-test.true c.step.result (c.step.ensures.told _ r.carried) (sym c.if-is_err.ensures.value)
 
 pub loop-s-preserved : goal.loop-s-preserved
 loop-s-preserved g c =

@@ -1,7 +1,9 @@
 -- `pump::questions::place_in` meets its contract: a refusal, or the entry's numbers put in front.
-use Rattle.std.proofs.Common.{rules, refl, ap, ◌∙◌}
+use Rattle.std.proofs.Common.{arith, rules, refl, ap, ◌∙◌, ◌≡◌, ◌<◌, List, ℕ, length}
 use borrow.Author.Tests.{lt-ltb, le-ltb}
 use Rattle.maps.specs.Outcomes.{Placed}
+use Rattle.maps.specs.Calls.{table_place}
+use Rattle.files.specs.Calls.{read_file}
 use Rattle.files.proofs.Putting.{words_fit}
 use Rattle.pump.specs.Border.{place_number, place_after}
 use Rattle.pump.proofs.Refusals.{refused, refuses_at}
@@ -19,10 +21,14 @@ returns-in_err-entry c =
     rw (← c.in_ok-read_opened.ensures)
     (refused {e = c.in_err-entry.field-0.0} (search rules) (refuses_at _ (ap (λ (p : Placed). p.number) c.in_err-entry.ensures) _) _ _)
 
-pub returns-then-out-lt16 : goal.returns-then-out-lt16
+-- bytes for an answer that are too few count where the file and the place are not refused
+too_few : (file : List ℕ) (i : ℕ) (out : List ℕ) → (read_file file).number ≡ 0 → (table_place (read_file file).map i).number ≡ 0 →
+    length out < 16 → (12 ≡ place_number file i out) × (out ≡ place_after file i out)
 unfolding place_number place_after
-returns-then-out-lt16 c =
-    rw (← c.in_ok-read_opened.ensures) (rw (← c.in_ok-entry.ensures, lt-ltb _ _ c.if-out-lt16.true) (refl, refl))
+too_few file i out read found lt = rw (read, found, lt-ltb _ _ lt) (refl, refl)
+
+pub returns-then-out-lt16 : goal.returns-then-out-lt16
+returns-then-out-lt16 c = too_few _ _ _ (grind arith) (grind arith) (grind arith)
 
 pub returns : goal.returns
 unfolding place_number place_after

@@ -6,7 +6,7 @@ use Rattle.files.specs.Listing.{number_line, line}
 use Rattle.files.proofs.Terms.{entries_length}
 use Rattle.files.proofs.Filing.{opened_ready}
 use Rattle.files.proofs.Texts.{text_first, text_next, text_then}
-use Rattle.files.proofs.TableLines.{rows_none, rows_room, rows_more, rows_done}
+use Rattle.files.proofs.TableLines.{text_rows_none, text_rows_room, text_rows_more, text_rows_done}
 use Rattle.files.proofs.listing.Text.table.Goals.{Start, After-number_line}
 use Rattle.files.proofs.listing.Text.table.Goals as goal
 
@@ -25,20 +25,20 @@ number_line-requires c =
     text_first c.args.self.now (number_line c.args.o.now.table.count) (lines (goal.at.number_line-requires c).Start) c.requires
 
 pub loop-i-init : goal.loop-i-init
-loop-i-init c = rows_none line (entries c.args.o.now) _
+loop-i-init c = text_rows_none line (entries c.args.o.now) _
 
 pub line-requires : goal.line-requires
 line-requires c =
     let p = goal.at.line-requires c in
-    rw c.at.ensures (rows_room line _ _ (room p.After-number_line) c.loop-i.invariant no_entry (rw (counted p.Start) c.loop-i-test.true))
+    rw c.at.ensures (text_rows_room line _ _ (room p.After-number_line) c.loop-i.invariant no_entry (rw (counted p.Start) c.loop-i-test.true))
 
 pub loop-i-preserved : goal.loop-i-preserved
 loop-i-preserved c =
     let p = goal.at.loop-i-preserved c in
-    rows_more line _ _ (room p.After-number_line) c.loop-i.invariant no_entry (rw (counted p.Start) c.loop-i-test.true) (rw c.at.ensures at c.line.ensures)
+    text_rows_more line _ _ (room p.After-number_line) c.loop-i.invariant no_entry (rw (counted p.Start) c.loop-i-test.true) (rw c.at.ensures at c.line.ensures)
 
 pub returns : goal.returns
 returns c =
     let s = (goal.at.returns c).Start in
     text_then c.args.self.now (number_line c.args.o.now.table.count) (lines s) c.requires c.number_line.ensures
-    (rows_done line _ _ c.loop-i.invariant (omega (arith, counted s)))
+    (text_rows_done line _ _ c.loop-i.invariant (omega (arith, counted s)))
