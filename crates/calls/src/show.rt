@@ -6,6 +6,9 @@ use std::io;
 use std::io::Print;
 use std::rt::Stdout;
 
+// So many bytes of a text are put at once.
+const PART: usize = 256;
+
 // What waits for standard output, the first `at` bytes; and the last write that failed. It allocates nothing, so it is an array and a count.
 #[derive(Drop)]
 pub struct Out {
@@ -14,8 +17,6 @@ pub struct Out {
     at: usize,
     failed: io::Result<()>,
 }
-
-const PART: usize = 256;
 
 impl Out {
     pub fn new(to: Stdout) -> Out {
