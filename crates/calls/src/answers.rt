@@ -103,7 +103,7 @@ fn file(map: &Opened, out: &mut Out) {
 
 // Answers one line; the map is then that for the next.
 pub(crate) fn answer(map: &mut Opened, line: &[u8], out: &mut Out) {
-    out.text(line);
+    out.echo(line);
     match Call::parse(line) {
         Some(Call::History(w, h)) => history(map, w, h, out),
         Some(Call::Set(m, n, value)) => out.told(&map.set(m, n, value)),
@@ -121,6 +121,6 @@ pub(crate) fn answer(map: &mut Opened, line: &[u8], out: &mut Out) {
 
 // Answers the end of a line whose start was too long to keep: no call is that long.
 pub(crate) fn answer_rest(rest: &[u8], out: &mut Out) {
-    out.text(rest);
+    out.echo(rest);
     no_call(out);
 }

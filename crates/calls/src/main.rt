@@ -56,7 +56,7 @@ impl State {
         ensures { self.new.held ≤ length input.now }
     {
         if input.len() <= self.held {
-            out.text(input);
+            out.echo(input);
             self.held = 0;
             self.long = true;
         }

@@ -6,7 +6,7 @@ use std::io;
 use std::io::Print;
 use std::rt::Stdout;
 
-// So many bytes of a text are put at once.
+// So many bytes of a line are put at once.
 const PART: usize = 256;
 
 // What waits for standard output, the first `at` bytes; and the last write that failed. It allocates nothing, so it is an array and a count.
@@ -59,20 +59,22 @@ impl Out {
         }
     }
 
-    // Parts that fit are put whole; one that fills the memory goes byte by byte, so that each write brings it all.
     pub fn text(&mut self, bytes: &[u8]) {
-        for part in bytes.chunks(PART) {
+        for x in bytes {
+            self.byte(*x);
+        }
+    }
+
+    // Shows a line again, which may be long: parts that fit are put whole, and one that fills the memory byte by byte, so that each write brings all of it.
+    pub fn echo(&mut self, line: &[u8]) {
+        for part in line.chunks(PART) {
             let end = self.at.saturating_add(part.len());
             match self.bytes.get_mut(self.at..end) {
                 Some(room) => {
                     room.copy_from_slice(part);
                     self.at = end;
                 }
-                None => {
-                    for x in part {
-                        self.byte(*x);
-                    }
-                }
+                None => self.text(part),
             }
         }
     }
