@@ -65,7 +65,7 @@ impl Out {
         }
     }
 
-    // Shows a line again, which may be long: parts that fit are put whole, and one that fills the memory byte by byte, so that each write brings all of it.
+    // Shows a line again, which may be long: parts that fit are put whole, and one that no longer fits byte by byte, so that each write brings all of it.
     pub fn echo(&mut self, line: &[u8]) {
         for part in line.chunks(PART) {
             let end = self.at.saturating_add(part.len());
